@@ -1,0 +1,24 @@
+-- No second answer: one law for each way in which the contracts are put. Every public call's own theorem cites one of them.
+-- Assumes nothing.
+use mathlib.Core.Path.{_≡_, refl, sym, ap, _∙_}
+use Rattle.error.specs.Only.{Determined}
+
+-- the contract is an equation of the answer itself
+pub by-value {ℓ} : {A : Type ℓ} (a : A) → Determined (λ (r : A). r ≡ a)
+by-value a = record { answer = a; holds = refl; only = λ r e. e }
+
+-- the contract is an equation of what the answer says, by a map that has an inverse
+pub by-view {ℓ κ} : {A : Type ℓ} {S : Type κ} (view : A → S) (back : S → A) → ((a : A) → back (view a) ≡ a) →
+    (a : A) (v : S) → view a ≡ v → Determined (λ (r : A). view r ≡ v)
+by-view view back inverse a v e =
+    record { answer = a; holds = e; only = λ r q. sym (inverse r) ∙ ap back (q ∙ sym e) ∙ inverse a }
+
+-- the contract is one of the result beside one of a buffer at exit
+pub by-both {ℓ κ ℓ′ κ′} : {A : Type ℓ} {B : Type κ} {C : A → Type ℓ′} {D : B → Type κ′} → Determined C → Determined D →
+    Determined (λ (r : A × B). C (r .0) × D (r .1))
+by-both c d =
+    record {
+      answer = (c .answer, d .answer);
+      holds = (c .holds, d .holds);
+      only = λ r q i. (c .only (r .0) (q .0) i, d .only (r .1) (q .1) i);
+    }

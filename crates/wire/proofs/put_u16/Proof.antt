@@ -1,0 +1,32 @@
+-- Two stores, one behind the other, are a part of two places.
+use mathlib.Core.Path.{ap, _∙_}
+use mathlib.Core.List.{List, [], _∷_}
+use Prim.Native.Nat.{ℕ, _+_, _/_, _%_}
+use native.Mathlib.Omega.{arith}
+use lib.ListN.{set, length-set}
+use borrow.Author.Needs.{needs}
+use Rattle.wire.specs.Net.{be16}
+use Rattle.wire.proofs.Part.{splice-one, splice-push}
+use Rattle.wire.proofs.put_u16.Statement.{statement}
+use Rattle.wire.proofs.put_u16.Tie as tie
+
+returns : tie.Need-returns
+unfolding be16
+returns c =
+    let s = c .args .s .now in
+    let at = c .args .at in
+    let n = c .args .n in
+    ap (λ (l : List ℕ). set l (at + 1) (n % 256)) (splice-one s at (n / 256 % 256) (search needs))
+    ∙ splice-push s at (n / 256 % 256 ∷ []) (n % 256) (search needs)
+
+pub put-u16-spec : {M : Type 1} → statement M
+put-u16-spec =
+    tie.close
+    (tie.spec
+    (λ c. search needs)
+    (λ c. search needs)
+    (λ c. search needs)
+    (λ c. search needs)
+    (λ c. simp length-set (omega arith))
+    (λ c. simp length-set)
+    returns)

@@ -1,0 +1,4 @@
+pub mod Net
+pub mod Part
+pub mod Packets
+pub mod Turns

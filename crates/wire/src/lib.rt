@@ -1,0 +1,80 @@
+// Bytes at a place of a lent slice: numbers in network order, copies and fills.
+//
+// Only proved code calls this crate, so its functions may ask that the place is there.
+ghost use mathlib.Core.Path.{_≡_};
+ghost use Prim.Native.Nat.{_+_, _<_, _≤_};
+ghost use lib.ListN.{length, replicate};
+ghost use Rattle.wire.specs.Net.{u16At, u32At, be16, be32};
+ghost use Rattle.wire.specs.Part.{splice};
+
+// A byte, as wide as the number it is a part of.
+fn wide16(b: u8) -> u16
+    ensures { λ r. ⌜ (r ≡ b) × (r < 256) ⌝ }
+{
+    b as u16
+}
+
+fn wide32(b: u8) -> u32
+    ensures { λ r. ⌜ (r ≡ b) × (r < 256) ⌝ }
+{
+    b as u32
+}
+
+pub fn get_u16(s: &[u8], at: usize) -> u16
+    requires { ⌜ at + 2 ≤ length (now s) ⌝ }
+    ensures { λ r. ⌜ r ≡ u16At (now (s .entry)) at ⌝ }
+{
+    wide16(s[at]) * 256 + wide16(s[at + 1])
+}
+
+pub fn get_u32(s: &[u8], at: usize) -> u32
+    requires { ⌜ at + 4 ≤ length (now s) ⌝ }
+    ensures { λ r. ⌜ r ≡ u32At (now (s .entry)) at ⌝ }
+{
+    wide32(s[at]) * 16777216
+        + wide32(s[at + 1]) * 65536
+        + wide32(s[at + 2]) * 256
+        + wide32(s[at + 3])
+}
+
+pub fn put_u16(s: &mut [u8], at: usize, n: u16)
+    requires { ⌜ at + 2 ≤ length (now s) ⌝ }
+    ensures { λ _. ⌜ now (s .exit) ≡ splice (now (s .entry)) at (be16 n) ⌝ }
+{
+    s[at] = (n / 256 % 256) as u8;
+    s[at + 1] = (n % 256) as u8;
+}
+
+pub fn put_u32(s: &mut [u8], at: usize, n: u32)
+    requires { ⌜ at + 4 ≤ length (now s) ⌝ }
+    ensures { λ _. ⌜ now (s .exit) ≡ splice (now (s .entry)) at (be32 n) ⌝ }
+{
+    s[at] = (n / 256 / 256 / 256 % 256) as u8;
+    s[at + 1] = (n / 256 / 256 % 256) as u8;
+    s[at + 2] = (n / 256 % 256) as u8;
+    s[at + 3] = (n % 256) as u8;
+}
+
+// Copies all of src to the places of dst from at on.
+pub fn copy_at(src: &[u8], dst: &mut [u8], at: usize)
+    requires { ⌜ at + length (now src) ≤ length (now dst) ⌝ }
+    ensures { λ _. ⌜ now (dst .exit) ≡ splice (now (dst .entry)) at (now (src .entry)) ⌝ }
+{
+    let mut i = 0;
+    while i < src.len() {
+        dst[at + i] = src[i];
+        i += 1;
+    }
+}
+
+// Sets the len places of dst from at on to b.
+pub fn fill_at(dst: &mut [u8], at: usize, len: usize, b: u8)
+    requires { ⌜ at + len ≤ length (now dst) ⌝ }
+    ensures { λ _. ⌜ now (dst .exit) ≡ splice (now (dst .entry)) at (replicate len b) ⌝ }
+{
+    let mut i = 0;
+    while i < len {
+        dst[at + i] = b;
+        i += 1;
+    }
+}

@@ -1,0 +1,61 @@
+//! Prints lists of questions with the oracle's answers, the same on every run.
+
+mod h264;
+mod header;
+mod list;
+mod packet;
+mod random;
+mod reading;
+mod records;
+mod vectors;
+mod vp8;
+
+use std::process::ExitCode;
+
+use list::List;
+use random::Random;
+
+fn main() -> ExitCode {
+    let arguments: Vec<String> = std::env::args().skip(1).collect();
+    let Some((rows, seed, counts)) = read(&arguments) else {
+        eprintln!("usage: lists header|packet|h264|vp8 [--seed N] [--counts]");
+        return ExitCode::from(2);
+    };
+    // Refusals 3 and 18 are panics of the Rust; one of the lists' own is news.
+    std::panic::set_hook(Box::new(|panic| {
+        if panic.location().is_some_and(|place| place.file().contains("lists")) {
+            eprintln!("{panic}");
+        }
+    }));
+    let mut list = List::new(Random::new(seed));
+    rows(&mut list);
+    if counts {
+        list.print_counts();
+    } else {
+        list.print();
+    }
+    ExitCode::SUCCESS
+}
+
+type Rows = fn(&mut List);
+
+fn read(arguments: &[String]) -> Option<(Rows, u64, bool)> {
+    let (name, options) = arguments.split_first()?;
+    let rows = match name.as_str() {
+        "header" => header::rows,
+        "packet" => packet::rows,
+        "h264" => h264::rows,
+        "vp8" => vp8::rows,
+        _ => return None,
+    };
+    let (mut seed, mut counts) = (1, false);
+    let mut options = options.iter();
+    while let Some(option) = options.next() {
+        match option.as_str() {
+            "--seed" => seed = options.next()?.parse().ok()?,
+            "--counts" => counts = true,
+            _ => return None,
+        }
+    }
+    Some((rows, seed, counts))
+}
