@@ -1,0 +1,352 @@
+-- "that no second answer satisfies it is proved": each public call's contract is met by one answer, and by no other. For the writer an
+-- answer is the result with the buffer as it is left. Assumes nothing.
+use mathlib.Core.Path.{_≡_, refl, sym, ap, _∙_}
+use mathlib.Core.Bool.{Bool, true, false, cond, _&&_}
+use mathlib.Core.List.{List, [], map}
+use Prim.Native.Nat.{ℕ, zero, suc, _+_, _*_, _/_, _%_}
+use lib.Dec.{ltb, leb, eqb}
+use lib.ListN.{length, take, drop, getD}
+use Rattle.error.specs.Refusal.{Refusal, refusalOf}
+use Rattle.error.specs.Said.{Said, says, refused, refuse}
+use Rattle.error.specs.Only.{Determined}
+use Rattle.error.proofs.Inverse.{errorOf, errorOf-refusalOf}
+use Rattle.error.proofs.Only.{by-value, by-view}
+use Rattle.wire.specs.Net.{u16At}
+use Rattle.wire.specs.Part.{padTo}
+use Rattle.wire.specs.Turns.{Turn, more, done, after, run}
+use Rattle.header.specs.declared.Header.{Header}
+use Rattle.header.specs.declared.HeaderRead.{HeaderRead}
+use Rattle.header.specs.declared.HeaderRead.the-variants as read
+use Rattle.header.specs.declared.Unmarshalled.{Unmarshalled}
+use Rattle.header.specs.declared.Length.{Length}
+use Rattle.header.specs.declared.Length.the-variants as len
+use Rattle.header.specs.declared.Change.{Change}
+use Rattle.header.specs.declared.Change.the-variants as change
+use Rattle.header.specs.declared.Changed.{Changed}
+use Rattle.header.specs.declared.Got.{Got}
+use Rattle.header.specs.declared.Got.the-variants as got
+use Rattle.header.specs.declared.IdCount.{IdCount}
+use Rattle.header.specs.declared.IdCount.the-variants as ids
+use Rattle.header.specs.declared.Ids.{Ids}
+use Rattle.header.specs.Fields.{Element, dataOf, roomFor, fieldsOf, blank, inDomain}
+use Rattle.header.specs.Read.{Item, pad, stop, past, element, Block, skip, padded, with-element, taken, turn, itemsBy, items, wholeBlock, Form, one-byte, two-byte, other, formOf, readBlock, Reading, bit, countOf, fixedLength, readingOf, blockAt, readExtension, readFixed, readHeader}
+use Rattle.header.specs.Size.{payloadLength, headerSize, lengthAsked, sizeAsked}
+use Rattle.header.specs.Write.{octetsOf, inWritingDomain, judged, writeHeader}
+use Rattle.header.specs.Extension as extension
+use Rattle.header.specs.Extension.{Found, absent, find, replace, append, limited, idRefusal, setFound, setLater, setFirst, setExtension, delFound, delExtension, getExtension, getExtensionIds}
+use Rattle.header.specs.Said.{saidRead, Heard, heard, readingHeard, saidLength, Written, heardWritten, written, saidChange, After, heardChange, changeHeard, saidGot, saidCount, Listed, heardIds, idsHeard}
+
+-- ---- what an answer can say
+
+-- a refusal as `Error` has it
+abbrev pub spoken : {A : Type 0} → Said A → Said A
+spoken (says x) = says x
+spoken (refused r) = refused (refusalOf (errorOf r))
+
+-- some answer says this: its refusal, if it is one, is one of `Error`
+abbrev pub Sayable : {A : Type 0} → Said A → Type 0
+Sayable x = spoken x ≡ x
+
+pub either : {A : Type 0} {x y : Said A} (b : Bool) → Sayable x → Sayable y → Sayable (cond b x y)
+either true p q = p
+either false p q = q
+
+pub known : {A : Type 0} {r : Refusal} → Sayable {A = A} (refused r) → refusalOf (errorOf r) ≡ r
+known e = cc
+
+-- a refusal that is passed on
+pub passed : {A B : Type 0} {r : Refusal} → Sayable {A = A} (refused r) → Sayable {A = B} (refused r)
+passed {A} {B} {r} e = ap refused (known {A = A} {r = r} e)
+
+-- ---- lengths
+
+abbrev pub lengthOf : Said ℕ → Length
+lengthOf (says n) = len.Bytes n
+lengthOf (refused r) = len.Refused (errorOf r)
+
+lengthOf-said : (a : Length) → lengthOf (saidLength a) ≡ a
+lengthOf-said (len.Bytes n) = refl
+lengthOf-said (len.Refused e) = ap len.Refused (errorOf-refusalOf e)
+
+said-lengthOf : (x : Said ℕ) → saidLength (lengthOf x) ≡ spoken x
+said-lengthOf (says n) = refl
+said-lengthOf (refused r) = refl
+
+pub length-only : (x : Said ℕ) → Sayable x → Determined (λ (r : Length). saidLength r ≡ x)
+length-only x s = by-view saidLength lengthOf lengthOf-said (lengthOf x) x (said-lengthOf x ∙ s)
+
+pub get-extension-payload-len-only : (h : Header) → Determined (λ (r : Length). saidLength r ≡ lengthAsked h)
+unfolding lengthAsked
+get-extension-payload-len-only h =
+    length-only (lengthAsked h)
+    (either {x = says (payloadLength (fieldsOf h))} {y = refuse 8} (inDomain h) refl refl)
+
+pub marshal-size-only : (h : Header) → Determined (λ (r : Length). saidLength r ≡ sizeAsked h)
+unfolding sizeAsked
+marshal-size-only h =
+    length-only (sizeAsked h)
+    (either {x = says (headerSize (fieldsOf h))} {y = refuse 8} (inDomain h) refl refl)
+
+-- ---- writing
+
+-- the result beside the buffer as it is left
+abbrev pub Left : Type 0
+Left = Length × List ℕ
+
+abbrev pub heardLeft : Left → Written
+heardLeft a = heardWritten (a .0) (a .1)
+
+abbrev pub leftOf : Written → Left
+leftOf w = (lengthOf (w .answer), w .buffer)
+
+leftOf-heard : (a : Left) → leftOf (heardLeft a) ≡ a
+leftOf-heard a = ap (λ (r : Length). (r, a .1)) (lengthOf-said (a .0))
+
+heard-leftOf : (buf : List ℕ) (x : Said (List ℕ)) → Sayable x → heardLeft (leftOf (written buf x)) ≡ written buf x
+heard-leftOf buf (says octets) s = refl
+heard-leftOf buf (refused r) s = ap (λ (k : Refusal). record { answer = refused k; buffer = buf }) (known {A = List ℕ} {r = r} s)
+
+pub written-only : (buf : List ℕ) (x : Said (List ℕ)) → Sayable x → Determined (λ (a : Left). heardLeft a ≡ written buf x)
+written-only buf x s = by-view heardLeft leftOf leftOf-heard (leftOf (written buf x)) (written buf x) (heard-leftOf buf x s)
+
+pub judged-sayable : {A : Type 0} (on : Bool) (form : Form) (len count : ℕ) (x : A) →
+    Sayable (cond on (judged form len count (says x)) (says x))
+judged-sayable true one-byte len count x = refl
+judged-sayable true two-byte len count x = refl
+judged-sayable true other len count x =
+    either {x = cond (eqb count 1) (says x) (refuse 10)} {y = refuse 9} (eqb (len % 4) 0)
+    (either {x = says x} {y = refuse 10} (eqb count 1) refl refl) refl
+judged-sayable false form len count x = refl
+
+write-sayable : (h : Header) (room : ℕ) → Sayable (writeHeader h room)
+unfolding writeHeader
+write-sayable h room =
+    let form : Form = formOf (h .«extension_profile») in
+    let n : ℕ = payloadLength (fieldsOf h) in
+    let count : ℕ = length (fieldsOf h .elements) in
+    let octets : List ℕ = octetsOf (fieldsOf h) in
+    let asked : Said (List ℕ) = cond (h .extension) (judged form n count (says octets)) (says octets) in
+    either {x = cond (ltb room (headerSize (fieldsOf h))) (refuse 5) asked} {y = refuse 8} (inWritingDomain h)
+    (either {x = refuse 5} {y = asked} (ltb room (headerSize (fieldsOf h))) refl (judged-sayable (h .extension) form n count octets))
+    refl
+
+pub marshal-to-only : (h : Header) (buf : List ℕ) → Determined (λ (a : Left). heardLeft a ≡ written buf (writeHeader h (length buf)))
+marshal-to-only h buf = written-only buf (writeHeader h (length buf)) (write-sayable h (length buf))
+
+pub is-writable-only : (h : Header) → Determined (λ (r : Bool). r ≡ inWritingDomain h)
+is-writable-only h = by-value (inWritingDomain h)
+
+-- ---- reading
+
+-- a turn goes on, or ends in what can be said
+abbrev Settled : Turn Block (Said Block) → Type 0
+Settled (more b) = Unit
+Settled (done x) = Sayable x
+
+settled-either : (x y : Turn Block (Said Block)) (b : Bool) → Settled x → Settled y → Settled (cond b x y)
+settled-either x y true p q = p
+settled-either x y false p q = q
+
+settled-taken : (b : Block) (i : Item) → Settled (taken b i)
+unfolding taken
+settled-taken b pad = tt
+settled-taken b stop = refl
+settled-taken b past = refl
+settled-taken b (element head id len) =
+    settled-either (more (with-element (record { id = id; bytes = take len (drop head (b .rest)) }) (skip (head + len) b)))
+    (done (refuse 7)) (roomFor (b .elements) len) tt refl
+
+settled-turn : (item : List ℕ → Item) (b : Block) → Settled (turn item b)
+unfolding turn
+settled-turn item b =
+    settled-either (done (says b)) (taken b (item (b .rest))) (eqb (b .left) 0) refl (settled-taken b (item (b .rest)))
+
+settled-after : (t : Turn Block (Said Block)) (go : Block → Said Block) → Settled t → ((b : Block) → Sayable (go b)) → Sayable (after t go)
+settled-after (more b) go s h = h b
+settled-after (done x) go s h = s
+
+run-sayable : (item : List ℕ → Item) (fuel : ℕ) (b : Block) → Sayable (run (turn item) (refuse 3) fuel b)
+unfolding run
+run-sayable item zero b = refl
+run-sayable item (suc fuel) b =
+    settled-after (turn item b) (run (turn item) (refuse 3) fuel) (settled-turn item b) (λ c. run-sayable item fuel c)
+
+block-sayable : (form : Form) (b : Block) → Sayable (readBlock form b)
+unfolding wholeBlock
+block-sayable one-byte b = run-sayable (itemsBy false) (b .left + 1) b
+block-sayable two-byte b = run-sayable (itemsBy true) (b .left + 1) b
+block-sayable other b =
+    either {x = says (with-element (record { id = 0; bytes = take (b .left) (b .rest) }) (skip (b .left) b))} {y = refuse 7}
+    (roomFor (b .elements) (b .left)) refl refl
+
+reading-sayable : (s : List ℕ) (cc profile : ℕ) (x : Said Block) → Sayable x → Sayable (readingOf s cc profile x)
+reading-sayable s cc profile (says b) e = refl
+reading-sayable s cc profile (refused r) e = passed {A = Block} {r = r} e
+
+extension-sayable : (s : List ℕ) (cc at : ℕ) → Sayable (readExtension s cc at)
+unfolding readExtension
+extension-sayable s cc at =
+    let block : Said Block = readBlock (formOf (u16At s at)) (blockAt s (at + 4) (4 * u16At s (at + 2))) in
+    let rest : Said Reading = readingOf s cc (u16At s at) block in
+    either {x = refuse 2} {y = cond (ltb (length s) (at + 4 + 4 * u16At s (at + 2))) (refuse 2) rest} (ltb (length s) (at + 4)) refl
+    (either {x = refuse 2} {y = rest} (ltb (length s) (at + 4 + 4 * u16At s (at + 2))) refl
+    (reading-sayable s cc (u16At s at) block (block-sayable (formOf (u16At s at)) (blockAt s (at + 4) (4 * u16At s (at + 2))))))
+
+fixed-sayable : (s : List ℕ) (cc : ℕ) → Sayable (readFixed s cc)
+unfolding readFixed
+fixed-sayable s cc =
+    let plain : Said Reading = readingOf s cc 0 (says (blockAt s (fixedLength cc) 0)) in
+    let extended : Said Reading = readExtension s cc (fixedLength cc) in
+    either {x = refuse 1} {y = cond (bit (getD s 0 0 / 16)) extended plain} (ltb (length s) (fixedLength cc)) refl
+    (either {x = extended} {y = plain} (bit (getD s 0 0 / 16)) (extension-sayable s cc (fixedLength cc)) refl)
+
+pub read-sayable : (s : List ℕ) → Sayable (readHeader s)
+unfolding readHeader
+read-sayable s =
+    let fixed : Said Reading = readFixed s (countOf s) in
+    either {x = refuse 8} {y = cond (ltb (length s) 4) (refuse 1) fixed} (ltb 65535 (length s)) refl
+    (either {x = refuse 1} {y = fixed} (ltb (length s) 4) refl (fixed-sayable s (countOf s)))
+
+abbrev readOf : Said ℕ → HeaderRead
+readOf (says place) = read.Payload place
+readOf (refused r) = read.Refused (errorOf r)
+
+readOf-said : (a : HeaderRead) → readOf (saidRead a) ≡ a
+readOf-said (read.Payload place) = refl
+readOf-said (read.Refused e) = ap read.Refused (errorOf-refusalOf e)
+
+abbrev unmarshalledOf : Heard → Unmarshalled
+unmarshalledOf h = record { read = readOf (h .answer); header = h .header }
+
+unmarshalledOf-heard : (a : Unmarshalled) → unmarshalledOf (heard a) ≡ a
+unmarshalledOf-heard a = ap (λ (r : HeaderRead). record { read = r; header = a .header }) (readOf-said (a .read))
+
+heard-unmarshalledOf : (x : Said Reading) → Sayable x → heard (unmarshalledOf (readingHeard x)) ≡ readingHeard x
+heard-unmarshalledOf (says r) s = refl
+heard-unmarshalledOf (refused r) s = ap (λ (k : Refusal). record { answer = refused k; header = blank }) (known {A = Reading} {r = r} s)
+
+pub unmarshal-only : (s : List ℕ) → Determined (λ (r : Unmarshalled). heard r ≡ readingHeard (readHeader s))
+unmarshal-only s =
+    by-view heard unmarshalledOf unmarshalledOf-heard (unmarshalledOf (readingHeard (readHeader s))) (readingHeard (readHeader s))
+    (heard-unmarshalledOf (readHeader s) (read-sayable s))
+
+pub default-only : Determined (λ (r : Header). r ≡ blank)
+default-only = by-value blank
+
+-- ---- setting and deleting
+
+abbrev changeOf : Said Unit → Change
+changeOf (says u) = change.Made
+changeOf (refused r) = change.Refused (errorOf r)
+
+changeOf-said : (a : Change) → changeOf (saidChange a) ≡ a
+changeOf-said change.Made = refl
+changeOf-said (change.Refused e) = ap change.Refused (errorOf-refusalOf e)
+
+abbrev changedOf : After → Changed
+changedOf a = record { change = changeOf (a .answer); header = a .header }
+
+changedOf-heard : (a : Changed) → changedOf (heardChange a) ≡ a
+changedOf-heard a = ap (λ (c : Change). record { change = c; header = a .header }) (changeOf-said (a .change))
+
+heard-changedOf : (h : Header) (x : Said Header) → Sayable x → heardChange (changedOf (changeHeard h x)) ≡ changeHeard h x
+heard-changedOf h (says h′) s = refl
+heard-changedOf h (refused r) s = ap (λ (k : Refusal). record { answer = refused k; header = h }) (known {A = Header} {r = r} s)
+
+change-only : (h : Header) (x : Said Header) → Sayable x → Determined (λ (r : Changed). heardChange r ≡ changeHeard h x)
+change-only h x s =
+    by-view heardChange changedOf changedOf-heard (changedOf (changeHeard h x)) (changeHeard h x) (heard-changedOf h x s)
+
+limited-sayable : (es : List Element) (h : Header) → Sayable (limited es h)
+limited-sayable es h = either {x = says h} {y = refuse 7} (leb (length es) 32 && leb (length (dataOf es)) 1024) refl refl
+
+id-sayable : (form : Form) (id len : ℕ) (next : Said Header) → Sayable next → Sayable (idRefusal form id len next)
+id-sayable one-byte id len next s =
+    either {x = cond (leb len 16) next (refuse 12)} {y = refuse 11} (leb 1 id && leb id 14)
+    (either {x = next} {y = refuse 12} (leb len 16) s refl) refl
+id-sayable two-byte id len next s =
+    either {x = cond (leb len 255) next (refuse 14)} {y = refuse 13} (leb 1 id)
+    (either {x = next} {y = refuse 14} (leb len 255) s refl) refl
+id-sayable other id len next s = either {x = next} {y = refuse 10} (eqb id 0) s refl
+
+found-sayable : (h : Header) (es : List Element) (id : ℕ) (bytes : List ℕ) (f : Found) → Sayable (setFound h es id bytes f)
+found-sayable h es id bytes absent = limited-sayable (append id bytes es) _
+found-sayable h es id bytes (extension.at place len) = limited-sayable (replace id bytes es) _
+
+set-sayable : (h : Header) (id : ℕ) (bytes : List ℕ) → Sayable (setExtension h id bytes)
+unfolding setExtension setLater setFirst
+set-sayable h id bytes =
+    let es : List Element = fieldsOf h .elements in
+    either {x = cond (h .extension) (setLater h es id bytes) (setFirst h es id bytes)} {y = refuse 8} (inDomain h)
+    (either {x = setLater h es id bytes} {y = setFirst h es id bytes} (h .extension)
+    (id-sayable (formOf (h .«extension_profile»)) id (length bytes) (setFound h es id bytes (find id 0 es))
+    (found-sayable h es id bytes (find id 0 es)))
+    (limited-sayable (append id bytes es) _))
+    refl
+
+pub set-extension-only : (h : Header) (id : ℕ) (bytes : List ℕ) →
+    Determined (λ (r : Changed). heardChange r ≡ changeHeard h (setExtension h id bytes))
+set-extension-only h id bytes = change-only h (setExtension h id bytes) (set-sayable h id bytes)
+
+deleted-sayable : (h : Header) (es : List Element) (id : ℕ) (f : Found) → Sayable (delFound h es id f)
+deleted-sayable h es id absent = refl
+deleted-sayable h es id (extension.at place len) = refl
+
+del-sayable : (h : Header) (id : ℕ) → Sayable (delExtension h id)
+unfolding delExtension
+del-sayable h id =
+    let es : List Element = fieldsOf h .elements in
+    either {x = cond (h .extension) (delFound h es id (find id 0 es)) (refuse 16)} {y = refuse 8} (inDomain h)
+    (either {x = delFound h es id (find id 0 es)} {y = refuse 16} (h .extension) (deleted-sayable h es id (find id 0 es)) refl) refl
+
+pub del-extension-only : (h : Header) (id : ℕ) → Determined (λ (r : Changed). heardChange r ≡ changeHeard h (delExtension h id))
+del-extension-only h id = change-only h (delExtension h id) (del-sayable h id)
+
+-- ---- looking
+
+abbrev gotOf : Said Found → Got
+gotOf (says absent) = got.Absent
+gotOf (says (extension.at place len)) = got.Data place len
+gotOf (refused r) = got.Refused (errorOf r)
+
+gotOf-said : (a : Got) → gotOf (saidGot a) ≡ a
+gotOf-said (got.Data place len) = refl
+gotOf-said got.Absent = refl
+gotOf-said (got.Refused e) = ap got.Refused (errorOf-refusalOf e)
+
+said-gotOf : (x : Said Found) → saidGot (gotOf x) ≡ spoken x
+said-gotOf (says absent) = refl
+said-gotOf (says (extension.at place len)) = refl
+said-gotOf (refused r) = refl
+
+pub get-extension-only : (h : Header) (id : ℕ) → Determined (λ (r : Got). saidGot r ≡ getExtension h id)
+unfolding getExtension
+get-extension-only h id =
+    let answer : Said Found = says (cond (h .extension) (find id 0 (fieldsOf h .elements)) absent) in
+    by-view saidGot gotOf gotOf-said (gotOf (getExtension h id)) (getExtension h id)
+    (said-gotOf (getExtension h id) ∙ either {x = answer} {y = refuse 8} (inDomain h) refl refl)
+
+abbrev countedOf : Said ℕ → IdCount
+countedOf (says n) = ids.Ids n
+countedOf (refused r) = ids.Refused (errorOf r)
+
+countedOf-said : (a : IdCount) → countedOf (saidCount a) ≡ a
+countedOf-said (ids.Ids n) = refl
+countedOf-said (ids.Refused e) = ap ids.Refused (errorOf-refusalOf e)
+
+abbrev idsOf : Listed → Ids
+idsOf l = record { count = countedOf (l .answer); ids = l .ids }
+
+idsOf-heard : (a : Ids) → idsOf (heardIds a) ≡ a
+idsOf-heard a = ap (λ (c : IdCount). record { count = c; ids = a .ids }) (countedOf-said (a .count))
+
+heard-idsOf : (x : Said (List ℕ)) → Sayable x → heardIds (idsOf (idsHeard x)) ≡ idsHeard x
+heard-idsOf (says l) s = refl
+heard-idsOf (refused r) s = ap (λ (k : Refusal). record { answer = refused k; ids = padTo 32 [] }) (known {A = List ℕ} {r = r} s)
+
+pub get-extension-ids-only : (h : Header) → Determined (λ (r : Ids). heardIds r ≡ idsHeard (getExtensionIds h))
+unfolding getExtensionIds
+get-extension-ids-only h =
+    let answer : Said (List ℕ) = says (cond (h .extension) (map (λ (e : Element). e .id) (fieldsOf h .elements)) []) in
+    by-view heardIds idsOf idsOf-heard (idsOf (idsHeard (getExtensionIds h))) (idsHeard (getExtensionIds h))
+    (heard-idsOf (getExtensionIds h) (either {x = answer} {y = refuse 8} (inDomain h) refl refl))

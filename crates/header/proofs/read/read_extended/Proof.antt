@@ -1,0 +1,89 @@
+-- The tests are those of `readExtension`, and the header stands round the block's answer as `around` has it.
+use mathlib.Core.Path.{_≡_, refl, sym, ap, ap₂, _∙_}
+use Prim.Native.Nat.{ℕ, _+_, _*_, _≤_, _<_}
+use native.Mathlib.Omega.{arith}
+use lib.ListN.{length}
+use borrow.Author.Needs.{needs}
+use Rattle.wire.specs.Net.{u16At}
+use Rattle.header.specs.declared.Header.{Header}
+use Rattle.header.specs.declared.HeaderRead.{HeaderRead}
+use Rattle.header.specs.declared.HeaderRead.the-variants as read
+use Rattle.header.specs.Fields.{blank}
+use Rattle.header.specs.Read.{readingOf, readBlock, formOf, blockAt, readExtension}
+use Rattle.header.specs.Said.{BlockHeard, heardBlock, saidRead, heard, readingHeard, headerAt}
+use Rattle.header.proofs.Reading.{around, heard-around, extension-cut, block-cut, block-whole, heard-payload, heard-refused}
+use Rattle.header.proofs.read.read_extended.Statement.{statement}
+use Rattle.header.proofs.read.read_extended.Tie as tie
+
+-- the length that the code reads is the one that the packet says
+words : (c : tie.After-wide16) →
+    c .wide16 .result ≡ u16At (c .before .before .before .before .before .args .packet .now) (c .before .before .before .before .before .args .at + 2)
+words c = c .wide16 .ensures .0 ∙ c .before .get-u162 .ensures
+
+returns : tie.Need-returns
+returns c =
+    let a = c .before .before .before .args in
+    c .refused-header .ensures ∙ sym (ap readingHeard (extension-cut (a .packet .now) (a .cc) (a .at) (c .before .if1 .taken)))
+
+returns-2 : tie.Need-returns-2
+returns-2 c =
+    let a = c .before .before .before .before .before .before .before .args in
+    let w = words (c .before .before) in
+    c .refused-header2 .ensures
+    ∙ sym (ap readingHeard (block-cut (a .packet .now) (a .cc) (a .at) (search needs) (omega (arith, c .before .if2 .taken, w))))
+
+-- the block's answer, put into the header, is what the definition says
+block : (c : tie.After-read-block) →
+    around (c .before .before .before .before .before .before .before .args .packet .now)
+    (c .before .before .before .before .before .before .before .args .cc)
+    (c .before .before .before .before .get-u16 .result)
+    (c .read-block .result .list) (c .read-block .result .padding) (saidRead (c .read-block .result .read))
+    ≡ readingHeard
+    (readExtension (c .before .before .before .before .before .before .before .args .packet .now)
+    (c .before .before .before .before .before .before .before .args .cc)
+    (c .before .before .before .before .before .before .before .args .at))
+block c =
+    let a = c .before .before .before .before .before .before .before .args in
+    let s = a .packet .now in
+    let profile = c .before .before .before .before .get-u16 .result in
+    let n = c .before .before .wide16 .result in
+    let w = words (c .before .before) in
+    ap (λ (h : BlockHeard). around s (a .cc) profile (h .list) (h .pads) (h .answer)) (c .read-block .ensures)
+    ∙ sym (heard-around s (a .cc) profile (readBlock (formOf profile) (blockAt s (a .at + 4) (4 * n))))
+    ∙ ap₂ (λ (p k : ℕ). readingHeard (readingOf s (a .cc) p (readBlock (formOf p) (blockAt s (a .at + 4) (4 * k)))))
+    (c .before .before .before .before .get-u16 .ensures) w
+    ∙ sym (ap readingHeard (block-whole s (a .cc) (a .at) (search needs) (omega (arith, c .before .if2 .left, w))))
+
+returns-3 : tie.Need-returns-3
+returns-3 c =
+    heard-refused _ _ _ _ _ _ _ _ (c .before .enum-told2 .given .1) (c .default .ensures)
+    ∙ block (c .before .before .before)
+
+returns-4 : tie.Need-returns-4
+returns-4 c =
+    heard-payload _ _ _ _ _ _ _ _ (c .before .before .enum-told .given .1) (c .header-at .ensures)
+    ∙ block (c .before .before .before .before)
+
+pub read-extended-spec : {M : Type 1} → statement M
+read-extended-spec =
+    tie.close
+    (tie.spec
+    (λ c. search needs)
+    (λ c κs. search needs)
+    returns
+    (λ c κs. search needs)
+    (λ c. search needs)
+    (λ c κs. search needs)
+    (λ c κs. search needs)
+    (λ c. search needs)
+    (λ c. search needs)
+    (λ c. search needs)
+    (λ c κs. search needs)
+    returns-2
+    (λ c κs. search needs)
+    (λ c. search needs)
+    (λ c. search needs)
+    (λ c κs. search needs)
+    returns-3
+    (λ c κs. search needs)
+    returns-4)

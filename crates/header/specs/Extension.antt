@@ -1,0 +1,179 @@
+-- Setting, getting and deleting an element: "Later sets replace the first element of that id or append. Delete keeps the others'
+-- order. Padding arithmetic is that of 000." Assumes nothing.
+use mathlib.Core.Path.{_≡_}
+use mathlib.Core.Bool.{Bool, true, false, cond, _&&_}
+use mathlib.Core.List.{List, [], _∷_, _++_, map}
+use Prim.Native.Nat.{ℕ, _+_, _-_, _%_}
+use lib.Dec.{ltb, leb, eqb}
+use lib.ListN.{length}
+use Rattle.error.specs.Said.{Said, says, refused, refuse}
+use Rattle.wire.specs.Part.{part}
+use Rattle.header.specs.declared.Extensions.{Extensions}
+use Rattle.header.specs.declared.Header.{Header}
+use Rattle.header.specs.Fields.{Element, Fields, dataOf, fieldsOf, layElements, inDomain}
+use Rattle.header.specs.Read.{Form, one-byte, two-byte, other, formOf}
+use Rattle.header.specs.Size.{perElement}
+
+-- ---- the first element of an id
+
+-- no element, or one whose data begin at a place of the packed data
+pub data Found : Type 0 where
+  absent : Found
+  at : (place len : ℕ) → Found
+
+-- the elements' data begin at `place`
+abbrev pub find : ℕ → ℕ → List Element → Found
+find id place [] = absent
+find id place (e ∷ es) = cond (eqb (e .id) id) (at place (length (e .bytes))) (find id (place + length (e .bytes)) es)
+
+abbrev pub replace : ℕ → List ℕ → List Element → List Element
+replace id bytes [] = []
+replace id bytes (e ∷ es) = cond (eqb (e .id) id) (record { id = id; bytes = bytes } ∷ es) (e ∷ replace id bytes es)
+
+abbrev pub remove : ℕ → List Element → List Element
+remove id [] = []
+remove id (e ∷ es) = cond (eqb (e .id) id) es (e ∷ remove id es)
+
+abbrev pub append : ℕ → List ℕ → List Element → List Element
+append id bytes es = es ++ (record { id = id; bytes = bytes } ∷ [])
+
+-- ---- the padding arithmetic of 000
+
+-- the block grew by n
+abbrev pub grown : ℕ → ℕ → ℕ
+grown pads n = cond (ltb pads (n % 4)) (pads + 4 - n % 4) (pads - n % 4)
+
+-- the block shrank by n
+abbrev pub shrunk : ℕ → ℕ → ℕ
+shrunk pads n = (pads + n) % 4
+
+-- data of `new` bytes in the place of `old` bytes
+abbrev pub resized : ℕ → ℕ → ℕ → ℕ
+resized pads old new = cond (ltb new old) (shrunk pads (old - new)) (grown pads (new - old))
+
+-- ---- the changes
+
+-- a header with other extensions: every other field stays
+abbrev pub extended : Header → ℕ → Extensions → ℕ → Header
+extended h profile x pads =
+    record {
+      version = h .version;
+      padding = h .padding;
+      extension = true;
+      marker = h .marker;
+      «payload_type» = h .«payload_type»;
+      «sequence_number» = h .«sequence_number»;
+      timestamp = h .timestamp;
+      ssrc = h .ssrc;
+      «csrc_count» = h .«csrc_count»;
+      csrc = h .csrc;
+      «extension_profile» = profile;
+      extensions = x;
+      «extensions_padding» = pads;
+    }
+
+abbrev pub changed : Header → ℕ → List Element → ℕ → Header
+changed h profile es pads = extended h profile (layElements es) pads
+
+-- "7: reading or setting would pass 32 elements or 1,024 data bytes"
+abbrev pub limited : List Element → Header → Said Header
+limited es h = cond (leb (length es) 32 && leb (length (dataOf es)) 1024) (says h) (refuse 7)
+
+abbrev pub change : Header → ℕ → List Element → ℕ → Said Header
+change h profile es pads = limited es (changed h profile es pads)
+
+-- "11, 12: set, one-byte: id not 1..14; size over 16", "13, 14: set, two-byte: id 0; size over 255", "10: other profile: set with
+-- id not 0"
+abbrev pub idRefusal : Form → ℕ → ℕ → Said Header → Said Header
+idRefusal one-byte id len next = cond (leb 1 id && leb id 14) (cond (leb len 16) next (refuse 12)) (refuse 11)
+idRefusal two-byte id len next = cond (leb 1 id) (cond (leb len 255) next (refuse 14)) (refuse 13)
+idRefusal other id len next = cond (eqb id 0) next (refuse 10)
+
+-- "Later sets replace the first element of that id or append."
+abbrev pub setFound : Header → List Element → ℕ → List ℕ → Found → Said Header
+setFound h es id bytes absent =
+    change h (h .«extension_profile») (append id bytes es)
+    (grown (h .«extensions_padding») (length bytes + perElement (formOf (h .«extension_profile»))))
+setFound h es id bytes (at place len) =
+    change h (h .«extension_profile») (replace id bytes es) (resized (h .«extensions_padding») len (length bytes))
+
+unfoldable pub setLater : Header → List Element → ℕ → List ℕ → Said Header
+setLater h es id bytes =
+    idRefusal (formOf (h .«extension_profile»)) id (length bytes) (setFound h es id bytes (find id 0 es))
+
+-- "The first set picks 0xBEDE for 0 to 16 bytes, 0x1000 for 17 to 255, else keeps the profile; it does not check the id." Where it
+-- keeps the profile, 000 counts no bytes for the element's head.
+abbrev pub firstProfile : ℕ → ℕ → ℕ
+firstProfile profile len = cond (leb len 16) 0xBEDE (cond (leb len 255) 0x1000 profile)
+
+abbrev pub firstHead : ℕ → ℕ
+firstHead len = cond (leb len 16) 1 (cond (leb len 255) 2 0)
+
+unfoldable pub setFirst : Header → List Element → ℕ → List ℕ → Said Header
+setFirst h es id bytes =
+    change h (firstProfile (h .«extension_profile») (length bytes)) (append id bytes es)
+    (grown (h .«extensions_padding») (length bytes + firstHead (length bytes)))
+
+unfoldable pub setExtension : Header → ℕ → List ℕ → Said Header
+setExtension h id bytes =
+    cond (inDomain h)
+    (cond (h .extension) (setLater h (fieldsOf h .elements) id bytes) (setFirst h (fieldsOf h .elements) id bytes))
+    (refuse 8)
+
+-- "15, 16: delete: id absent; extensions off"
+abbrev pub delFound : Header → List Element → ℕ → Found → Said Header
+delFound h es id absent = refuse 15
+delFound h es id (at place len) =
+    says
+    (changed h (h .«extension_profile») (remove id es)
+    (shrunk (h .«extensions_padding») ((len + perElement (formOf (h .«extension_profile»))) % 4)))
+
+unfoldable pub delExtension : Header → ℕ → Said Header
+delExtension h id =
+    cond (inDomain h)
+    (cond (h .extension) (delFound h (fieldsOf h .elements) id (find id 0 (fieldsOf h .elements))) (refuse 16))
+    (refuse 8)
+
+-- ---- looking
+
+-- an element's place in the record's data; none where extensions are off, though elements may be there
+unfoldable pub getExtension : Header → ℕ → Said Found
+getExtension h id =
+    cond (inDomain h) (says (cond (h .extension) (find id 0 (fieldsOf h .elements)) absent)) (refuse 8)
+
+unfoldable pub getExtensionIds : Header → Said (List ℕ)
+getExtensionIds h =
+    cond (inDomain h)
+    (says (cond (h .extension) (map (λ (e : Element). e .id) (fieldsOf h .elements)) []))
+    (refuse 8)
+
+-- ---- what the laws speak of
+
+-- no element has the id
+abbrev pub Absent : ℕ → List Element → Type 0
+Absent id [] = Unit
+Absent id (e ∷ es) = (e .id ≡ id → ⊥) × Absent id es
+
+-- the first element of an id, the others in front of it and the others behind it
+pub record First (id : ℕ) (es : List Element) : Type 0 where
+  pub front : List Element
+  pub held : Element
+  pub back : List Element
+  pub whole : es ≡ front ++ (held ∷ back)
+  pub others : Absent id front
+  pub named : held .id ≡ id
+
+-- the data held under an id
+pub data Held : Type 0 where
+  nothing : Held
+  holds : List ℕ → Held
+
+abbrev pub lookup : ℕ → List Element → Held
+lookup id [] = nothing
+lookup id (e ∷ es) = cond (eqb (e .id) id) (holds (e .bytes)) (lookup id es)
+
+-- what get_extension shows of a record: the data at the place that it says
+abbrev pub shows : Header → Said Found → Said Held
+shows h (says absent) = says nothing
+shows h (says (at place len)) = says (holds (part (h .extensions .bytes) place len))
+shows h (refused r) = refused r

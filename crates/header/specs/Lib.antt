@@ -1,0 +1,7 @@
+pub mod Fields
+pub mod Read
+pub mod Size
+pub mod Write
+pub mod Extension
+pub mod Runs
+pub mod Said

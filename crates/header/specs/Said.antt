@@ -1,0 +1,150 @@
+-- What each answer says, in the paper's numbers and values, and the answer that each definition asks for. Assumes nothing.
+use mathlib.Core.Bool.{Bool}
+use mathlib.Core.List.{List, []}
+use Prim.Native.Nat.{ℕ, _-_, _/_, _%_}
+use lib.ListN.{length, getD}
+use Rattle.error.specs.Refusal.{refusalOf}
+use Rattle.error.specs.Said.{Said, says, refused}
+use Rattle.wire.specs.Net.{u16At, u32At}
+use Rattle.wire.specs.Part.{padTo, splice}
+use Rattle.header.specs.declared.Header.{Header}
+use Rattle.header.specs.declared.HeaderRead.{HeaderRead}
+use Rattle.header.specs.declared.HeaderRead.the-variants as read
+use Rattle.header.specs.declared.Unmarshalled.{Unmarshalled}
+use Rattle.header.specs.declared.Length.{Length}
+use Rattle.header.specs.declared.Length.the-variants as len
+use Rattle.header.specs.declared.Change.{Change}
+use Rattle.header.specs.declared.Change.the-variants as change
+use Rattle.header.specs.declared.Changed.{Changed}
+use Rattle.header.specs.declared.Got.{Got}
+use Rattle.header.specs.declared.Got.the-variants as got
+use Rattle.header.specs.declared.IdCount.{IdCount}
+use Rattle.header.specs.declared.IdCount.the-variants as ids
+use Rattle.header.specs.declared.Ids.{Ids}
+use Rattle.header.specs.declared.Extensions.{Extensions}
+use Rattle.header.specs.declared.read.Next.{Next}
+use Rattle.header.specs.declared.read.Next.the-variants as next
+use Rattle.header.specs.declared.read.BlockRead.{BlockRead}
+use Rattle.header.specs.Fields.{Fields, layOut, layElements, blank}
+use Rattle.header.specs.Read.{Reading, Item, pad, stop, past, element, Block, bit, csrcsAt}
+use Rattle.header.specs.Extension.{Found, absent, at}
+
+-- ---- reading
+
+abbrev pub saidRead : HeaderRead → Said ℕ
+saidRead (read.Payload place) = says place
+saidRead (read.Refused e) = refused (refusalOf e)
+
+-- the answer and the record beside it
+pub record Heard : Type 0 where
+  pub answer : Said ℕ
+  pub header : Header
+
+abbrev pub heard : Unmarshalled → Heard
+heard u = record { answer = saidRead (u .read); header = u .header }
+
+-- "A refusal returns its number, no record"
+abbrev pub readingHeard : Said Reading → Heard
+readingHeard (says r) = record { answer = says (r .place); header = layOut (r .fields) }
+readingHeard (refused r) = record { answer = refused r; header = blank }
+
+-- ---- inside the reader
+
+abbrev pub itemOf : Next → Item
+itemOf next.Pad = pad
+itemOf next.Stop = stop
+itemOf next.Past = past
+itemOf (next.Element head id len) = element head id len
+
+pub record BlockHeard : Type 0 where
+  pub answer : Said ℕ
+  pub list : Extensions
+  pub pads : ℕ
+
+abbrev pub heardBlock : BlockRead → BlockHeard
+heardBlock b = record { answer = saidRead (b .read); list = b .list; pads = b .padding }
+
+-- the payload's place in a packet of `n` bytes
+abbrev pub blockHeard : ℕ → Said Block → BlockHeard
+blockHeard n (says b) =
+    record { answer = says (n - length (b .rest)); list = layElements (b .elements); pads = b .pads }
+blockHeard n (refused r) = record { answer = refused r; list = layElements []; pads = 0 }
+
+-- the header in front of a packet's bytes, with extensions that were read already
+unfoldable pub headerAt : List ℕ → ℕ → ℕ → Extensions → ℕ → Header
+headerAt s cc profile list pads =
+    record {
+      version = getD s 0 0 / 64;
+      padding = bit (getD s 0 0 / 32);
+      extension = bit (getD s 0 0 / 16);
+      marker = bit (getD s 1 0 / 128);
+      «payload_type» = getD s 1 0 % 128;
+      «sequence_number» = u16At s 2;
+      timestamp = u32At s 4;
+      ssrc = u32At s 8;
+      «csrc_count» = cc;
+      csrc = padTo 15 (csrcsAt s 12 cc);
+      «extension_profile» = profile;
+      extensions = list;
+      «extensions_padding» = pads;
+    }
+
+-- ---- sizes and writing
+
+abbrev pub saidLength : Length → Said ℕ
+saidLength (len.Bytes n) = says n
+saidLength (len.Refused e) = refused (refusalOf e)
+
+-- the answer, and the buffer at exit
+pub record Written : Type 0 where
+  pub answer : Said ℕ
+  pub buffer : List ℕ
+
+abbrev pub heardWritten : Length → List ℕ → Written
+heardWritten r buf = record { answer = saidLength r; buffer = buf }
+
+-- "a refusal .. changes no buffer", "an answer changes only the bytes it writes"; these are the bytes
+abbrev pub written : List ℕ → Said (List ℕ) → Written
+written buf (says octets) = record { answer = says (length octets); buffer = splice buf 0 octets }
+written buf (refused r) = record { answer = refused r; buffer = buf }
+
+-- ---- changes
+
+abbrev pub saidChange : Change → Said Unit
+saidChange change.Made = says tt
+saidChange (change.Refused e) = refused (refusalOf e)
+
+-- the answer and the record beside it
+pub record After : Type 0 where
+  pub answer : Said Unit
+  pub header : Header
+
+abbrev pub heardChange : Changed → After
+heardChange c = record { answer = saidChange (c .change); header = c .header }
+
+-- "a refusal .. changes .. no state"
+abbrev pub changeHeard : Header → Said Header → After
+changeHeard h (says h′) = record { answer = says tt; header = h′ }
+changeHeard h (refused r) = record { answer = refused r; header = h }
+
+-- ---- looking
+
+abbrev pub saidGot : Got → Said Found
+saidGot (got.Data place len) = says (at place len)
+saidGot got.Absent = says absent
+saidGot (got.Refused e) = refused (refusalOf e)
+
+abbrev pub saidCount : IdCount → Said ℕ
+saidCount (ids.Ids n) = says n
+saidCount (ids.Refused e) = refused (refusalOf e)
+
+pub record Listed : Type 0 where
+  pub answer : Said ℕ
+  pub ids : List ℕ
+
+abbrev pub heardIds : Ids → Listed
+heardIds i = record { answer = saidCount (i .count); ids = i .ids }
+
+abbrev pub idsHeard : Said (List ℕ) → Listed
+idsHeard (says l) = record { answer = says (length l); ids = padTo 32 l }
+idsHeard (refused r) = record { answer = refused r; ids = padTo 32 [] }

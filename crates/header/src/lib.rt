@@ -1,0 +1,110 @@
+// The RTP header with its extensions: header.rs of rtp 0.17.2.
+//
+//  0                   1                   2                   3
+//  0 1 2 3 4 5 6 7 8 9 0 1 2 3 4 5 6 7 8 9 0 1 2 3 4 5 6 7 8 9 0 1
+// +-+-+-+-+-+-+-+-+-+-+-+-+-+-+-+-+-+-+-+-+-+-+-+-+-+-+-+-+-+-+-+-+
+// |V=2|P|X|  CC   |M|     PT      |       sequence number         |
+// +-+-+-+-+-+-+-+-+-+-+-+-+-+-+-+-+-+-+-+-+-+-+-+-+-+-+-+-+-+-+-+-+
+// |                           timestamp                           |
+// +-+-+-+-+-+-+-+-+-+-+-+-+-+-+-+-+-+-+-+-+-+-+-+-+-+-+-+-+-+-+-+-+
+// |           synchronization source (SSRC) identifier            |
+// +=+=+=+=+=+=+=+=+=+=+=+=+=+=+=+=+=+=+=+=+=+=+=+=+=+=+=+=+=+=+=+=+
+// |            contributing source (CSRC) identifiers             |
+// |                             ....                              |
+// +-+-+-+-+-+-+-+-+-+-+-+-+-+-+-+-+-+-+-+-+-+-+-+-+-+-+-+-+-+-+-+-+
+use error::Error;
+
+mod extension;
+mod list;
+mod read;
+mod size;
+mod write;
+
+pub const EXTENSION_PROFILE_ONE_BYTE: u16 = 0xBEDE;
+
+pub const EXTENSION_PROFILE_TWO_BYTE: u16 = 0x1000;
+
+pub const EXTENSION_ID_RESERVED: u8 = 0xF;
+
+// The extension elements, in order.
+pub struct Extensions {
+    // how many there are: 0 to 32
+    pub count: usize,
+    // the id of each
+    pub ids: [u8; 32],
+    // how many data bytes each has: 1,024 in all at most
+    pub lens: [u16; 32],
+    // the data of all of them, packed in order
+    pub bytes: [u8; 1024],
+}
+
+pub struct Header {
+    // 0 to 3; 2 for RTP
+    pub version: u8,
+    // the packet ends in padding
+    pub padding: bool,
+    // the header has an extension block
+    pub extension: bool,
+    pub marker: bool,
+    // 0 to 127
+    pub payload_type: u8,
+    pub sequence_number: u16,
+    pub timestamp: u32,
+    pub ssrc: u32,
+    // how many contributing sources there are: 0 to 15
+    pub csrc_count: usize,
+    pub csrc: [u32; 15],
+    // 0xBEDE: one-byte elements; 0x1000: two-byte elements; any other: one element of whole words
+    pub extension_profile: u16,
+    pub extensions: Extensions,
+    // zeros of the block: as many as were read, or as the size is to count: 0 to 262,140
+    pub extensions_padding: usize,
+}
+
+// What reading answers beside the record: the payload's place in the packet.
+pub enum HeaderRead {
+    Payload(usize),
+    Refused(Error),
+}
+
+pub struct Unmarshalled {
+    pub read: HeaderRead,
+    // all zeros beside a refusal
+    pub header: Header,
+}
+
+// A number of bytes.
+pub enum Length {
+    Bytes(usize),
+    Refused(Error),
+}
+
+// What setting and deleting answer beside the record.
+pub enum Change {
+    Made,
+    Refused(Error),
+}
+
+pub struct Changed {
+    pub change: Change,
+    // as it came beside a refusal
+    pub header: Header,
+}
+
+// An element's data: `len` bytes from `at` on, of the record's `extensions.bytes`.
+pub enum Got {
+    Data { at: usize, len: usize },
+    Absent,
+    Refused(Error),
+}
+
+pub enum IdCount {
+    Ids(usize),
+    Refused(Error),
+}
+
+pub struct Ids {
+    pub count: IdCount,
+    // the ids in order, then zeros
+    pub ids: [u8; 32],
+}
