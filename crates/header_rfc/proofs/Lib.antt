@@ -1,0 +1,12 @@
+pub mod Items
+pub mod Fixed
+pub mod Complete
+pub mod Readers
+pub mod Sound
+pub mod Written
+pub mod RoundTrip
+pub mod Deviations
+pub mod Yields
+pub mod Rewritten
+pub mod Refusals
+pub mod Main

@@ -1,0 +1,128 @@
+-- The header's reader and writer against RFC 3550 and RFC 8285: the theorems, each cited from the file that proves it.
+--
+-- The words. A plan is what a header says: the fields of RFC 3550 5.1, and for an extension its items, each an element or an octet of padding
+-- (RFC 8285), or the words of another profile. `octets p` are the plan's octets; they are defined in crate `rfc3550` from the RFCs alone. A plan is
+-- `Lawful` where each field is in the RFCs' range. `readHeader s` is the paper's reading of the bytes s, and `octetsOf f` what the paper has written
+-- for the fields f: the code of crate `header` is proved equal to both. `readingOf p` is what the plan says, in the header's own fields, with the
+-- payload's place behind the header; `refuse n` is the paper's refusal n.
+--
+-- The paper's limits are `Fits` (65,535 bytes) and `Within` (32 elements, 1,024 data bytes). The crate's deviations are told in `Deviations`,
+-- `Rewritten` and `Yields`, one theorem for each row of docs/DIFFERENCES.md; the one that COMPLETE has to leave out is `Plain`: of the two-byte
+-- form's profiles 0x1000 to 0x100F only 0x1000 is read as such.
+use mathlib.Core.Path.{_≡_, ap, _∙_}
+use mathlib.Core.List.{List, _++_}
+use mathlib.Core.Logic.{_⊎_}
+use Prim.Native.Nat.{ℕ}
+use lib.ListN.{length}
+use Rattle.error.specs.Refusal.{Refusal}
+use Rattle.error.specs.Said.{Said, says, refused, refuse}
+use Rattle.header.specs.declared.Unmarshalled.{Unmarshalled}
+use Rattle.header.specs.Fields.{Fields, layOut}
+use Rattle.header.specs.Read.{Reading, readHeader}
+use Rattle.header.specs.Write.{octetsOf}
+use Rattle.header.specs.Said.{heard, readingHeard}
+use Rattle.rfc3550.specs.Rfc3550.{Octets, Extension, LawfulExtension, Begins, CutShort}
+use Rattle.rfc3550.specs.Rfc8285.{Plan, Lawful, octets, Conforms, Strays}
+use Rattle.rfc3550.proofs.Parse as parse
+use Rattle.rfc3550.proofs.Blocks as blocks
+use Rattle.header_rfc.specs.Says.{elementsIn, fieldsIn, Within, Plain, AppBits, Fits, Complete, Sound}
+use Rattle.header_rfc.specs.RoundTrip.{Writable, ReadsBack, readBack, WrittenAs, Trailing}
+use Rattle.header_rfc.proofs.Complete as complete
+use Rattle.header_rfc.proofs.Readers as readers
+use Rattle.header_rfc.proofs.Sound as sound
+use Rattle.header_rfc.proofs.Refusals as refusals
+use Rattle.header_rfc.proofs.RoundTrip as round-trip
+use Rattle.header_rfc.proofs.Rewritten as rewritten
+use Rattle.header_rfc.proofs.Yields as yields
+
+-- ---- reading
+
+-- COMPLETE. Every well-formed header within the limits is read as exactly what its plan says: fields, elements, count of padding and payload place,
+-- wherever its padding stands. Over 32 elements or 1,024 data bytes it is 7.
+pub COMPLETE : Complete readHeader
+COMPLETE = complete.complete
+
+-- The same of the code: whatever `unmarshal` answers under its contract
+pub CODE-COMPLETE : (u : Unmarshalled) (p : Plan) (payload : List ℕ) → heard u ≡ readingHeard (readHeader (octets p ++ payload)) →
+    Lawful p → Plain (p .content) → Fits (octets p ++ payload) → Within (elementsIn (p .content)) →
+    heard u ≡ record { answer = says (length (octets p)); header = layOut (fieldsIn p) }
+CODE-COMPLETE u p payload contract l plain fits w = contract ∙ ap readingHeard (COMPLETE .within p payload l plain fits w)
+
+-- COMPLETE shuts out "a reader that refuses all" ..
+pub NO-REFUSER : (why : List ℕ → Refusal) → Complete (λ (s : List ℕ). refused (why s)) → ⊥
+NO-REFUSER = readers.no-refuser
+
+-- .. and "one fixed record for every packet"
+pub NO-FIXED-RECORD : (f : Fields) (read : List ℕ → Said Reading) → ((s : List ℕ) (r : Reading) → read s ≡ says r → r .fields ≡ f) → Complete read → ⊥
+NO-FIXED-RECORD = readers.no-fixed-record
+
+-- SOUND. Whatever is accepted with version 2 is a well-formed header with those fields; or it is a header of RFC 3550 with those fixed fields
+-- whose extension strays from RFC 8285, with the place and the reason, or has a profile 0x1001 to 0x100F.
+pub SOUND : Sound readHeader
+SOUND = sound.sound
+
+-- 1 and 2 are given where the octets end before the header that they begin ..
+pub CUT-SHORT : (s : List ℕ) → Fits s → CutShort s → (readHeader s ≡ refuse 1) ⊎ (readHeader s ≡ refuse 2)
+CUT-SHORT = refusals.cut-short
+
+-- .. and nowhere else
+pub ONLY-CUT-SHORT : (s : List ℕ) → Octets s → Fits s → (readHeader s ≡ refuse 1) ⊎ (readHeader s ≡ refuse 2) → CutShort s
+ONLY-CUT-SHORT = refusals.only-cut
+
+-- ---- the octets alone, without reader and writer
+
+-- UNAMBIGUOUS. Two lawful plans whose octets, each with a payload behind it, are the same octets are the same plan, with the same payload.
+pub UNAMBIGUOUS : (p q : Plan) (a b : List ℕ) → Lawful p → Lawful q → octets p ++ a ≡ octets q ++ b → (p ≡ q) × (a ≡ b)
+UNAMBIGUOUS = blocks.unambiguous-elements
+
+-- Every list of octets begins with a lawful header of RFC 3550 or is cut short ..
+pub BEGINS-OR-CUT : (s : List ℕ) → Octets s → Begins s ⊎ CutShort s
+BEGINS-OR-CUT = parse.begins-or-cut
+
+-- .. and never both.
+pub BEGINS-NOT-CUT : (s : List ℕ) → Begins s → CutShort s → ⊥
+BEGINS-NOT-CUT = parse.begins-not-cut
+
+-- Every extension is laid out as its profile asks or strays, with no third case ..
+pub LAID-OR-STRAYS : (x : Extension) → LawfulExtension x → Octets (x .content) → Conforms x ⊎ Strays x
+LAID-OR-STRAYS = blocks.conforms-or-strays
+
+-- .. and never both.
+pub NEVER-BOTH : (x : Extension) → Conforms x → Strays x → ⊥
+NEVER-BOTH = blocks.not-both
+
+-- ---- writing
+
+-- WRITER. Under the paper's conditions for the round trip the written octets are those of a lawful plan, which says the record. (A profile 0x1001 to
+-- 0x100F is RFC 8285's two-byte form; the crate writes any words there.)
+pub WRITER : (f : Fields) → Writable f → ReadsBack f → (AppBits (f .profile) → ⊥) → WrittenAs f
+WRITER = round-trip.writer
+
+-- ROUND TRIP. "Fields and elements read back equal; extensions_padding reads back as the zeros written."
+pub ROUND-TRIP : (f : Fields) → Writable f → ReadsBack f → (payload : List ℕ) → Fits (octetsOf f ++ payload) →
+    readHeader (octetsOf f ++ payload) ≡ says (record { fields = readBack f; place = length (octetsOf f) })
+ROUND-TRIP = round-trip.round-trip
+
+-- The other way round: what was read from any octets can be written, and reads back ..
+pub READ-WRITE-READ : (s : List ℕ) → Octets s → (r : Reading) → readHeader s ≡ says r → (payload : List ℕ) → Fits (octetsOf (r .fields) ++ payload) →
+    readHeader (octetsOf (r .fields) ++ payload) ≡ says (record { fields = readBack (r .fields); place = length (octetsOf (r .fields)) })
+READ-WRITE-READ = yields.reads-again
+
+-- .. and a well-formed header whose padding stands behind its elements, and only fills the last word, is written as the octets that were read.
+pub SAME-OCTETS : (p : Plan) → Lawful p → Plain (p .content) → Trailing (p .content) → octetsOf (fieldsIn p) ≡ octets p
+SAME-OCTETS = rewritten.written-again
+
+-- ---- where the crate leaves the RFCs, each with the theorem that says exactly what it does
+--
+-- RFC 3550 5.1, a version that is not 2           read as it is: Deviations.version-kept; written: Rewritten.version-written
+-- RFC 3550 5.3.1, an element leaves the block     read whole, into the payload: Deviations.leaves-read; past the packet 3: .leaves-past; over the
+--                                                 limits 7: .leaves-over, and 7 before any stray: .stray-over
+-- RFC 8285 4.1.2, id 0 with a length              an element of id 0: Deviations.zero-id-read, .zero-id-leaves, .zero-id-past
+-- RFC 8285 4.1.2, two elements of one id          both kept, in order: Deviations.duplicates-kept
+-- RFC 8285 4.2, id 15                             the rest of the block is payload: Deviations.reserved-read
+-- RFC 8285 4.3, an id as the block's last octet   length and data from the payload: Deviations.alone-read; past the packet 3: .alone-last, .alone-past
+-- RFC 8285 4.3, application bits not 0            one element of id 0, the whole block: Deviations.appbits-read
+-- RFC 8285 4.2, id 15 written                     what is written from there on is payload: Rewritten.fifteen-written; never read: Yields.fifteen-never
+-- RFC 8285 4.2, id 0 written, one byte            the octets of padding and that byte: Rewritten.zero-octets; never read: Yields.zero-never
+-- RFC 8285 4.2, id 0 written, 2 to 16 bytes       reads back as id 0: Rewritten.zero-reads-back
+-- RFC 8285 4.3, id 0 written                      the octets of padding, length, data: Rewritten.two-byte-zero-octets; never read: Yields.two-byte-zero-never

@@ -1,0 +1,165 @@
+-- The other way round: octets that were read, written again. Where the padding stands behind the elements and fills the last word they are the
+-- same octets; and an element of id 15 cuts off what was written from it on. Assumes nothing.
+use mathlib.Core.Path.{_≡_, refl, sym, ap, ap₂, _∙_, subst}
+use mathlib.Core.Bool.{true, cond}
+use mathlib.Core.List.{List, [], _∷_, _++_, append-assoc, append-nil}
+use mathlib.Core.Option.{Option, none, some}
+use Prim.Native.Nat.{ℕ, _+_, _-_, _*_, _/_, _<_, _≤_}
+use native.Mathlib.Omega.{arith}
+use lib.ListN.{length, getD, replicate, length-append, length-replicate}
+use Rattle.error.specs.Said.{says}
+use Rattle.header.specs.Fields.{Element, Fields}
+use Rattle.header.specs.Read.{formOf, readHeader}
+use Rattle.header.specs.Read as paper
+use Rattle.header.specs.Size.{wordsFor}
+use Rattle.header.specs.Write.{octetsOf}
+use Rattle.header.specs.Write as written
+use Rattle.rfc3550.specs.Rfc3550.{Fixed, Extension, LawfulExtension}
+use Rattle.rfc3550.specs.Rfc3550 as rtp
+use Rattle.rfc3550.proofs.Places.{version-at}
+use Rattle.rfc3550.specs.Rfc8285.{Form, one-byte, two-byte, profileOf, padding, element, AllLawful, itemOctets, blockOctets, Content, laid, other, extensionIn, extensionWith, Plan, Lawful, LawfulPart, octets, reserved}
+use Rattle.header_rfc.specs.Says.{elementsOf, padsOf, fieldsIn, fieldsWith, Within, PlainForm, Plain, Fits}
+use Rattle.header_rfc.specs.Taken.{AllTaken, strayed, ReadAs}
+use Rattle.header_rfc.specs.RoundTrip.{Writable, AllKept, readBack, Trailing, itemsFor, itemsWith}
+use Rattle.header_rfc.proofs.Fixed.{extended}
+use Rattle.header_rfc.proofs.Complete.{form-other}
+use Rattle.header_rfc.proofs.Written.{fixedFor, fixed-lawful, fixed-same, inPaper, packedLength, zerosFor, filled, block-length, octets-with, filled-lawful, filled-words, elements-with, pads-with, octets-plain, octets-extended}
+use Rattle.header_rfc.proofs.RoundTrip.{lawful-items, taken-with, back-laid}
+use Rattle.header_rfc.proofs.Deviations.{reserved-read, within-front}
+
+-- ---- the same octets again
+
+form-again : (form : Form) → PlainForm form → formOf (profileOf form) ≡ inPaper form
+form-again one-byte p = refl
+form-again (two-byte appbits) p = ap (λ (a : ℕ). formOf (0x1000 + a)) p
+
+-- fewer than four octets of padding fill the last word in one way
+zeros-told : (n z m : ℕ) → n + z ≡ 4 * m → z < 4 → z ≡ 4 * wordsFor n - n
+zeros-told n z m e h = omega arith
+
+-- a header whose padding stands behind its elements, and only fills the last word, is written as the octets that were read
+pub written-again : (p : Plan) → Lawful p → Plain (p .content) → Trailing (p .content) → octetsOf (fieldsIn p) ≡ octets p
+unfolding fieldsWith
+written-again p l plain t = go (p .content) (l .content) (l .header .extension) plain t
+  where
+    f : Fixed
+    f = p .fixed
+
+    go : (c : Option Content) → LawfulPart c → rtp.LawfulPart (extensionIn c) → Plain c → Trailing c →
+        octetsOf (fieldsIn (record { fixed = f; content = c })) ≡ octets (record { fixed = f; content = c })
+    go none m k q u = octets-plain (fieldsIn (record { fixed = f; content = none })) refl
+    go (some (laid form is)) m k q u =
+        let es : List Element = u .0 in
+        let z : ℕ = u .1 in
+        let elements : elementsOf is ≡ es = ap elementsOf (u .2) ∙ elements-with es z in
+        let block : blockOctets form is ≡ written.blockOctets (inPaper form) es ++ replicate z 0 = ap (blockOctets form) (u .2) ∙ octets-with form es z in
+        let long : length (blockOctets form is) ≡ packedLength (inPaper form) es + z =
+        ap length block ∙ length-append (written.blockOctets (inPaper form) es) (replicate z 0)
+        ∙ ap₂ _+_ (block-length (inPaper form) es) (length-replicate {A = ℕ} z 0) in
+        let fill : z ≡ zerosFor (inPaper form) es =
+        zeros-told (packedLength (inPaper form) es) z (length (blockOctets form is) / 4) (sym long ∙ k .content) (u .3) in
+        octets-extended (fieldsIn (record { fixed = f; content = some (laid form is) })) (inPaper form) refl (form-again form q)
+        ∙ ap (λ (s : List ℕ). rtp.octets (extended f (extensionWith (profileOf form) s)))
+        (ap (filled (inPaper form)) elements
+        ∙ ap (λ (n : ℕ). written.blockOctets (inPaper form) es ++ replicate n 0) (sym fill)
+        ∙ sym block)
+    go (some (other profile words)) m k q u =
+        octets-extended (fieldsIn (record { fixed = f; content = some (other profile words) })) paper.other refl
+        (form-other profile (m .0) (λ e. m .1 (omega arith)))
+        ∙ ap (λ (s : List ℕ). rtp.octets (extended f (extensionWith profile s))) (filled-words words (omega (arith, k .content)))
+
+-- ---- id 15, written
+
+block-append : (g : paper.Form) (es fs : List Element) → written.blockOctets g (es ++ fs) ≡ written.blockOctets g es ++ written.blockOctets g fs
+block-append g [] fs = refl
+block-append g (e ∷ es) fs =
+    ap (λ (s : List ℕ). written.elementOctets g e ++ s) (block-append g es fs)
+    ∙ sym (append-assoc (written.elementOctets g e) (written.blockOctets g es) (written.blockOctets g fs))
+
+-- elements without padding behind them
+items-alone : (es : List Element) → itemsWith es 0 ≡ itemsFor es
+items-alone es = append-nil (itemsFor es)
+
+octets-alone : (form : Form) (es : List Element) → written.blockOctets (inPaper form) es ≡ blockOctets form (itemsFor es)
+octets-alone form es =
+    sym (append-nil (written.blockOctets (inPaper form) es)) ∙ sym (octets-with form es 0) ∙ ap (blockOctets form) (items-alone es)
+
+-- RFC 8285 4.2: an element of id 15 is written; the elements before it read back, and it is payload with all that was written behind it
+pub fifteen-written : (f : Fields) → Writable f → f .extension ≡ true → f .profile ≡ 0xBEDE → (es fs : List Element) (bytes : List ℕ) →
+    f .elements ≡ es ++ (record { id = 15; bytes = bytes } ∷ fs) → AllKept 14 1 16 es → length bytes ≤ 16 →
+    (payload : List ℕ) → Fits (octetsOf f ++ payload) →
+    ReadAs (octetsOf f ++ payload) (fixedFor f) 0xBEDE es 0
+    (bytes ++ (written.blockOctets paper.one-byte fs ++ replicate (zerosFor paper.one-byte (f .elements)) 0) ++ payload)
+fifteen-written f w on p es fs bytes at k most payload fits =
+    subst (λ (s : List ℕ). ReadAs (s ++ payload) (fixedFor f) 0xBEDE es 0 (rest ++ payload)) (sym same)
+    (subst (λ (l : List Element). ReadAs (cut-octets ++ payload) (fixedFor f) 0xBEDE l 0 (rest ++ payload)) elements
+    (subst (λ (n : ℕ). ReadAs (cut-octets ++ payload) (fixedFor f) 0xBEDE (elementsOf (itemsFor es)) n (rest ++ payload)) pads
+    (reserved-read (fixedFor f) (itemsFor es) (length bytes - 1) rest payload
+    (subst (AllLawful one-byte) (items-alone es) (lawful-items one-byte es 0 k))
+    (omega arith)
+    (record { fixed = fixed-lawful f w; extension = subst LawfulExtension lay (filled-lawful paper.one-byte (f .profile) (f .elements) (w .profile) (w .within)) })
+    (subst (λ (s : List ℕ). Fits (s ++ payload)) same fits)
+    (subst Within (sym elements) (within-front es (record { id = 15; bytes = bytes } ∷ fs) (subst Within at (w .within)))))))
+  where
+    zeros : List ℕ
+    zeros = replicate (zerosFor paper.one-byte (f .elements)) 0
+
+    rest : List ℕ
+    rest = bytes ++ (written.blockOctets paper.one-byte fs ++ zeros)
+
+    cut-octets : List ℕ
+    cut-octets = rtp.octets (strayed (fixedFor f) one-byte (itemsFor es) (reserved (length bytes - 1) rest))
+
+    elements : elementsOf (itemsFor es) ≡ es
+    elements = ap elementsOf (sym (items-alone es)) ∙ elements-with es 0
+
+    pads : padsOf (itemsFor es) ≡ 0
+    pads = ap padsOf (sym (items-alone es)) ∙ pads-with es 0
+
+    content : filled paper.one-byte (f .elements) ≡ blockOctets one-byte (itemsFor es) ++ ((15 * 16 + (length bytes - 1)) ∷ rest)
+    content =
+        ap (λ (s : List ℕ). s ++ zeros)
+        (ap (written.blockOctets paper.one-byte) at
+        ∙ block-append paper.one-byte es (record { id = 15; bytes = bytes } ∷ fs)
+        ∙ ap (λ (s : List ℕ). s ++ (((15 * 16 + (length bytes - 1)) ∷ bytes) ++ written.blockOctets paper.one-byte fs)) (octets-alone one-byte es))
+        ∙ regroup
+      where
+        regroup : blockOctets one-byte (itemsFor es) ++ ((15 * 16 + (length bytes - 1)) ∷ (bytes ++ written.blockOctets paper.one-byte fs)) ++ zeros
+            ≡ blockOctets one-byte (itemsFor es) ++ ((15 * 16 + (length bytes - 1)) ∷ rest)
+        regroup = simp append-assoc
+
+    lay : extensionWith (f .profile) (filled paper.one-byte (f .elements))
+        ≡ extensionWith 0xBEDE (blockOctets one-byte (itemsFor es) ++ ((15 * 16 + (length bytes - 1)) ∷ rest))
+    lay = ap₂ extensionWith p content
+
+    same : octetsOf f ≡ cut-octets
+    same = octets-extended f paper.one-byte on (ap formOf p) ∙ ap (λ (x : Extension). rtp.octets (extended (fixedFor f) x)) lay
+
+-- ---- id 0, written
+
+-- in the one-byte form an element of id 0 with one byte has the octets of padding and that byte ..
+pub zero-octets : (b : ℕ) → itemOctets one-byte (element 0 (b ∷ [])) ≡ itemOctets one-byte padding ++ (b ∷ [])
+zero-octets b = refl
+
+-- .. and in the two-byte form an element of id 0 those of padding, a length and the data
+pub two-byte-zero-octets : (appbits : ℕ) (bytes : List ℕ) →
+    itemOctets (two-byte appbits) (element 0 bytes) ≡ itemOctets (two-byte appbits) padding ++ (length bytes ∷ bytes)
+two-byte-zero-octets appbits bytes = refl
+
+-- in the one-byte form elements of id 0 with 2 to 16 bytes are written and read back as such
+pub zero-reads-back : (f : Fields) → Writable f → f .extension ≡ true → f .profile ≡ 0xBEDE → AllTaken one-byte (itemsFor (f .elements)) →
+    (payload : List ℕ) → Fits (octetsOf f ++ payload) →
+    readHeader (octetsOf f ++ payload) ≡ says (record { fields = readBack f; place = length (octetsOf f) })
+zero-reads-back f w on p t payload fits =
+    back-laid f w payload fits one-byte tt on p (ap formOf p) (taken-with one-byte (f .elements) (zerosFor paper.one-byte (f .elements)) t)
+
+-- ---- RFC 3550 5.1, the version
+
+-- whatever version a record has, it is written
+pub version-written : (f : Fields) → Writable f → (payload : List ℕ) → getD (octetsOf f ++ payload) 0 0 / 64 ≡ f .version
+unfolding octetsOf
+version-written f w payload =
+    let tail : List ℕ = cond (f .extension) (written.extensionOctets f) [] ++ payload in
+    ap (λ (s : List ℕ). getD s 0 0 / 64)
+    (append-assoc (written.fixedOctets f) (cond (f .extension) (written.extensionOctets f) []) payload ∙ ap (λ (s : List ℕ). s ++ tail) (fixed-same f))
+    ∙ version-at (fixedFor f) (f .extension) (fixed-lawful f w) tail

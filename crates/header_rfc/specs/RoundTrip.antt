@@ -1,0 +1,99 @@
+-- The paper's round trip: which records read back, and as what. Assumes nothing.
+use mathlib.Core.Path.{_≡_}
+use mathlib.Core.Bool.{Bool, true, false, cond}
+use mathlib.Core.List.{List, [], _∷_, _++_}
+use mathlib.Core.Option.{Option, none, some}
+use Prim.Native.Nat.{ℕ, _-_, _*_, _%_, _<_, _≤_}
+use lib.ListN.{length, replicate}
+use Rattle.header.specs.Fields.{Element, Fields}
+use Rattle.header.specs.Read.{Form, one-byte, two-byte, other, formOf}
+use Rattle.header.specs.Size.{payloadLength, wordsFor}
+use Rattle.header.specs.Write.{octetsOf}
+use Rattle.rfc3550.specs.Rfc3550.{AllBelow}
+use Rattle.rfc3550.specs.Rfc8285.{Item, padding, element, Content, laid, Plan, Lawful, octets}
+use Rattle.rfc3550.specs.Rfc8285
+use Rattle.header_rfc.specs.Says.{Within, wholeElement, fieldsIn}
+
+-- "A record to be written has version 0 to 3, payload type 0 to 127", "15 CSRCs; 32 extension elements holding 1,024 data bytes in
+-- all"; the other numbers are as wide as the record's types make them
+pub record Writable (f : Fields) : Type 0 where
+  pub version : f .version ≤ 3
+  pub type : f .type ≤ 127
+  pub number : f .number < 65536
+  pub time : f .time < 4294967296
+  pub source : f .source < 4294967296
+  pub count : length (f .csrcs) ≤ 15
+  pub csrcs : AllBelow 4294967296 (f .csrcs)
+  pub profile : f .profile < 65536
+  pub within : Within (f .elements)
+
+-- ids from 1 to `highest`, data of `least` to `most` bytes
+pub record Kept (highest least most : ℕ) (e : Element) : Type 0 where
+  pub id-from : 1 ≤ e .id
+  pub id-to : e .id ≤ highest
+  pub len-from : least ≤ length (e .bytes)
+  pub len-to : length (e .bytes) ≤ most
+
+abbrev pub AllKept : ℕ → ℕ → ℕ → List Element → Type 0
+AllKept highest least most [] = Unit
+AllKept highest least most (e ∷ es) = Kept highest least most e × AllKept highest least most es
+
+-- "ids 1..14 (one-byte), 1..255 (two-byte), or one id-0 element of whole words", with the lengths of a record to be written: "in the
+-- one-byte profile .. lengths 1 to 16, in the two-byte profile lengths 0 to 255"
+abbrev pub KeptIn : Form → List Element → Type 0
+KeptIn one-byte es = AllKept 14 1 16 es
+KeptIn two-byte es = AllKept 255 0 255 es
+KeptIn other es = (words : List ℕ) × (es ≡ wholeElement words ∷ []) × (length words % 4 ≡ 0)
+
+-- "extensions off with profile 0 and no elements, or .."
+abbrev pub KeptBy : Bool → ℕ → List Element → Type 0
+KeptBy false profile es = (profile ≡ 0) × (es ≡ [])
+KeptBy true profile es = KeptIn (formOf profile) es
+
+abbrev pub ReadsBack : Fields → Type 0
+ReadsBack f = KeptBy (f .extension) (f .profile) (f .elements)
+
+-- the zeros that fill the written block's last word
+unfoldable pub zerosWritten : Fields → ℕ
+zerosWritten f = cond (f .extension) (4 * wordsFor (payloadLength f) - payloadLength f) 0
+
+-- "Fields and elements read back equal; extensions_padding reads back as the zeros written"
+abbrev pub readBack : Fields → Fields
+readBack f =
+    record {
+      version = f .version;
+      padding = f .padding;
+      extension = f .extension;
+      marker = f .marker;
+      type = f .type;
+      number = f .number;
+      time = f .time;
+      source = f .source;
+      csrcs = f .csrcs;
+      profile = f .profile;
+      elements = f .elements;
+      pads = zerosWritten f;
+    }
+
+-- the octets that are written for f are those of a lawful plan that says what reads back
+pub record WrittenAs (f : Fields) : Type 0 where
+  pub plan : Plan
+  pub lawful : Lawful plan
+  pub same : octetsOf f ≡ octets plan
+  pub said : fieldsIn plan ≡ readBack f
+
+-- ---- the other way round
+
+abbrev pub itemsFor : List Element → List Item
+itemsFor [] = []
+itemsFor (e ∷ es) = element (e .id) (e .bytes) ∷ itemsFor es
+
+-- the elements, then z octets of padding
+abbrev pub itemsWith : List Element → ℕ → List Item
+itemsWith es z = itemsFor es ++ replicate z padding
+
+-- an extension as the writer lays one out: padding stands behind the elements, and only where it fills the last word
+abbrev pub Trailing : Option Content → Type 0
+Trailing none = Unit
+Trailing (some (laid form items)) = (es : List Element) × (z : ℕ) × (items ≡ itemsWith es z) × (z < 4)
+Trailing (some (Rfc8285.other profile words)) = Unit

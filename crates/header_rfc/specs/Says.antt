@@ -1,0 +1,139 @@
+-- What a header of RFC 3550 and RFC 8285 says, in the header's own fields, and what it is for a reader to be complete and sound.
+-- Assumes nothing.
+use mathlib.Core.Path.{_≡_}
+use mathlib.Core.Bool.{Bool, true}
+use mathlib.Core.List.{List, [], _∷_, _++_}
+use mathlib.Core.Logic.{_⊎_}
+use mathlib.Core.Option.{Option, none, some}
+use Prim.Native.Nat.{ℕ, suc, _<_, _≤_}
+use lib.ListN.{length}
+use Rattle.error.specs.Said.{Said, says, refuse}
+use Rattle.header.specs.Fields.{Element, Fields, dataOf}
+use Rattle.header.specs.Read.{Reading}
+use Rattle.rfc3550.specs.Rfc3550.{Fixed, Extension, Octets, present}
+use Rattle.rfc3550.specs.Rfc3550 as rtp
+use Rattle.rfc3550.specs.Rfc8285.{Form, one-byte, two-byte, Item, padding, element, Content, laid, other, Plan, Lawful, octets, profileOf, Strays}
+
+-- ---- what a plan says
+
+abbrev pub elementsOf : List Item → List Element
+elementsOf [] = []
+elementsOf (padding ∷ is) = elementsOf is
+elementsOf (element id bytes ∷ is) = record { id = id; bytes = bytes } ∷ elementsOf is
+
+-- how many octets of padding there are, wherever they stand
+abbrev pub padsOf : List Item → ℕ
+padsOf [] = 0
+padsOf (padding ∷ is) = suc (padsOf is)
+padsOf (element id bytes ∷ is) = padsOf is
+
+-- "Other profiles: one element, id 0, the whole block."
+abbrev pub wholeElement : List ℕ → Element
+wholeElement words = record { id = 0; bytes = words }
+
+abbrev pub elementsIn : Option Content → List Element
+elementsIn none = []
+elementsIn (some (laid form items)) = elementsOf items
+elementsIn (some (other profile words)) = wholeElement words ∷ []
+
+abbrev pub padsIn : Option Content → ℕ
+padsIn none = 0
+padsIn (some (laid form items)) = padsOf items
+padsIn (some (other profile words)) = 0
+
+-- without an extension the header's profile field is 0
+abbrev pub profileIn : Option Content → ℕ
+profileIn none = 0
+profileIn (some (laid form items)) = profileOf form
+profileIn (some (other profile words)) = profile
+
+-- the header's fields: those of the fixed header, and what is said of the extension
+unfoldable pub fieldsWith : Fixed → Bool → ℕ → List Element → ℕ → Fields
+fieldsWith f x profile es pads =
+    record {
+      version = f .version;
+      padding = f .padding;
+      extension = x;
+      marker = f .marker;
+      type = f .payload-type;
+      number = f .sequence-number;
+      time = f .timestamp;
+      source = f .ssrc;
+      csrcs = f .csrcs;
+      profile = profile;
+      elements = es;
+      pads = pads;
+    }
+
+abbrev pub fieldsIn : Plan → Fields
+fieldsIn p =
+    fieldsWith (p .fixed) (present (p .content)) (profileIn (p .content)) (elementsIn (p .content)) (padsIn (p .content))
+
+-- the fields, and the payload's place: it is what lies behind the header
+abbrev pub readingOf : Plan → Reading
+readingOf p = record { fields = fieldsIn p; place = length (octets p) }
+
+-- ---- the paper's limits and the crate's deviation
+
+-- "32 extension elements holding 1,024 data bytes in all"
+pub record Within (es : List Element) : Type 0 where
+  pub few : length es ≤ 32
+  pub small : length (dataOf es) ≤ 1024
+
+abbrev pub Over : List Element → Type 0
+Over es = (32 < length es) ⊎ (1024 < length (dataOf es))
+
+-- "Profile 0x1000" is the one profile of the two-byte form that is read as such
+abbrev pub PlainForm : Form → Type 0
+PlainForm one-byte = Unit
+PlainForm (two-byte appbits) = appbits ≡ 0
+
+abbrev pub Plain : Option Content → Type 0
+Plain none = Unit
+Plain (some (laid form items)) = PlainForm form
+Plain (some (other profile words)) = Unit
+
+-- the profiles of the two-byte form that are read as "other profiles"
+pub record AppBits (profile : ℕ) : Type 0 where
+  pub from : 0x1001 ≤ profile
+  pub to : profile ≤ 0x100F
+
+-- "packets up to 65,535 bytes"
+abbrev pub Fits : List ℕ → Type 0
+Fits s = length s ≤ 65535
+
+-- ---- what is asked of a reader
+
+-- every well-formed header within the limits is read as what its plan says; over the limits it is 7
+pub record Complete (read : List ℕ → Said Reading) : Type 0 where
+  pub within : (p : Plan) (payload : List ℕ) → Lawful p → Plain (p .content) → Fits (octets p ++ payload) →
+      Within (elementsIn (p .content)) → read (octets p ++ payload) ≡ says (readingOf p)
+  pub over : (p : Plan) (payload : List ℕ) → Lawful p → Plain (p .content) → Fits (octets p ++ payload) →
+      Over (elementsIn (p .content)) → read (octets p ++ payload) ≡ refuse 7
+
+-- r is what a well-formed header of version 2 in front of s says
+pub record Conforming (s : List ℕ) (r : Reading) : Type 0 where
+  pub plan : Plan
+  pub lawful : Lawful plan
+  pub version : plan .fixed .version ≡ 2
+  pub payload : List ℕ
+  pub same : octets plan ++ payload ≡ s
+  pub said : r ≡ readingOf plan
+
+-- s has a lawful header of version 2, as RFC 3550 has it, in front, with r's fixed fields; but its extension strays from the form that its
+-- profile asks for, or its profile is one of the two-byte form that the crate does not read as such
+pub record Deviating (s : List ℕ) (r : Reading) : Type 0 where
+  pub fixed : Fixed
+  pub extension : Extension
+  pub lawful : rtp.Lawful (record { fixed = fixed; extension = some extension })
+  pub version : fixed .version ≡ 2
+  pub payload : List ℕ
+  pub same : rtp.octets (record { fixed = fixed; extension = some extension }) ++ payload ≡ s
+  pub elements : List Element
+  pub pads : ℕ
+  pub said : r .fields ≡ fieldsWith fixed true (extension .profile) elements pads
+  pub why : Strays extension ⊎ AppBits (extension .profile)
+
+-- whatever is accepted with version 2 is well-formed with those fields, or strays
+abbrev pub Sound : (List ℕ → Said Reading) → Type 0
+Sound read = (s : List ℕ) (r : Reading) → Octets s → read s ≡ says r → r .fields .version ≡ 2 → Conforming s r ⊎ Deviating s r

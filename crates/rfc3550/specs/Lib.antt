@@ -1,0 +1,2 @@
+pub mod Rfc3550
+pub mod Rfc8285
