@@ -1,0 +1,104 @@
+-- "that no second answer satisfies it is proved": each public call's contract is met by one answer, and by no other. For the writer an
+-- answer is the result with the buffer as it is left. Assumes nothing.
+use mathlib.Core.Path.{_≡_, refl, ap}
+use mathlib.Core.Bool.{cond, _&&_}
+use mathlib.Core.List.{List}
+use Prim.Native.Nat.{ℕ, _-_}
+use lib.Dec.{ltb, eqb}
+use lib.ListN.{length, getD}
+use Rattle.error.specs.Refusal.{Refusal}
+use Rattle.error.specs.Said.{Said, says, refused, refuse}
+use Rattle.error.specs.Only.{Determined}
+use Rattle.error.proofs.Inverse.{errorOf, errorOf-refusalOf}
+use Rattle.error.proofs.Only.{by-view}
+use Rattle.header.specs.declared.Header.{Header}
+use Rattle.header.specs.declared.Length.{Length}
+use Rattle.header.specs.Fields.{Fields, fieldsOf, blank, inDomain}
+use Rattle.header.specs.Read.{Form, formOf, Reading, readHeader}
+use Rattle.header.specs.Size.{payloadLength}
+use Rattle.header.specs.Write.{inWritingDomain, judged}
+use Rattle.header.specs.Said.{saidLength, written}
+use Rattle.header.proofs.Only.{Sayable, either, known, passed, length-only, Left, heardLeft, written-only, judged-sayable, read-sayable}
+use Rattle.packet.specs.declared.PacketRead.{PacketRead}
+use Rattle.packet.specs.declared.PacketRead.the-variants as read
+use Rattle.packet.specs.declared.Unmarshalled.{Unmarshalled}
+use Rattle.packet.specs.Read.{Payload, stripped, payloadAt, PacketReading, with-fields, behind, readPacket}
+use Rattle.packet.specs.Write.{packetOctets, packetSize, shortEnough, packetSizeAsked, writePacket}
+use Rattle.packet.specs.Said.{saidRead, Heard, heard, readingHeard}
+
+-- ---- size and writing
+
+pub marshal-size-only : (h : Header) (payload : List ℕ) → Determined (λ (r : Length). saidLength r ≡ packetSizeAsked h payload)
+unfolding packetSizeAsked
+marshal-size-only h payload =
+    length-only (packetSizeAsked h payload)
+    (either {x = says (packetSize (fieldsOf h) payload)} {y = refuse 8} (inDomain h && shortEnough payload) refl refl)
+
+write-sayable : (h : Header) (payload : List ℕ) (room : ℕ) → Sayable (writePacket h payload room)
+unfolding writePacket
+write-sayable h payload room =
+    let form : Form = formOf (h .«extension_profile») in
+    let n : ℕ = payloadLength (fieldsOf h) in
+    let count : ℕ = length (fieldsOf h .elements) in
+    let octets : List ℕ = packetOctets (fieldsOf h) payload in
+    let size : ℕ = packetSize (fieldsOf h) payload in
+    let asked : Said (List ℕ) = cond (h .extension) (judged form n count (says octets)) (says octets) in
+    either {x = cond (ltb room size) (refuse 5) asked} {y = refuse 8} (inWritingDomain h && shortEnough payload)
+    (either {x = refuse 5} {y = asked} (ltb room size) refl (judged-sayable (h .extension) form n count octets)) refl
+
+pub marshal-to-only : (h : Header) (payload buf : List ℕ) →
+    Determined (λ (a : Left). heardLeft a ≡ written buf (writePacket h payload (length buf)))
+marshal-to-only h payload buf =
+    written-only buf (writePacket h payload (length buf)) (write-sayable h payload (length buf))
+
+-- ---- reading
+
+stripped-sayable : (s : List ℕ) (at : ℕ) → Sayable (stripped s at)
+unfolding stripped
+stripped-sayable s at =
+    let left : ℕ = length s - at in
+    let n : ℕ = getD s (length s - 1) 0 in
+    let whole : Said Payload = says (record { place = at; len = left - n }) in
+    either {x = refuse 4} {y = cond (ltb left n) (refuse 4) whole} (eqb left 0) refl
+    (either {x = refuse 4} {y = whole} (ltb left n) refl refl)
+
+payload-sayable : (s : List ℕ) (r : Reading) → Sayable (payloadAt s r)
+payload-sayable s r =
+    either {x = stripped s (r .place)} {y = says (record { place = r .place; len = length s - r .place })} (r .fields .padding)
+    (stripped-sayable s (r .place)) refl
+
+fields-sayable : (f : Fields) (x : Said Payload) → Sayable x → Sayable (with-fields f x)
+fields-sayable f (says p) e = refl
+fields-sayable f (refused r) e = passed {A = Payload} {r = r} e
+
+behind-sayable : (s : List ℕ) (x : Said Reading) → Sayable x → Sayable (behind s x)
+behind-sayable s (says r) e = fields-sayable (r .fields) (payloadAt s r) (payload-sayable s r)
+behind-sayable s (refused r) e = passed {A = Reading} {r = r} e
+
+packet-sayable : (s : List ℕ) → Sayable (readPacket s)
+unfolding readPacket
+packet-sayable s = behind-sayable s (readHeader s) (read-sayable s)
+
+abbrev readOf : Said Payload → PacketRead
+readOf (says p) = read.Payload (p .place) (p .len)
+readOf (refused r) = read.Refused (errorOf r)
+
+readOf-said : (a : PacketRead) → readOf (saidRead a) ≡ a
+readOf-said (read.Payload place len) = refl
+readOf-said (read.Refused e) = ap read.Refused (errorOf-refusalOf e)
+
+abbrev unmarshalledOf : Heard → Unmarshalled
+unmarshalledOf h = record { read = readOf (h .answer); header = h .header }
+
+unmarshalledOf-heard : (a : Unmarshalled) → unmarshalledOf (heard a) ≡ a
+unmarshalledOf-heard a = ap (λ (r : PacketRead). record { read = r; header = a .header }) (readOf-said (a .read))
+
+heard-unmarshalledOf : (x : Said PacketReading) → Sayable x → heard (unmarshalledOf (readingHeard x)) ≡ readingHeard x
+heard-unmarshalledOf (says r) s = refl
+heard-unmarshalledOf (refused r) s =
+    ap (λ (k : Refusal). record { answer = refused k; header = blank }) (known {A = PacketReading} {r = r} s)
+
+pub unmarshal-only : (s : List ℕ) → Determined (λ (r : Unmarshalled). heard r ≡ readingHeard (readPacket s))
+unmarshal-only s =
+    by-view heard unmarshalledOf unmarshalledOf-heard (unmarshalledOf (readingHeard (readPacket s))) (readingHeard (readPacket s))
+    (heard-unmarshalledOf (readPacket s) (packet-sayable s))

@@ -1,0 +1,77 @@
+// Reading a packet.
+ghost use mathlib.Core.Path.{_≡_};
+ghost use Prim.Native.Nat.{_<_, _≤_};
+ghost use lib.ListN.{length};
+ghost use Rattle.error.specs.Refusal.{refusalOf};
+ghost use Rattle.error.specs.Said.{refused};
+ghost use Rattle.packet.specs.Read.{stripped, readPacket};
+ghost use Rattle.packet.specs.Said.{saidRead, heard, readingHeard, passedOn};
+use crate::PacketRead;
+use crate::Unmarshalled;
+use error::Error;
+use header::Header;
+use header::HeaderRead;
+
+fn wide(b: u8) -> usize
+    ensures { λ r. ⌜ (r ≡ b) × (r < 256) ⌝ }
+{
+    b as usize
+}
+
+// The header's refusal is the packet's.
+fn passed_on(read: HeaderRead) -> PacketRead
+    ensures { λ r. ⌜ saidRead r ≡ passedOn read ⌝ }
+{
+    match read {
+        HeaderRead::Payload(_) => PacketRead::Refused(Error::OutsideDomain),
+        HeaderRead::Refused(e) => PacketRead::Refused(e),
+    }
+}
+
+// RFC 3550, section 5.1: "The last octet of the padding contains a count of how many padding octets should be ignored, including
+// itself."
+fn strip(packet: &[u8], at: usize) -> PacketRead
+    requires { ⌜ at ≤ length (now packet) ⌝ }
+    ensures { λ r. ⌜ saidRead r ≡ stripped (now (packet .entry)) at ⌝ }
+{
+    let left = packet.len() - at;
+    if left == 0 {
+        return PacketRead::Refused(Error::ErrShortPacket);
+    }
+    let n = wide(packet[packet.len() - 1]);
+    if left < n {
+        return PacketRead::Refused(Error::ErrShortPacket);
+    }
+    PacketRead::Payload { at, len: left - n }
+}
+
+pub fn unmarshal(packet: &[u8]) -> Unmarshalled
+    ensures { λ r. ⌜ heard r ≡ readingHeard (readPacket (now (packet .entry))) ⌝ }
+{
+    let answer = Header::unmarshal(packet);
+    let read = answer.read;
+    let HeaderRead::Payload(at) = read else {
+        return Unmarshalled {
+            read: passed_on(read),
+            header: Header::default(),
+        };
+    };
+    let header = answer.header;
+    if !header.padding {
+        return Unmarshalled {
+            read: PacketRead::Payload {
+                at,
+                len: packet.len() - at,
+            },
+            header,
+        };
+    }
+    let read = strip(packet, at);
+    let PacketRead::Payload { at: _, len: _ } = read else {
+        return Unmarshalled {
+            read,
+            header: Header::default(),
+        };
+    };
+    Unmarshalled { read, header }
+}
