@@ -1,0 +1,13 @@
+pub mod Stages
+pub mod Header
+pub mod Parts
+pub mod Going
+pub mod Deliver
+pub mod ReadBack
+pub mod Carried
+pub mod Conform
+pub mod Sound
+pub mod Stale
+pub mod Differences
+pub mod Inverse
+pub mod Only

@@ -1,0 +1,17 @@
+-- The words in which the differences from RFC 7741 are stated. Assumes nothing.
+use Prim.Native.Nat.{ℕ, _+_, _*_}
+use Rattle.error.specs.Said.{Said, says, refused}
+use Rattle.vp8.specs.declared.read.Vp8Packet.{Vp8Packet}
+use Rattle.vp8.specs.Read.{putRequired}
+
+-- the extension octet that would send a record's own flags
+abbrev pub flagsOctet : Vp8Packet → ℕ
+flagsOctet p = p .i * 128 + p .l * 64 + p .t * 32 + p .k * 16
+
+abbrev pub withoutX : Vp8Packet → Vp8Packet
+withoutX p = putRequired 0 (p .n) (p .s) (p .pid) p
+
+-- the payload one place further on
+abbrev pub further : Said ℕ → Said ℕ
+further (says at) = says (at + 1)
+further (refused r) = refused r
