@@ -1,0 +1,89 @@
+-- What is sent for a unit is a packetization of it by RFC 6184: of a unit of type 1 to 23 with F clear that goes out, and of one with F
+-- set where it fits alone. Assumes nothing.
+use mathlib.Core.Path.{_≡_, sym, ap, ap₂, subst, _∙_}
+use mathlib.Core.List.{List, [], _∷_, map}
+use mathlib.Core.Bool.{Bool, true, false, _||_, true≢false}
+use Prim.Native.Nat.{ℕ, zero, suc, _-_, _≤_, _<_}
+use native.Mathlib.Decide.{decLe}
+use native.Mathlib.Omega.{arith}
+use lib.Dec.{eqb, leb}
+use lib.ListN.{length, replicate}
+use borrow.Author.Tests.{lt-leb}
+use Rattle.rfc6184.specs.Sending.{Each, Nal, UnitType, Packetization}
+use Rattle.rfc6184.proofs.Each.{each-append}
+use Rattle.h264.specs.Search.{endsCode, zerosBy}
+use Rattle.h264.specs.Units.{Cut, cut, cutBy, units, unitsOfCut}
+use Rattle.h264.specs.Groups.{fragmentsOf, unitFor, packetsOf}
+use Rattle.h264.specs.Conformance.{Octets, nal, sendingOf, cleared, nalsOfAll, Regular}
+use Rattle.h264.proofs.Sizes.{unit-alone, unit-divided}
+use Rattle.h264.proofs.Parts.{unit-rebuilt}
+use Rattle.h264.proofs.Fits.{unit-sendable}
+use Rattle.h264.proofs.Conforms.{unit-headed, all-laid, all-units, all-lawful}
+
+module _ (mtu : ℕ) (small : mtu ≤ 65535) (u : List ℕ) (some : 0 < length u) (o : Octets u) (t : UnitType (nal u .type)) where
+  sent-as : (n : Nal) → Each Regular (unitFor mtu u) → nalsOfAll (unitFor mtu u) ≡ n ∷ [] → Packetization (packetsOf (unitFor mtu u)) (n ∷ [])
+  sent-as n r e =
+      record {
+        sendings = map sendingOf (unitFor mtu u);
+        lawful = all-lawful mtu small (unitFor mtu u) (unit-sendable mtu u some) (unit-headed mtu u o) r;
+        payloads = all-laid mtu small (unitFor mtu u) (unit-sendable mtu u some) (unit-headed mtu u o);
+        units = sym e ∙ all-units mtu small (unitFor mtu u);
+      }
+
+  -- alone, with whatever F it has
+  pub alone-packetized : length u ≤ mtu → Packetization (packetsOf (unitFor mtu u)) (nal u ∷ [])
+  alone-packetized h =
+      sent-as (nal u) (subst (Each Regular) (sym (unit-alone mtu u h)) (t, tt)) (ap nalsOfAll (unit-alone mtu u h))
+
+  -- in fragments, with F cleared
+  pub divided-packetized : 3 ≤ mtu → mtu < length u → Packetization (packetsOf (unitFor mtu u)) (cleared (nal u) ∷ [])
+  divided-packetized g h =
+      sent-as (cleared (nal u)) (subst (Each Regular) (sym (unit-divided mtu u h g)) (regular u t h))
+      (ap nalsOfAll (unit-divided mtu u h g) ∙ carried u h)
+    where
+      regular : (x : List ℕ) → UnitType (nal x .type) → mtu < length x → Each Regular (fragmentsOf (mtu - 2) x)
+      regular [] q l = tt
+      regular (b ∷ s) q l = (q, tt)
+
+      carried : (x : List ℕ) → mtu < length x → nalsOfAll (fragmentsOf (mtu - 2) x) ≡ cleared (nal x) ∷ []
+      carried [] l = absurd (omega arith)
+      carried (b ∷ s) l =
+          ap (λ (y : List ℕ). cleared (nal y) ∷ []) (unit-rebuilt (mtu - 2) b s (omega arith) (omega arith))
+
+  -- a unit with F clear, either way
+  pub unit-packetized : nal u .f ≡ 0 → (leb (length u) mtu || leb 3 mtu) ≡ true → Packetization (packetsOf (unitFor mtu u)) (nal u ∷ [])
+  unit-packetized f e = go (decLe (length u) mtu) (decLe 3 mtu)
+    where
+      same : cleared (nal u) ≡ nal u
+      same = ap (λ (x : ℕ). record { f = x; nri = nal u .nri; type = nal u .type; payload = nal u .payload }) (sym f)
+
+      go : Dec (length u ≤ mtu) → Dec (3 ≤ mtu) → Packetization (packetsOf (unitFor mtu u)) (nal u ∷ [])
+      go (yes h) d = alone-packetized h
+      go (no h) (yes g) =
+          subst (λ (n : Nal). Packetization (packetsOf (unitFor mtu u)) (n ∷ [])) same (divided-packetized g (omega arith))
+      go (no h) (no g) =
+          absurd (true≢false (sym e ∙ ap₂ (λ (x y : Bool). x || y) (lt-leb (length u) mtu (omega arith)) (lt-leb 3 mtu (omega arith))))
+
+-- ---- the units of a frame of octets are octets
+
+zeros : (n : ℕ) → Octets (replicate n 0)
+zeros zero = tt
+zeros (suc n) = (omega arith, zeros n)
+
+cut-octets : (s : List ℕ) (z : ℕ) → Octets s → Octets (cut s z .before) × Each Octets (cut s z .behind)
+cut-octets [] z o = (zeros z, tt)
+cut-octets (b ∷ s) z o = go (eqb b 0) (endsCode b z) (cut s (zerosBy (eqb b 0) z)) (cut-octets s (zerosBy (eqb b 0) z) (o .1))
+  where
+    go : (isZero isCode : Bool) (c : Cut) → Octets (c .before) × Each Octets (c .behind) →
+        Octets (cutBy isZero isCode b z c .before) × Each Octets (cutBy isZero isCode b z c .behind)
+    go true isCode c w = w
+    go false true c w = (tt, (w .0, w .1))
+    go false false c w = (each-append (λ (x : ℕ). x < 256) (replicate z 0) (b ∷ c .before) (zeros z) (o .0, w .0), w .1)
+
+pub units-octets : (frame : List ℕ) → Octets frame → Each Octets (units frame)
+unfolding units
+units-octets frame o = go (cut frame 0 .before) (cut frame 0 .behind) (cut-octets frame 0 o)
+  where
+    go : (before : List ℕ) (behind : List (List ℕ)) → Octets before × Each Octets behind → Each Octets (unitsOfCut before behind)
+    go before [] w = (w .0, tt)
+    go before (u ∷ us) w = w .1

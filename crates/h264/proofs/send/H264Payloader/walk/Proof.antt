@@ -1,0 +1,115 @@
+-- A turn sends the piece at hand and goes on behind the start code that follows it.
+use mathlib.Core.Path.{_≡_, refl, _∙_}
+use Prim.Native.Nat.{_-_, _≤_}
+use native.Mathlib.Omega.{arith}
+use lib.ListN.{length, drop}
+use borrow.Author.Tests.{not-true, not-false}
+use Rattle.wire.specs.Packets.{putAll}
+use Rattle.h264.specs.Units.{pieces, units}
+use Rattle.h264.specs.Groups.{keepAll, groupsOf, packetsOf}
+use Rattle.h264.specs.Payload.{savedIn}
+use Rattle.h264.specs.Step.{sinkAt}
+use Rattle.h264.proofs.Pieces.{piece-onward}
+use Rattle.h264.proofs.Walks.{Leads, leads-first, piece-ready, walk-on, walk-end}
+use borrow.Author.Needs.{needs}
+use Rattle.h264.proofs.send.H264Payloader.walk.Statement.{statement}
+use Rattle.h264.proofs.send.H264Payloader.walk.Tie as tie
+
+abbrev Inv-loop : tie.InvT-loop
+Inv-loop mtu frame out₀ ends₀ start₀ e₀ out ends start e =
+    (start ≤ length frame)
+    × Leads mtu (keepAll (savedIn (e₀ .sender)) (units frame))
+    (putAll (sinkAt out₀ ends₀ (e₀ .place)) (packetsOf (groupsOf mtu (savedIn (e₀ .sender)) (units frame)))) (pieces (drop start frame))
+    (e .sender)
+    (sinkAt out ends (e .place))
+    × (length out ≡ length out₀)
+    × (length ends ≡ length ends₀)
+
+abbrev μ-loop : tie.MeasureT-loop
+μ-loop mtu frame out₀ ends₀ start₀ e₀ out ends start e = length frame - start
+
+loop-holds : tie.Need-loop-holds Inv-loop μ-loop
+loop-holds c =
+    let start = c .before .before .before .before in (
+      c .first-unit .ensures .0,
+      leads-first (start .args .mtu) _ (units (start .args .frame .now)) (c .first-unit .ensures .1) (start .args .self) _
+          (start .pre .0 .0)
+          (start .pre .0 .1) (start .pre .1),
+      refl,
+      refl,
+    )
+
+unit-at-requires : tie.Need-unit-at-requires Inv-loop μ-loop
+unit-at-requires c κs = c .loop .inv .0
+
+emit-requires : tie.Need-emit-requires Inv-loop μ-loop
+emit-requires c κs =
+    let frame = c .before .before .before .before .before .before .before .before .before .before .before .args .frame .now in
+    let at-head = c .before .before .before .before .before .before .loop in
+    let s = sinkAt (at-head .out) (at-head .ends) (at-head .e .place) in
+    let piece = c .before .before .before .before .before .unit-at in
+    piece-ready _ _ _ frame (at-head .start) (at-head .e .sender) s (at-head .inv .1) (piece .result) (piece .ensures)
+
+loop-less : tie.Need-loop-less Inv-loop μ-loop
+loop-less c =
+    let piece = c .before .before .before .before .before .before .before .before .before .before .before .before .unit-at in
+    let onward = piece-onward
+    (c .before .before .before .before .before .before .before .before .before .before .before .before .before .before .before .before .before .before .args .frame .now)
+    (c .before .before .before .before .before .before .before .before .before .before .before .before .before .loop .start)
+    (piece .result) (piece .ensures) (not-false _ (c .if1 .left)) in
+    omega (arith, onward, piece .ensures .from, piece .ensures .within)
+
+loop-again : tie.Need-loop-again Inv-loop μ-loop
+loop-again c =
+    let frame
+    = c .before .before .before .before .before .before .before .before .before .before .before .before .before .before .before .before .before .before .args .frame .now
+    in
+    let at-head = c .before .before .before .before .before .before .before .before .before .before .before .before .before .loop in
+    let s = sinkAt (at-head .out) (at-head .ends) (at-head .e .place) in
+    let piece = c .before .before .before .before .before .before .before .before .before .before .before .before .unit-at in
+    let sent = c .before .before .before .before .before .before .emit in (
+      piece .ensures .within,
+      walk-on _ _ _ frame (at-head .start) (at-head .e .sender) s (at-head .inv .1) (piece .result) (piece .ensures) _ _
+          (sent .ensures) (not-false _ (c .if1 .left)),
+      sent .kept .1 .1 .1 .0 ∙ at-head .inv .2,
+      sent .kept .1 .1 .1 .1 .0 ∙ at-head .inv .3,
+    )
+
+same-length : tie.Need-same-length Inv-loop μ-loop
+same-length c = c .before .before .before .before .before .before .emit .kept .1 .1 .1 .0
+    ∙ c .before .before .before .before .before .before .before .before .before .before .before .before .before .loop .inv .2
+
+same-length-2 : tie.Need-same-length-2 Inv-loop μ-loop
+same-length-2 c = c .before .before .before .before .before .before .emit .kept .1 .1 .1 .1 .0
+    ∙ c .before .before .before .before .before .before .before .before .before .before .before .before .before .loop .inv .3
+
+returns : tie.Need-returns Inv-loop μ-loop
+returns c =
+    let frame
+    = c .before .before .before .before .before .before .before .before .before .before .before .before .before .before .before .before .before .before .args .frame .now
+    in
+    let at-head = c .before .before .before .before .before .before .before .before .before .before .before .before .before .loop in
+    let s = sinkAt (at-head .out) (at-head .ends) (at-head .e .place) in
+    let piece = c .before .before .before .before .before .before .before .before .before .before .before .before .unit-at in
+    let ended = walk-end _ _ _ frame (at-head .start) (at-head .e .sender) s (at-head .inv .1) (piece .result) (piece .ensures) _ _
+    (c .before .before .before .before .before .before .emit .ensures) (not-true _ (c .if1 .taken)) in
+    record { state = ended .0; put = ended .1 }
+
+pub walk-spec : {M : Type 1} → statement M
+walk-spec =
+    tie.close
+    (tie.spec
+    Inv-loop
+    μ-loop
+    (λ c κs. search needs)
+    loop-holds
+    unit-at-requires
+    (λ c. search needs)
+    (λ c. search needs)
+    (λ c. search needs)
+    emit-requires
+    loop-less
+    loop-again
+    same-length
+    same-length-2
+    returns)

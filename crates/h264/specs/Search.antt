@@ -1,0 +1,27 @@
+-- "A start code is two or more zeros and a 1." Assumes nothing.
+use mathlib.Core.List.{List, [], _∷_}
+use mathlib.Core.Bool.{Bool, true, false, cond, _&&_}
+use Prim.Native.Nat.{ℕ, _+_, _-_}
+use lib.Dec.{eqb, leb}
+use lib.ListN.{drop}
+use Rattle.h264.specs.declared.search.Found.{Found}
+use Rattle.h264.specs.declared.search.Found.the-variants.{At, Nothing}
+
+-- how many zeros stand in a row up to a byte, that byte included, where `zeros` stood before it
+abbrev pub zerosBy : Bool → ℕ → ℕ
+zerosBy true zeros = zeros + 1
+zerosBy false zeros = 0
+
+-- a byte b ends a start code
+abbrev pub endsCode : ℕ → ℕ → Bool
+endsCode b zeros = eqb b 1 && leb 2 zeros
+
+-- the first start code that ends in s, where s stands at the place `at` and `zeros` zeros stand before it
+abbrev pub scan : List ℕ → ℕ → ℕ → Found
+scan [] at zeros = Nothing
+scan (b ∷ s) at zeros =
+    cond (endsCode b zeros) (At (at - zeros) (zeros + 1)) (scan s (at + 1) (zerosBy (eqb b 0) zeros))
+
+-- "The search yields the place and length of the first start code, all its zeros included": from the place `start` on
+unfoldable pub nextCode : List ℕ → ℕ → Found
+nextCode frame start = scan (drop start frame) start 0

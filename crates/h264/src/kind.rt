@@ -1,0 +1,56 @@
+// What is to be done with a unit, by its first byte.
+//
+// +---------------+
+// |0|1|2|3|4|5|6|7|
+// +-+-+-+-+-+-+-+-+
+// |F|NRI|  Type   |
+// +---------------+
+ghost use mathlib.Core.Path.{_≡_};
+ghost use mathlib.Core.Bool.{_&&_};
+ghost use lib.Dec.{ltb};
+ghost use Rattle.h264.specs.Groups.{kindOf};
+
+pub const SPS_NALU_TYPE: u8 = 7;
+
+pub const PPS_NALU_TYPE: u8 = 8;
+
+pub const AUD_NALU_TYPE: u8 = 9;
+
+pub const FILLER_NALU_TYPE: u8 = 12;
+
+pub enum Kind {
+    // no byte
+    Empty,
+    // an access unit delimiter or filler data: not sent
+    Dropped,
+    // a sequence parameter set: saved
+    Sps,
+    // a picture parameter set: saved
+    Pps,
+    // any other: sent
+    Coded,
+}
+
+pub(crate) fn kind_of(unit: &[u8]) -> Kind
+    ensures { λ r. ⌜ r ≡ kindOf (now (unit .entry)) ⌝ }
+{
+    if unit.len() == 0 {
+        return Kind::Empty;
+    }
+    match unit[0] % 32 {
+        AUD_NALU_TYPE | FILLER_NALU_TYPE => Kind::Dropped,
+        SPS_NALU_TYPE => Kind::Sps,
+        PPS_NALU_TYPE => Kind::Pps,
+        _ => Kind::Coded,
+    }
+}
+
+// Both parameter sets wait, by their lengths.
+pub(crate) fn both(sps: usize, pps: usize) -> bool
+    ensures { λ r. ⌜ r ≡ (ltb 0 sps && ltb 0 pps) ⌝ }
+{
+    if sps == 0 {
+        return false;
+    }
+    0 < pps
+}

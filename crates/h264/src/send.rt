@@ -1,0 +1,307 @@
+// RTP payloads of H.264 frames: `H264Payloader` of the Rust.
+//
+// The state goes in by value and comes back beside the answer. What is sent goes into one output, packet behind packet, and
+// their ends into a table.
+ghost use mathlib.Core.Path.{_≡_};
+ghost use mathlib.Core.Bool.{false, _||_};
+ghost use Prim.Native.Nat.{_≤_};
+ghost use lib.Dec.{ltb};
+ghost use lib.ListN.{length, take};
+ghost use Rattle.wire.specs.Packets.{Room, putAll};
+ghost use Rattle.h264.specs.Units.{units, noUnits};
+ghost use Rattle.h264.specs.Groups.{nothingSaved, forgotten, keep, keepAll, pairFor, groupsFor, groupsOf, packetsOf};
+ghost use Rattle.h264.specs.Payload.{setOut, layOut, savedIn, overLimit, emptySink, left, payloadOf};
+ghost use Rattle.h264.specs.Step.{sinkAt, Tidy, Ready, Done};
+use crate::kind::Kind;
+use crate::kind::both;
+use crate::kind::kind_of;
+use crate::measure::Measure;
+use crate::measure::measure_frame;
+use crate::put::Place;
+use crate::put::put_pair;
+use crate::put::put_unit;
+use crate::search::first_unit;
+use crate::search::unit_at;
+use error::Error;
+
+// A parameter set that waits to be sent.
+pub struct ParameterSet {
+    // its bytes, zeros behind them
+    pub bytes: [u8; 1024],
+    // how many they are, 0 to 1,024; 0 for none
+    pub len: usize,
+}
+
+impl ParameterSet {
+    fn of(set: &[u8]) -> ParameterSet
+        requires { ⌜ length (now set) ≤ 1024 ⌝ }
+        ensures { λ r. ⌜ r ≡ setOut (now (set .entry)) ⌝ }
+    {
+        let mut bytes = [0u8; 1024];
+        wire::copy_at(set, &mut bytes, 0);
+        ParameterSet {
+            bytes,
+            len: set.len(),
+        }
+    }
+
+    // Zeros behind its bytes.
+    fn tidy(self) -> ParameterSet
+        requires { ⌜ self .len ≤ 1024 ⌝ }
+        ensures { λ r. ⌜ r ≡ setOut (take (self .len) (self .bytes)) ⌝ }
+    {
+        let bytes = self.bytes;
+        let len = self.len;
+        ParameterSet::of(&bytes[0..len])
+    }
+}
+
+pub struct H264Payloader {
+    // the sequence parameter set that waits for a picture parameter set or for a unit to be sent before
+    pub sps: ParameterSet,
+    // the picture parameter set, likewise
+    pub pps: ParameterSet,
+}
+
+// What the step that sends one unit leaves.
+pub struct Emitted {
+    pub sender: H264Payloader,
+    // how far output and table are written
+    pub place: Place,
+}
+
+impl H264Payloader {
+    // A sender with nothing saved.
+    pub fn new() -> H264Payloader
+        ensures { λ r. ⌜ r ≡ layOut nothingSaved ⌝ }
+    {
+        H264Payloader {
+            sps: ParameterSet {
+                bytes: [0u8; 1024],
+                len: 0,
+            },
+            pps: ParameterSet {
+                bytes: [0u8; 1024],
+                len: 0,
+            },
+        }
+    }
+
+    // The pair is forgotten where both sets wait.
+    fn forget(self) -> H264Payloader
+        requires { ⌜ Tidy self ⌝ }
+        ensures { λ r. ⌜ r ≡ layOut (forgotten (savedIn self)) ⌝ }
+    {
+        if both(self.sps.len, self.pps.len) {
+            return H264Payloader::new();
+        }
+        self
+    }
+
+    // The pair in a STAP-A, where both sets wait and that fits the mtu.
+    fn put_waiting(self, mtu: usize, out: &mut [u8], ends: &mut [usize], to: Place) -> Place
+        requires { ⌜ Tidy self × Room (sinkAt (now out) (now ends) to) (packetsOf (pairFor mtu (savedIn self))) ⌝ }
+        ensures { λ r. ⌜ sinkAt (now (out .exit)) (now (ends .exit)) r ≡
+            putAll (sinkAt (now (out .entry)) (now (ends .entry)) to) (packetsOf (pairFor mtu (savedIn self))) ⌝ }
+    {
+        let sps = self.sps;
+        let pps = self.pps;
+        let sps_len = sps.len;
+        let pps_len = pps.len;
+        if !both(sps_len, pps_len) {
+            return to;
+        }
+        if mtu < 5 + sps_len + pps_len {
+            return to;
+        }
+        let sps_bytes = sps.bytes;
+        let pps_bytes = pps.bytes;
+        put_pair(
+            &sps_bytes[0..sps_len],
+            &pps_bytes[0..pps_len],
+            out,
+            ends,
+            to,
+        )
+    }
+
+    // Sends one unit: drops or saves it, or writes it behind the pair that waits.
+    pub(crate) fn emit(
+        self,
+        mtu: usize,
+        unit: &[u8],
+        out: &mut [u8],
+        ends: &mut [usize],
+        to: Place,
+    ) -> Emitted
+        requires { ⌜ Ready self mtu (now unit) (sinkAt (now out) (now ends) to) ⌝ }
+        ensures { λ r. ⌜ Done (keep (savedIn self) (now (unit .entry))) (groupsFor mtu (savedIn self) (now (unit .entry)))
+            (sinkAt (now (out .entry)) (now (ends .entry)) to) (r .sender) (sinkAt (now (out .exit)) (now (ends .exit)) (r .place)) ⌝ }
+    {
+        let sps = self.sps;
+        let pps = self.pps;
+        match kind_of(unit) {
+            Kind::Empty => Emitted {
+                sender: self,
+                place: to,
+            },
+            Kind::Dropped => Emitted {
+                sender: self,
+                place: to,
+            },
+            Kind::Sps => Emitted {
+                sender: H264Payloader {
+                    sps: ParameterSet::of(unit),
+                    pps,
+                },
+                place: to,
+            },
+            Kind::Pps => Emitted {
+                sender: H264Payloader {
+                    sps,
+                    pps: ParameterSet::of(unit),
+                },
+                place: to,
+            },
+            Kind::Coded => {
+                let behind = self.put_waiting(mtu, out, ends, to);
+                Emitted {
+                    sender: self.forget(),
+                    place: put_unit(mtu, unit, out, ends, behind),
+                }
+            }
+        }
+    }
+
+    // Sends all units of a frame.
+    fn walk(self, mtu: usize, frame: &[u8], out: &mut [u8], ends: &mut [usize]) -> Emitted
+        requires { ⌜ Tidy self × (overLimit (units (now frame)) ≡ false) ⌝ }
+        requires { ⌜ Room (emptySink (now out) (now ends)) (packetsOf (groupsOf mtu (savedIn self) (units (now frame)))) ⌝ }
+        ensures { λ r. ⌜ Done (keepAll (savedIn self) (units (now (frame .entry)))) (groupsOf mtu (savedIn self) (units (now (frame .entry))))
+            (emptySink (now (out .entry)) (now (ends .entry))) (r .sender) (sinkAt (now (out .exit)) (now (ends .exit)) (r .place)) ⌝ }
+    {
+        let mut start = first_unit(frame);
+        let mut e = Emitted {
+            sender: self,
+            place: Place { at: 0, n: 0 },
+        };
+        loop {
+            let piece = unit_at(frame, start);
+            let end = piece.end;
+            let sender = e.sender;
+            let place = e.place;
+            e = sender.emit(mtu, &frame[start..end], out, ends, place);
+            if !piece.more {
+                break e;
+            }
+            start = piece.next;
+        }
+    }
+
+    // Zeros behind the sets' bytes.
+    fn tidy(self) -> H264Payloader
+        requires { ⌜ (self .sps .len ≤ 1024) × (self .pps .len ≤ 1024) ⌝ }
+        ensures { λ r. ⌜ r ≡ layOut (savedIn self) ⌝ }
+    {
+        let sps = self.sps;
+        let pps = self.pps;
+        H264Payloader {
+            sps: sps.tidy(),
+            pps: pps.tidy(),
+        }
+    }
+
+    // The payloads of a frame, each of at most mtu bytes.
+    pub fn payload(self, mtu: usize, frame: &[u8], out: &mut [u8], ends: &mut [usize]) -> Sent
+        ensures { λ r. ⌜ left r (now (out .exit)) (now (ends .exit)) ≡
+            payloadOf self mtu (now (frame .entry)) (now (out .entry)) (now (ends .entry)) ⌝ }
+    {
+        if is_outside(self.sps.len, self.pps.len, mtu, frame.len()) {
+            return Sent {
+                sender: self,
+                answer: Payloads::Refused(Error::OutsideDomain),
+            };
+        }
+        let sender = self.tidy();
+        if is_nothing(mtu, frame.len()) {
+            return Sent {
+                sender,
+                answer: Payloads::Written {
+                    packets: 0,
+                    bytes: 0,
+                },
+            };
+        }
+        let m = measure_frame(frame, mtu, sender.sps.len, sender.pps.len);
+        if m.long {
+            return Sent {
+                sender: self,
+                answer: Payloads::Refused(Error::OverLimits),
+            };
+        }
+        if is_too_small(m, out.len(), ends.len()) {
+            return Sent {
+                sender: self,
+                answer: Payloads::Refused(Error::ErrBufferTooSmall),
+            };
+        }
+        let sent = sender.walk(mtu, frame, out, ends);
+        let place = sent.place;
+        let after = sent.sender;
+        Sent {
+            sender: after,
+            answer: Payloads::Written {
+                packets: place.n,
+                bytes: place.at,
+            },
+        }
+    }
+}
+
+pub enum Payloads {
+    // how many packets, and how many bytes they have together
+    Written { packets: usize, bytes: usize },
+    Refused(Error),
+}
+
+// An answer, beside the state after it.
+pub struct Sent {
+    pub sender: H264Payloader,
+    pub answer: Payloads,
+}
+
+// The record, the mtu or the frame is outside the domain.
+fn is_outside(sps: usize, pps: usize, mtu: usize, frame: usize) -> bool
+    ensures { λ r. ⌜ r ≡ (ltb 1024 sps || (ltb 1024 pps || (ltb 65535 mtu || ltb 16777216 frame))) ⌝ }
+{
+    if 1024 < sps {
+        return true;
+    }
+    if 1024 < pps {
+        return true;
+    }
+    if 65535 < mtu {
+        return true;
+    }
+    16777216 < frame
+}
+
+// No unit of the frame counts.
+fn is_nothing(mtu: usize, frame: usize) -> bool
+    ensures { λ r. ⌜ r ≡ noUnits mtu frame ⌝ }
+{
+    if frame == 0 {
+        return true;
+    }
+    mtu == 0
+}
+
+// What is measured does not fit output and table.
+fn is_too_small(m: Measure, out: usize, ends: usize) -> bool
+    ensures { λ r. ⌜ r ≡ (ltb out (m .bytes) || ltb ends (m .packets)) ⌝ }
+{
+    if out < m.bytes {
+        return true;
+    }
+    ends < m.packets
+}
