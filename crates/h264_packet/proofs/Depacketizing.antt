@@ -1,0 +1,47 @@
+-- How the reader's definitions go on, from the facts that the code tests. Assumes nothing.
+use mathlib.Core.Path.{_≡_, refl, sym, ap, subst, _∙_}
+use mathlib.Core.Bool.{Bool, true, false, cond, or-true}
+use mathlib.Core.List.{List}
+use mathlib.Core.Logic.{_⊎_, inl, inr}
+use Prim.Native.Nat.{ℕ, _≤_, _<_}
+use native.Mathlib.Omega.{arith}
+use lib.Dec.{ltb, eqb}
+use lib.ListN.{length, take}
+use lib.Seq.{length-take-le}
+use borrow.Author.Tests.{lt-ltb, le-ltb, eqb-true}
+use Rattle.error.specs.Said.{Said, refuse}
+use Rattle.nal.specs.Fed.{Run, none, gathering, gathered, Laid}
+use Rattle.nal.specs.Ran.{RanOn, layRun}
+use Rattle.h264_packet.specs.Depacketize.{runOf, outside, readPayload, depacketized}
+
+-- the run that n bytes stand for is those bytes
+pub gathered-run : (n : ℕ) (gather : List ℕ) → gathered (runOf n gather) ≡ take n gather
+gathered-run n gather = go (eqb n 0) refl
+  where
+    go : (b : Bool) → eqb n 0 ≡ b → gathered (runOf n gather) ≡ take n gather
+    go true e =
+        ap (λ (b : Bool). gathered (cond b none (gathering (take n gather)))) e
+        ∙ sym (ap (λ (k : ℕ). take k gather) (eqb-true n 0 e))
+    go false e = ap (λ (b : Bool). gathered (cond b none (gathering (take n gather)))) e
+
+pub length-run : (n : ℕ) (gather : List ℕ) → n ≤ length gather → length (gathered (runOf n gather)) ≡ n
+length-run n gather h = ap length (gathered-run n gather) ∙ length-take-le n gather h
+
+module _ (avc : Bool) (n : ℕ) (payload gather out : List ℕ) where
+  pub read-outside : (65535 < length payload) ⊎ ((length gather < n) ⊎ (16777215 < n)) →
+      depacketized avc n payload gather out ≡ record { answer = refuse 8; gather = gather; out = out }
+  unfolding depacketized
+  read-outside h =
+      ap (λ (b : Bool). cond b (record { answer = refuse 8; gather = gather; out = out }) (layRun avc gather out (readPayload (runOf n gather) payload)))
+      (far h)
+    where
+      far : (65535 < length payload) ⊎ ((length gather < n) ⊎ (16777215 < n)) → outside n payload gather ≡ true
+      far (inl h) = rw (lt-ltb 65535 (length payload) h)
+      far (inr (inl h)) = rw (lt-ltb (length gather) n h) (or-true (ltb 65535 (length payload)))
+      far (inr (inr h)) =
+          rw (lt-ltb 16777215 n h, or-true (ltb (length gather) n)) (or-true (ltb 65535 (length payload)))
+
+  pub read-inside : length payload ≤ 65535 → n ≤ length gather → n ≤ 16777215 →
+      depacketized avc n payload gather out ≡ layRun avc gather out (readPayload (runOf n gather) payload)
+  unfolding depacketized
+  read-inside h g k = rw (le-ltb 65535 (length payload) h, le-ltb (length gather) n g, le-ltb 16777215 n k)

@@ -1,0 +1,2 @@
+pub mod Depacketize
+pub mod Said

@@ -1,0 +1,124 @@
+// Reading a payload.
+ghost use mathlib.Core.Path.{_≡_};
+ghost use mathlib.Core.List.{_++_};
+ghost use Prim.Native.Nat.{_≤_};
+ghost use lib.ListN.{length, take, drop};
+ghost use Rattle.error.specs.Refusal.{refusalOf};
+ghost use Rattle.error.specs.Said.{says, refused};
+ghost use Rattle.nal.specs.Said.{shapeSaid};
+ghost use Rattle.nal.specs.Ran.{ranHeard, layRun};
+ghost use Rattle.h264_packet.specs.Depacketize.{gatheredOn, runOf, readPayload, depacketized, shownOf};
+ghost use Rattle.h264_packet.specs.Said.{saidShown, saidDepacketize, heard, depacketizedHeard};
+ghost use Rattle.h264_packet.specs.Depacketize.{nowhere};
+use crate::Depacketize;
+use crate::Depacketized;
+use crate::H264Packet;
+use crate::Shown;
+use error::Error;
+use nal::Kind;
+use nal::Ran;
+
+// A fragment behind the `run` bytes gathered before it, regardless of the start bit.
+fn read_fragment(
+    avc: bool,
+    run: usize,
+    last: bool,
+    head: u8,
+    payload: &[u8],
+    gather: &mut [u8],
+    out: &mut [u8],
+) -> Ran
+    requires { ⌜ (3 ≤ length (now payload)) × (length (now payload) ≤ 65535) × (run ≤ length (now gather)) ⌝ }
+    ensures { λ r. ⌜ ranHeard r (now (gather .exit)) (now (out .exit)) ≡ layRun avc (now (gather .entry)) (now (out .entry)) (says (gatheredOn (take run (now (gather .entry)) ++ drop 2 (now (payload .entry))) last head)) ⌝ }
+{
+    if last {
+        return nal::with_run(nal::finish(payload, run, head, avc, gather, out), 0);
+    }
+    nal::with_run(
+        nal::gather_on(payload, run, gather),
+        run + (payload.len() - 2),
+    )
+}
+
+fn read_payload(avc: bool, run: usize, payload: &[u8], gather: &mut [u8], out: &mut [u8]) -> Ran
+    requires { ⌜ (length (now payload) ≤ 65535) × (run ≤ length (now gather)) × (run ≤ 16777215) ⌝ }
+    ensures { λ r. ⌜ ranHeard r (now (gather .exit)) (now (out .exit)) ≡ layRun avc (now (gather .entry)) (now (out .entry)) (readPayload (runOf run (now (gather .entry))) (now (payload .entry))) ⌝ }
+{
+    let kind = nal::kind_of(payload);
+    match kind {
+        Kind::Short => Ran::Refused(Error::ErrShortPacket),
+        Kind::Unknown(t) => Ran::Refused(Error::NaluTypeIsNotHandled(t)),
+        Kind::Plain => nal::run_plain(payload, avc, run, out),
+        Kind::Aggregate => nal::run_units(payload, avc, run, out),
+        Kind::Fragment {
+            first: _,
+            last,
+            head,
+        } => read_fragment(avc, run, last, head, payload, gather, out),
+    }
+}
+
+// What shows the body of the unit that a payload completes.
+fn shown_by(kind: Kind, run: usize, len: usize) -> Shown
+    requires { ⌜ (len ≤ 65535) × (run ≤ 16777215) ⌝ }
+    ensures { λ r. ⌜ saidShown r ≡ shownOf (shapeSaid kind) run len ⌝ }
+{
+    match kind {
+        Kind::Short => Shown::Nowhere,
+        Kind::Unknown(_) => Shown::Nowhere,
+        Kind::Plain => Shown::Packet,
+        Kind::Aggregate => Shown::Nowhere,
+        Kind::Fragment {
+            first: _,
+            last,
+            head: _,
+        } => {
+            if last {
+                if len < 2 {
+                    return Shown::Gather(run);
+                }
+                return Shown::Gather(run + (len - 2));
+            }
+            Shown::Nowhere
+        }
+    }
+}
+
+impl H264Packet {
+    fn refused(self, e: Error) -> Depacketized
+        ensures { λ r. ⌜ (r .packet ≡ self) × (saidDepacketize (r .answer) ≡ refused (refusalOf e)) × (saidShown (r .shown) ≡ nowhere) ⌝ }
+    {
+        Depacketized {
+            packet: self,
+            answer: Depacketize::Refused(e),
+            shown: Shown::Nowhere,
+        }
+    }
+
+    pub fn depacketize(self, payload: &[u8], gather: &mut [u8], out: &mut [u8]) -> Depacketized
+        ensures { λ r. ⌜ heard r (now (gather .exit)) (now (out .exit)) ≡ depacketizedHeard self (now (payload .entry)) (depacketized (self .«is_avc») (self .gathered) (now (payload .entry)) (now (gather .entry)) (now (out .entry))) ⌝ }
+    {
+        let run = self.gathered;
+        if 65535 < payload.len() {
+            return self.refused(Error::OutsideDomain);
+        }
+        if gather.len() < run {
+            return self.refused(Error::OutsideDomain);
+        }
+        if 16777215 < run {
+            return self.refused(Error::OutsideDomain);
+        }
+        let ran = read_payload(self.is_avc, run, payload, gather, out);
+        match ran {
+            Ran::On { gathered, bytes } => Depacketized {
+                packet: H264Packet {
+                    is_avc: self.is_avc,
+                    gathered,
+                },
+                answer: Depacketize::Bytes(bytes),
+                shown: shown_by(nal::kind_of(payload), run, payload.len()),
+            },
+            Ran::Refused(e) => self.refused(e),
+        }
+    }
+}
