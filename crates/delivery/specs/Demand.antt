@@ -1,0 +1,92 @@
+-- Demand 3: its premises, in the paper's words, and what follows. Assumes nothing.
+use mathlib.Core.Path.{_≡_}
+use mathlib.Core.Bool.{Bool, true, false}
+use mathlib.Core.List.{List, [], _∷_, map}
+use Prim.Native.Nat.{ℕ, _≤_, _<_}
+use lib.ListN.{length}
+use Rattle.error.specs.Said.{says}
+use Rattle.packet.specs.Plain.{Stampable}
+use Rattle.packet.specs.Read.{PacketReading, readPacket}
+use Rattle.nal.specs.Fed.{prefixed}
+use Rattle.sequence.specs.Arrival.{Arrival, ours, other, acceptedCalls, accepted, never, Window}
+use Rattle.sequence.specs.Group.{wholeOf, handedOf}
+use Rattle.sequence.specs.Joiner.{isOther}
+use Rattle.joiner.specs.Join.{Accepted, Stepped}
+use Rattle.joiner.specs.Sent.{Sent, Lawful, groupsOf}
+use Rattle.delivery.specs.Show.{Show, payloads, count, longest, largest}
+use Rattle.delivery.specs.Play.{isAccepted, isRefused, handedOut, played, closing}
+
+-- ---- the premises
+
+-- "other sources have other SSRCs": what is read as a packet is not of our source
+abbrev pub Foreign : ℕ → List ℕ → Type 0
+Foreign source bytes = (r : PacketReading) → readPacket bytes ≡ says r → r .fields .source ≡ source → ⊥
+
+abbrev pub OthersForeign : ℕ → List (Arrival (List ℕ)) → Type 0
+OthersForeign source [] = Unit {0}
+OthersForeign source (ours i ∷ later) = OthersForeign source later
+OthersForeign source (other bytes ∷ later) = Foreign source bytes × OthersForeign source later
+
+abbrev pub AllLawful : List Sent → Type 0
+AllLawful [] = Unit {0}
+AllLawful (s ∷ ss) = Lawful s × AllLawful ss
+
+-- "mtu 3 to 65,523", and "Every packet fits the mtu"
+abbrev pub AllShort : List (List ℕ) → Type 0
+AllShort [] = Unit {0}
+AllShort (s ∷ ss) = (length s ≤ 65523) × AllShort ss
+
+pub record Premises (w : Show) : Type 0 where
+  -- "units .. of type 1 to 23, of 3 bytes or more": each group is a STAP-A, a plain unit or the fragments of one
+  pub lawful : AllLawful (w .groups)
+  -- "mtu 3 to 65,523", and "Every packet fits the mtu"
+  pub short : AllShort (payloads w)
+  -- "n at most 4,294,967,295"
+  pub few : count w ≤ 4294967295
+  -- "frames up to 16,777,216": the longest unit less one byte
+  pub domain : longest (w .groups) ≤ 16777215
+  -- "Room: gather for the longest unit less one byte"
+  pub gather-room : longest (w .groups) ≤ length (w .gather)
+  -- "output for the largest group as handed out, prefixes included"
+  pub out-room : (i : ℕ) → largest (w .groups) ≤ length (w .outs i)
+  -- "The joiner is opened with the sender's SSRC and first": 32 and 16 bits
+  pub source : w .source < 4294967296
+  pub first : w .first < 65536
+  -- a payload type of seven bits, a timestamp of 32
+  pub stamps : (i : ℕ) → Stampable (w .stamps i)
+  -- "other sources have other SSRCs"
+  pub foreign : OthersForeign (w .source) (w .arrivals)
+  -- "Window: with m one more than the largest index arrived so far (0 at first), each index is m - 32,768 to m + 32,767, and n - m is
+  -- at most 32,767 at closing"
+  pub window : Window (count w) 0 (w .arrivals)
+
+-- ---- what follows
+
+-- which packets were accepted, read off the arrivals alone
+abbrev pub wasAccepted : Show → ℕ → Bool
+wasAccepted w = accepted (w .arrivals)
+
+-- how many packets were never accepted, counted from the arrivals
+abbrev pub missed : Show → ℕ
+missed w = never (wasAccepted w) 0 (count w)
+
+-- the gathered run lies within its buffer after each call
+abbrev pub Within : ℕ → List Stepped → Type 0
+Within room [] = Unit {0}
+Within room (st ∷ sts) = (st .joiner .gathered ≤ room) × (length (st .gather) ≡ room) × Within room sts
+
+pub record Delivered (w : Show) : Type 0 where
+  -- (a) call by call, a packet is accepted "exactly when its index is above every index that arrived before it"
+  pub accepts : map (λ (st : Stepped). isAccepted (st .answer)) (played w) ≡ acceptedCalls [] (w .arrivals)
+  -- (b) what is handed out, in order, is exactly the sent groups all of whose packets were accepted, once each
+  pub handsOut : handedOut (played w) ≡ map (prefixed false) (wholeOf (wasAccepted w) 0 (groupsOf (w .groups)))
+  -- (c) closing is not refused, and the missed total is the number of packets never accepted
+  pub answer : Accepted
+  pub closes : closing w .answer ≡ says answer
+  pub closed : closing w .joiner .closed ≡ true
+  pub counts : closing w .joiner .missed ≡ missed w
+  -- (d) with none missed, everything sent was handed out
+  pub complete : closing w .joiner .missed ≡ 0 → handedOut (played w) ≡ map (prefixed false) (handedOf (groupsOf (w .groups)))
+  -- (e) the gathered run never reaches beyond its buffer, no call of ours is refused, and every other one is
+  pub within : Within (length (w .gather)) (played w)
+  pub refuses : map (λ (st : Stepped). isRefused (st .answer)) (played w) ≡ map isOther (w .arrivals)

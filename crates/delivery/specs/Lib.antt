@@ -1,0 +1,4 @@
+pub mod Show
+pub mod Play
+pub mod Demand
+pub mod Frames

@@ -1,0 +1,49 @@
+-- A show: what is sent, with what it is received, and what arrives. Assumes nothing.
+use mathlib.Core.List.{List, [], _∷_}
+use Prim.Native.Nat.{ℕ, max}
+use lib.ListN.{length, getD}
+use Rattle.packet.specs.Plain.{Stamp, plainPacket}
+use Rattle.sequence.specs.Number.{numberOf}
+use Rattle.sequence.specs.Arrival.{Arrival}
+use Rattle.sequence.specs.Group.{packetsOf}
+use Rattle.joiner.specs.Sent.{Sent, groupsOf, gatheredOf, handedLength}
+use mathlib.Core.Bool.{false}
+
+pub record Show : Type 0 where
+  -- the groups sent, in order
+  pub groups : List Sent
+  -- the sender's SSRC, and the number of the first packet
+  pub source : ℕ
+  pub first : ℕ
+  -- marker, payload type and timestamp of packet i
+  pub stamps : ℕ → Stamp
+  -- the gather buffer as it is at first
+  pub gather : List ℕ
+  -- the output that call i brings, with whatever is in it
+  pub outs : ℕ → List ℕ
+  -- what arrives before closing: a packet of ours by its index, or any other bytes
+  pub arrivals : List (Arrival (List ℕ))
+
+-- the payloads in order, and how many there are
+abbrev pub payloads : Show → List (List ℕ)
+payloads w = packetsOf (groupsOf (w .groups))
+
+abbrev pub count : Show → ℕ
+count w = length (payloads w)
+
+abbrev pub payload : Show → ℕ → List ℕ
+payload w i = getD (payloads w) i []
+
+-- packet i: "version 2, no padding, extensions or CSRCs; packet i bears (first + i) mod 65,536"
+abbrev pub packet : Show → ℕ → List ℕ
+packet w i = plainPacket (w .stamps i) (numberOf (w .first) i) (w .source) (payload w i)
+
+-- the most bytes that are gathered of one unit: "the longest unit less one byte"
+abbrev pub longest : List Sent → ℕ
+longest [] = 0
+longest (s ∷ ss) = max (gatheredOf s) (longest ss)
+
+-- "the largest group as handed out, prefixes included"
+abbrev pub largest : List Sent → ℕ
+largest [] = 0
+largest (s ∷ ss) = max (handedLength false s) (largest ss)

@@ -1,0 +1,376 @@
+-- How the joiner's definitions go on, from the facts that the code tests. Assumes nothing.
+use mathlib.Core.Path.{_≡_, refl, sym, ap, ap₂, subst⁻¹, _∙_}
+use mathlib.Core.Bool.{Bool, true, false, cond, or-true}
+use mathlib.Core.List.{List, [], _∷_, _++_}
+use mathlib.Core.Logic.{_⊎_, inl, inr}
+use Prim.Native.Nat.{ℕ, _+_, _-_, _/_, _%_, _≤_, _<_}
+use native.Mathlib.Decide.{decLe}
+use native.Mathlib.Nat.{lt-of-not-le}
+use native.Mathlib.Omega.{arith}
+use lib.Dec.{ltb, eqb}
+use lib.ListN.{length, take, drop, getD, length-drop}
+use borrow.Author.Tests.{lt-ltb, le-ltb, le-leb, lt-leb, eq-eqb, ne-eqb}
+use Rattle.error.specs.Refusal.{Refusal}
+use Rattle.error.specs.Said.{Said, says, refused, refuse}
+use Rattle.wire.specs.Net.{u16At, u32At}
+use Rattle.wire.specs.Part.{splice, part}
+use Rattle.wire.proofs.Part.{splice-nothing}
+use Rattle.header.specs.declared.Header.{Header}
+use Rattle.header.specs.Fields.{layOut}
+use Rattle.header.specs.Read.{Reading, readHeader, readingOf, fieldsAt, blockAt, countOf, fixedLength}
+use Rattle.header.proofs.Reading.{header-plain, header-long}
+use Rattle.packet.specs.Read.{Payload, PacketReading, behind, readPacket}
+use Rattle.packet.specs.Said.{Heard, readingHeard}
+use Rattle.packet.proofs.Reading.{payload-inside}
+use Rattle.sequence.specs.Number.{distanceOf}
+use Rattle.nal.specs.Fed.{Run, none, gathering, gathered, Fed, prefixed, OutLaid, layBytes, GatherLaid, layGather, gatherAfter, Laid, layFed, ongoing, finished}
+use Rattle.nal.specs.Kind.{Shape, short, plain, fragment, shape}
+use Rattle.nal.specs.Said.{Measure, measureOf}
+use Rattle.nal.proofs.Handing.{bytes-fit, gather-long, gather-fits, fed-long, fed-by}
+use Rattle.joiner.specs.declared.Joiner.{Joiner}
+use Rattle.joiner.specs.Codec.{handedOut, idle, feed}
+use Rattle.joiner.specs.Join.{runOf, runAt, outside, Stepped, late, unchanged, laidBy, fedBy, byDistance, bySource, byReading, joinStep, ClosingStepped, Accepted, shut, closeBy, closeStep}
+use Rattle.joiner.specs.Said.{Arrived, arrivalOf, RanOn, withRun, layRun, OutFed, layUnits, acceptedJoiner, acceptedAnswer}
+
+-- ---- a packet
+
+-- the reader's answer, shrunk to what the joiner needs
+abbrev pub shrunk : Heard → Said Arrived
+shrunk h = shrink (h .answer) (h .header)
+  where
+    shrink : Said Payload → Header → Said Arrived
+    shrink (says p) r = says (record { source = r .ssrc; number = r .«sequence_number»; place = p .place; len = p .len })
+    shrink (refused e) r = refused e
+
+pub shrunk-is : (x : Said PacketReading) → shrunk (readingHeard x) ≡ arrivalOf x
+unfolding layOut
+shrunk-is (says r) = refl
+shrunk-is (refused r) = refl
+
+-- a packet whose padding and extension bits are clear
+pub arrival-plain : (s : List ℕ) → 12 ≤ length s → length s ≤ 65535 → fixedLength (countOf s) ≤ length s → getD s 0 0 / 16 % 4 ≡ 0 →
+    arrivalOf (readPacket s)
+    ≡ says (record { source = u32At s 8; number = u16At s 2; place = fixedLength (countOf s); len = length s - fixedLength (countOf s) })
+unfolding readPacket fieldsAt
+arrival-plain s long within fits flags =
+    let n : ℕ = fixedLength (countOf s) in
+    let no-x : getD s 0 0 / 16 % 2 ≡ 1 → ⊥ = λ e. omega arith in
+    let no-p : getD s 0 0 / 32 % 2 ≡ 1 → ⊥ = λ e. omega arith in
+    let place : length s - length (drop n s) ≡ n = rw (length-drop n s) (omega arith) in
+    ap (λ (r : _). arrivalOf (behind s r)) (header-plain s within (omega arith) fits no-x)
+    ∙ rw (ne-eqb (getD s 0 0 / 32 % 2) 1 no-p)
+    (ap (λ (k : ℕ). says (record { source = u32At s 8; number = u16At s 2; place = k; len = length s - k })) place)
+
+-- what was read of a packet, had back from what arrived
+module _ (x : Said PacketReading) where
+  pub came-from : (a : Arrived) → arrivalOf x ≡ says a →
+      (r : PacketReading) × (x ≡ says r)
+      × (a ≡ record { source = r .fields .source; number = r .fields .number; place = r .payload .place; len = r .payload .len })
+  came-from a e = go x refl
+    where
+      go : (y : Said PacketReading) → x ≡ y →
+          (r : PacketReading) × (x ≡ says r)
+          × (a ≡ record { source = r .fields .source; number = r .fields .number; place = r .payload .place; len = r .payload .len })
+      go (says r) is =
+          let q : says a ≡ says (record { source = r .fields .source; number = r .fields .number; place = r .payload .place; len = r .payload .len }) =
+          sym e ∙ ap arrivalOf is in
+          let same : a ≡ record { source = r .fields .source; number = r .fields .number; place = r .payload .place; len = r .payload .len } = cc in
+          (r, is, same)
+      go (refused n) is =
+          let q : says a ≡ refused n = sym e ∙ ap arrivalOf is in
+          let z : _≡_ {A = ℕ} 0 1 = cc in
+          absurd (omega arith)
+
+  pub came-refused : (n : Refusal) → arrivalOf x ≡ refused n → x ≡ refused n
+  came-refused n e = go x refl
+    where
+      go : (y : Said PacketReading) → x ≡ y → x ≡ refused n
+      go (says r) is =
+          let q : _≡_ {A = Said Arrived} (refused n)
+          (says (record { source = r .fields .source; number = r .fields .number; place = r .payload .place; len = r .payload .len })) =
+          sym e ∙ ap arrivalOf is in
+          let z : _≡_ {A = ℕ} 0 1 = cc in
+          absurd (omega arith)
+      go (refused m) is =
+          let q : refused n ≡ refused m = sym e ∙ ap arrivalOf is in
+          let same : m ≡ n = cc in
+          is ∙ ap refused same
+
+-- what arrived lies within the packet
+pub arrived-inside : (s : List ℕ) (a : Arrived) → arrivalOf (readPacket s) ≡ says a → a .place + a .len ≤ length s
+arrived-inside s a e =
+    let c = came-from (readPacket s) a e in
+    let fits : c .0 .payload .place + c .0 .payload .len ≤ length s = payload-inside s (c .0) (c .1) in
+    subst⁻¹ (λ (b : Arrived). b .place + b .len ≤ length s) (c .2) fits
+
+-- and the packet is one of the domain
+pub arrived-short : (s : List ℕ) (a : Arrived) → arrivalOf (readPacket s) ≡ says a → length s ≤ 65535
+unfolding readPacket
+arrived-short s a e =
+    elim (decLe (length s) 65535) [
+      | yes h ↦ h
+      | no h ↦
+          let q : _≡_ {A = Said Arrived} (refuse 8) (says a) =
+          sym (ap (λ (r : Said Reading). arrivalOf (behind s r)) (header-long s (lt-of-not-le h))) ∙ e in
+          let z : _≡_ {A = ℕ} 0 1 = cc in
+          absurd (omega arith)
+    ]
+
+module _ (j : Joiner) (packet gather out : List ℕ) where
+  pub by-arrival : (a : Arrived) → arrivalOf (readPacket packet) ≡ says a →
+      byReading j packet gather out (readPacket packet) ≡ bySource j (a .source) (a .number) (part packet (a .place) (a .len)) gather out
+  by-arrival a e =
+      let c = came-from (readPacket packet) a e in
+      ap (byReading j packet gather out) (c .1)
+      ∙ sym (ap (λ (b : Arrived). bySource j (b .source) (b .number) (part packet (b .place) (b .len)) gather out) (c .2))
+
+  pub by-refusal : (n : Refusal) → arrivalOf (readPacket packet) ≡ refused n →
+      byReading j packet gather out (readPacket packet) ≡ unchanged j gather out (refused n)
+  by-refusal n e = ap (byReading j packet gather out) (came-refused (readPacket packet) n e)
+
+  -- the first tests of a call
+  pub join-closed : j .closed ≡ true → joinStep j packet gather out ≡ unchanged j gather out (refuse 22)
+  unfolding joinStep
+  join-closed e = ap (λ (b : Bool). cond b (unchanged j gather out (refuse 22)) (cond (outside (j .gathered) gather) (unchanged j gather out (refuse 8)) (byReading j packet gather out (readPacket packet)))) e
+
+  joining : j .closed ≡ false →
+      joinStep j packet gather out
+      ≡ cond (outside (j .gathered) gather) (unchanged j gather out (refuse 8)) (byReading j packet gather out (readPacket packet))
+  unfolding joinStep
+  joining e = ap (λ (b : Bool). cond b (unchanged j gather out (refuse 22)) (cond (outside (j .gathered) gather) (unchanged j gather out (refuse 8)) (byReading j packet gather out (readPacket packet)))) e
+
+  pub join-outside : j .closed ≡ false → (length gather < j .gathered) ⊎ (16777215 < j .gathered) →
+      joinStep j packet gather out ≡ unchanged j gather out (refuse 8)
+  join-outside e h =
+      joining e
+      ∙ ap (λ (b : Bool). cond b (unchanged j gather out (refuse 8)) (byReading j packet gather out (readPacket packet))) (long h)
+    where
+      long : (length gather < j .gathered) ⊎ (16777215 < j .gathered) → outside (j .gathered) gather ≡ true
+      long (inl h) = rw (lt-ltb (length gather) (j .gathered) h)
+      long (inr h) = rw (lt-ltb 16777215 (j .gathered) h) (or-true (ltb (length gather) (j .gathered)))
+
+  pub join-reads : j .closed ≡ false → j .gathered ≤ length gather → j .gathered ≤ 16777215 →
+      joinStep j packet gather out ≡ byReading j packet gather out (readPacket packet)
+  join-reads e h g =
+      joining e
+      ∙ ap (λ (b : Bool). cond b (unchanged j gather out (refuse 8)) (byReading j packet gather out (readPacket packet))) fine
+    where
+      fine : outside (j .gathered) gather ≡ false
+      fine = rw (le-ltb (length gather) (j .gathered) h, le-ltb 16777215 (j .gathered) g)
+
+-- ---- a payload
+
+module _ (gather out : List ℕ) where
+  -- an answer with both buffers is its three parts
+  laid-path : {A : Type 0} (a b : Laid A) → a .answer ≡ b .answer → a .gather ≡ b .gather → a .out ≡ b .out → a ≡ b
+  laid-path a b e f h i = record { answer = e i; gather = f i; out = h i }
+
+  -- nothing gathered leaves the gather buffer
+  stays : (answer : Said ℕ) → gatherAfter gather [] answer ≡ gather
+  stays (says n) = splice-nothing gather 0
+  stays (refused r) = refl
+
+  -- units that drop the run: the output's answer decides
+  pub run-handed : (units : List (List ℕ)) →
+      layRun gather out (handedOut (says units))
+      ≡ record {
+        answer = withRun 0 (layBytes out (prefixed false units) .answer);
+        gather = gather;
+        out = layBytes out (prefixed false units) .out;
+      }
+  run-handed units =
+      let f : Fed = record { run = none; kept = []; handed = units } in
+      let l : layFed false gather out f ≡ record { answer = layBytes out (prefixed false units) .answer; gather = gatherAfter gather [] (layBytes out (prefixed false units) .answer); out = layBytes out (prefixed false units) .out } =
+      fed-by false gather out f (layBytes out (prefixed false units)) (omega arith) (omega arith) refl in
+      ap (λ (x : Laid ℕ). record { answer = withRun 0 (x .answer); gather = x .gather; out = x .out }) l
+      ∙ ap (λ (g : List ℕ). record { answer = withRun 0 (layBytes out (prefixed false units) .answer); gather = g; out = layBytes out (prefixed false units) .out })
+      (stays (layBytes out (prefixed false units) .answer))
+
+  nothing-out : layBytes out [] ≡ record { answer = says 0; out = out }
+  nothing-out =
+      bytes-fit out [] (omega arith) ∙ ap (λ (o : List ℕ). record { answer = says 0; out = o }) (splice-nothing out 0)
+
+  pub run-idle : layRun gather out (says idle) ≡ record { answer = says (record { gathered = 0; bytes = 0 }); gather = gather; out = out }
+  run-idle =
+      run-handed []
+      ∙ ap (λ (l : OutLaid). record { answer = withRun 0 (l .answer); gather = gather; out = l .out }) nothing-out
+
+  -- a run that goes on: the gather buffer's answer decides
+  pub run-ongoing : (bytes : List ℕ) →
+      layRun gather out (says (ongoing bytes))
+      ≡ record {
+        answer = withRun (length bytes) (layGather gather bytes .answer);
+        gather = layGather gather bytes .gather;
+        out = out;
+      }
+  run-ongoing bytes =
+      ap (λ (x : Laid ℕ). record { answer = withRun (length bytes) (x .answer); gather = x .gather; out = x .out })
+      (by (decLe (length bytes) (length gather)) (decLe (length bytes) 16777215))
+    where
+      long : (length gather < length bytes) ⊎ (16777215 < length bytes) →
+          layFed false gather out (ongoing bytes)
+          ≡ record { answer = layGather gather bytes .answer; gather = layGather gather bytes .gather; out = out }
+      long h =
+          fed-long false gather out (ongoing bytes) h
+          ∙ sym (ap (λ (l : GatherLaid). record { answer = l .answer; gather = l .gather; out = out }) (gather-long gather bytes h))
+
+      by : Dec (length bytes ≤ length gather) → Dec (length bytes ≤ 16777215) →
+          layFed false gather out (ongoing bytes)
+          ≡ record { answer = layGather gather bytes .answer; gather = layGather gather bytes .gather; out = out }
+      by (yes h) (yes g) =
+          fed-by false gather out (ongoing bytes) (record { answer = says 0; out = out }) h g nothing-out
+          ∙ sym (ap (λ (l : GatherLaid). record { answer = l .answer; gather = l .gather; out = out }) (gather-fits gather bytes h g))
+      by (yes h) (no g) = long (inr (lt-of-not-le g))
+      by (no h) (yes g) = long (inl (lt-of-not-le h))
+      by (no h) (no g) = long (inl (lt-of-not-le h))
+
+-- a fragment has three bytes at least
+pub fragment-long : (s : List ℕ) (first last : Bool) (head : ℕ) → shape s ≡ fragment first last head → 3 ≤ length s
+unfolding shape
+fragment-long s first last head e = by (decLe (length s) 1) (decLe (length s) 2)
+  where
+    not-short : short ≡ fragment first last head → ⊥
+    not-short q = let z : _≡_ {A = ℕ} 0 1 = cc in omega arith
+
+    not-plain : plain ≡ fragment first last head → ⊥
+    not-plain q = let z : _≡_ {A = ℕ} 0 1 = cc in omega arith
+
+    two : (b : Bool) → cond b plain short ≡ fragment first last head → ⊥
+    two true q = not-plain q
+    two false q = not-short q
+
+    by : Dec (length s ≤ 1) → Dec (length s ≤ 2) → 3 ≤ length s
+    by (yes h) g = absurd (not-short (sym (rw (le-leb (length s) 1 h)) ∙ e))
+    by (no h) (yes g) =
+        absurd (two (eqb (getD s 0 0 % 32) 9) (sym (rw (lt-leb (length s) 1 (lt-of-not-le h), le-leb (length s) 2 g)) ∙ e))
+    by (no h) (no g) = lt-of-not-le g
+
+-- a STAP-A that has no measure has no units
+pub unmeasured : (x : Said (List (List ℕ))) (r : Refusal) → measureOf x ≡ refused r → x ≡ refused r
+unmeasured (says us) r e = let z : _≡_ {A = ℕ} 0 1 = cc in absurd (omega arith)
+unmeasured (refused n) r e = let same : n ≡ r = cc in ap refused same
+
+-- a plain unit handed out, from what `hand_plain` and `with_run` say
+pub plain-heard : (g o payload : List ℕ) (answer : Said RanOn) (handed : Said ℕ) (o′ : List ℕ) → answer ≡ withRun 0 handed →
+    _≡_ {A = OutLaid} (record { answer = handed; out = o′ }) (layBytes o (prefixed false (payload ∷ []))) →
+    _≡_ {A = Laid RanOn} (record { answer = answer; gather = g; out = o′ }) (layRun g o (handedOut (says (payload ∷ []))))
+plain-heard g o payload answer handed o′ e l =
+    ap (λ (x : Said RanOn). record { answer = x; gather = g; out = o′ }) e
+    ∙ ap (λ (x : OutLaid). record { answer = withRun 0 (x .answer); gather = g; out = x .out }) l
+    ∙ sym (run-handed g o (payload ∷ []))
+
+-- the units of a STAP-A handed out, from what `feed_units` says
+pub units-heard : (g o : List ℕ) (x : Said (List (List ℕ))) (answer : Said RanOn) (o′ : List ℕ) →
+    _≡_ {A = OutFed} (record { answer = answer; out = o′ }) (layUnits o x) →
+    _≡_ {A = Laid RanOn} (record { answer = answer; gather = g; out = o′ }) (layRun g o (handedOut x))
+units-heard g o (says us) answer o′ e =
+    ap (λ (x : OutFed). record { answer = x .answer; gather = g; out = x .out }) e ∙ sym (run-handed g o us)
+units-heard g o (refused r) answer o′ e = ap (λ (x : OutFed). record { answer = x .answer; gather = g; out = x .out }) e
+
+-- ---- the step
+
+module _ (j : Joiner) (d number : ℕ) (gather out : List ℕ) where
+  -- the payload's fate, put into the record and the answer
+  abbrev pub stepped : Laid RanOn → Stepped
+  stepped l =
+      record {
+        joiner = acceptedJoiner j number (j .missed + d) (l .answer);
+        answer = acceptedAnswer j d (l .answer);
+        gather = l .gather;
+        out = l .out;
+      }
+
+  pub fedBy-is : (x : Said Fed) → fedBy j d number gather out x ≡ stepped (layRun gather out x)
+  fedBy-is (refused r) = refl
+  fedBy-is (says f) = go (layFed false gather out f) (layFed false gather out f .answer)
+    where
+      go : (l : Laid ℕ) (a : Said ℕ) →
+          laidBy j d number (f .run) l a
+          ≡ stepped (record { answer = withRun (length (gathered (f .run))) a; gather = l .gather; out = l .out })
+      go l (says n) = refl
+      go l (refused r) = refl
+
+-- the same, by a missed total
+abbrev pub steppedWith : Joiner → ℕ → ℕ → ℕ → Laid RanOn → Stepped
+steppedWith j number missed d l =
+    record {
+      joiner = acceptedJoiner j number missed (l .answer);
+      answer = acceptedAnswer j d (l .answer);
+      gather = l .gather;
+      out = l .out;
+    }
+
+-- "d > 0 drops the open run"
+pub run-held : (b : Bool) (n : ℕ) (gather : List ℕ) → runOf (cond b n 0) gather ≡ cond b (runOf n gather) none
+run-held true n gather = refl
+run-held false n gather = refl
+
+pub held-le : (b : Bool) (n : ℕ) → cond b n 0 ≤ n
+held-le true n = omega arith
+held-le false n = omega arith
+
+module _ (j : Joiner) (number : ℕ) (payload gather out : List ℕ) where
+  pub source-other : (source : ℕ) → (source ≡ j .source → ⊥) →
+      bySource j source number payload gather out ≡ unchanged j gather out (refuse 20)
+  unfolding bySource
+  source-other source h =
+      ap (λ (b : Bool). cond b (byDistance j (distanceOf number (j .awaited)) number payload gather out) (unchanged j gather out (refuse 20)))
+      (ne-eqb source (j .source) h)
+
+  pub source-own : (source : ℕ) → source ≡ j .source →
+      bySource j source number payload gather out ≡ byDistance j (distanceOf number (j .awaited)) number payload gather out
+  unfolding bySource
+  source-own source h =
+      ap (λ (b : Bool). cond b (byDistance j (distanceOf number (j .awaited)) number payload gather out) (unchanged j gather out (refuse 20)))
+      (eq-eqb source (j .source) h)
+
+  pub distance-late : (d : ℕ) → 32768 ≤ d → byDistance j d number payload gather out ≡ unchanged j gather out (says late)
+  distance-late d h = rw (le-leb 32768 d h)
+
+  pub distance-full : (d : ℕ) → d < 32768 → 4294967295 < j .missed + d →
+      byDistance j d number payload gather out ≡ unchanged j gather out (refuse 24)
+  distance-full d h g = rw (lt-leb 32768 d h, lt-ltb 4294967295 (j .missed + d) g)
+
+  pub distance-fed : (d : ℕ) → d < 32768 → j .missed + d ≤ 4294967295 →
+      byDistance j d number payload gather out
+      ≡ steppedWith j number (j .missed + d) d (layRun gather out (feed (runAt j d gather) payload))
+  distance-fed d h g =
+      rw (lt-leb 32768 d h, le-ltb 4294967295 (j .missed + d) g)
+      (fedBy-is j d number gather out (feed (runAt j d gather) payload))
+
+-- ---- closing
+
+module _ (j : Joiner) (number : ℕ) where
+  abbrev d : ℕ
+  d = distanceOf number (j .awaited)
+
+  closing : (b : Bool) → j .closed ≡ b →
+      closeStep j number
+      ≡ cond b (record { joiner = j; answer = refuse 22 }) (cond (ltb 16777215 (j .gathered)) (record { joiner = j; answer = refuse 8 }) (closeBy j d))
+  unfolding closeStep
+  closing b e =
+      ap (λ (x : Bool). cond x (record { joiner = j; answer = refuse 22 }) (cond (ltb 16777215 (j .gathered)) (record { joiner = j; answer = refuse 8 }) (closeBy j d))) e
+
+  pub close-closed : j .closed ≡ true → closeStep j number ≡ record { joiner = j; answer = refuse 22 }
+  close-closed e = closing true e
+
+  pub close-outside : j .closed ≡ false → 16777215 < j .gathered → closeStep j number ≡ record { joiner = j; answer = refuse 8 }
+  close-outside e h =
+      closing false e
+      ∙ ap (λ (x : Bool). cond x (record { joiner = j; answer = refuse 8 }) (closeBy j d)) (lt-ltb 16777215 (j .gathered) h)
+
+  pub close-open : j .closed ≡ false → j .gathered ≤ 16777215 → closeStep j number ≡ closeBy j d
+  close-open e h =
+      closing false e
+      ∙ ap (λ (x : Bool). cond x (record { joiner = j; answer = refuse 8 }) (closeBy j d)) (le-ltb 16777215 (j .gathered) h)
+
+module _ (j : Joiner) (d : ℕ) where
+  pub close-far : 32768 ≤ d → closeBy j d ≡ record { joiner = j; answer = refuse 23 }
+  close-far h = rw (le-leb 32768 d h)
+
+  pub close-full : d < 32768 → 4294967295 < j .missed + d → closeBy j d ≡ record { joiner = j; answer = refuse 24 }
+  close-full h g = rw (lt-leb 32768 d h, lt-ltb 4294967295 (j .missed + d) g)
+
+  pub close-shut : d < 32768 → j .missed + d ≤ 4294967295 →
+      closeBy j d ≡ record { joiner = shut j d; answer = says (record { first = j .awaited; count = d; bytes = 0 }) }
+  close-shut h g = rw (lt-leb 32768 d h, le-ltb 4294967295 (j .missed + d) g)

@@ -1,0 +1,4 @@
+pub mod Joining
+pub mod Records
+pub mod SentGroups
+pub mod OneCall

@@ -1,0 +1,222 @@
+-- What `feed` does with the payloads of a plain unit, a STAP-A and a fragmented unit: each is a group that the codec owes.
+-- Assumes nothing.
+use mathlib.Core.Path.{_≡_, refl, sym, ap, ap₂, subst, _∙_}
+use mathlib.Core.Bool.{Bool, true, false, cond, _||_}
+use mathlib.Core.List.{List, [], _∷_, _++_, map, append-nil, append-assoc}
+use Prim.Native.Nat.{ℕ, zero, suc, _+_, _-_, _*_, _/_, _%_, _≤_, _<_}
+use native.Mathlib.Nat.{not-suc-le-zero}
+use native.Mathlib.Omega.{arith}
+use lib.Dec.{ltb, leb, eqb}
+use lib.ListN.{length, take, drop, getD, length-append}
+use lib.Seq.{take-at, drop-at}
+use borrow.Author.Tests.{le-leb, lt-leb, lt-ltb, le-ltb, eq-eqb, ne-eqb}
+use Rattle.error.specs.Refusal.{Refusal}
+use Rattle.error.specs.Said.{Said, says, refused, refuse}
+use Rattle.wire.specs.Net.{be16}
+use Rattle.wire.specs.Packets.{joined}
+use Rattle.wire.specs.Turns.{more, done, run}
+use Rattle.wire.proofs.Turns.{run-more, run-done}
+use Rattle.nal.specs.Kind.{Shape, plain, aggregate, fragment, bit, headOf, shapeBy, shapeOf, shape}
+use Rattle.nal.specs.Unpack.{Unpacking, unpackBy, unpackTurn, unpack}
+use Rattle.nal.specs.Fed.{Run, none, gathering, prefixed, ongoing, finished}
+use Rattle.nal.specs.Fed as nal
+use Rattle.sequence.specs.Group.{Group, EachHanded}
+use Rattle.sequence.specs.Codec.{Fed, fed, Does, Owes, OwesAll, Cuts}
+use Rattle.sequence.proofs.Feeding.{AtMost}
+use Rattle.sequence.proofs.Cutting.{joinedTo, Each, cut-owes}
+use Rattle.joiner.specs.Codec.{feedBy, feed, handedOut, idle, fragmented, continued}
+use Rattle.joiner.specs.General.{Units, Room, Enough, groupIn, within, h264, tooMuch}
+use Rattle.joiner.specs.Sent.{Sent, aggregated, alone, sizedUnits, stapA, fuA, body, groupOf, groupsOf, gatheredOf, handedLength, Sized, NoneEmpty, PlainUnit, Lawful}
+use Rattle.joiner.specs.Sent as sent
+
+-- ---- a unit by itself
+
+shape-plain : (u : List ℕ) → PlainUnit u → shape u ≡ plain
+unfolding shape
+shape-plain u p =
+    rw (
+      lt-leb (length u) 1 (omega (arith, p .long)),
+      lt-leb (length u) 2 (p .long),
+      ne-eqb (getD u 0 0 % 32) 24 (λ e. omega (arith, p .type-high)),
+      ne-eqb (getD u 0 0 % 32) 28 (λ e. omega (arith, p .type-high)),
+      ne-eqb (getD u 0 0 % 32) 0 (λ e. omega (arith, p .type-low)),
+      le-leb (getD u 0 0 % 32) 23 (p .type-high),
+    )
+
+-- ---- a STAP-A
+
+unpack-turn : (u : List ℕ) (us before : Units) → length u < 65536 →
+    unpackTurn (record { rest = sizedUnits (u ∷ us); units = before }) ≡ more (record { rest = sizedUnits us; units = before ++ (u ∷ []) })
+unfolding unpackTurn be16
+unpack-turn u us before h =
+    let size : length u / 256 % 256 * 256 + length u % 256 ≡ length u = omega arith in
+    rw (size, le-ltb (length (u ++ sizedUnits us)) (length u) (omega (arith, length-append u (sizedUnits us))), take-at u (sizedUnits us) (length u) refl, drop-at u (sizedUnits us) (length u) refl)
+
+unpack-all : (us before : Units) (fuel : ℕ) → length (sizedUnits us) < fuel → Sized us →
+    run unpackTurn (refuse 18) fuel (record { rest = sizedUnits us; units = before }) ≡ says (before ++ us)
+unfolding unpackTurn be16
+unpack-all [] before fuel h w =
+    run-done unpackTurn (refuse 18) fuel (record { rest = []; units = before }) (says before) (omega arith) refl
+    ∙ ap says (sym (append-nil before))
+unpack-all (u ∷ us) before fuel h w =
+    run-more unpackTurn (refuse 18) fuel (record { rest = sizedUnits (u ∷ us); units = before })
+    (record { rest = sizedUnits us; units = before ++ (u ∷ []) }) (omega arith) (unpack-turn u us before (w .0))
+    ∙ unpack-all us (before ++ (u ∷ [])) (fuel - 1) (omega (arith, length-append u (sizedUnits us))) (w .1)
+    ∙ ap says (append-assoc before (u ∷ []) us)
+
+unpack-stapA : (us : Units) → Sized us → unpack (stapA us) ≡ says us
+unfolding unpack stapA
+unpack-stapA us w = unpack-all us [] (length (0x78 ∷ sizedUnits us) + 1) (omega arith) w
+
+shape-stapA : (u : List ℕ) (us : Units) → shape (stapA (u ∷ us)) ≡ aggregate
+unfolding shape stapA be16
+shape-stapA u us =
+    let s : List ℕ = 0x78 ∷ sizedUnits (u ∷ us) in
+    rw (lt-leb (length s) 1 (omega arith), lt-leb (length s) 2 (omega arith))
+
+-- ---- fragments
+
+-- the first byte of the unit: "NRI and type"
+head-of : (head bits : ℕ) → bits % 32 ≡ 0 → headOf (head / 32 % 4 * 32 + 28) (bits + head % 32) ≡ head % 128
+head-of head bits e = omega arith
+
+shape-fuA : (head bits : ℕ) (part : List ℕ) (first last : Bool) → 1 ≤ length part → bits % 32 ≡ 0 →
+    bit ((bits + head % 32) / 128) ≡ first → bit ((bits + head % 32) / 64) ≡ last →
+    shape (fuA head bits part) ≡ fragment first last (head % 128)
+unfolding shape fuA
+shape-fuA head bits part first last h e f l =
+    let t : (head / 32 % 4 * 32 + 28) % 32 ≡ 28 = omega arith in
+    ap (λ (k : ℕ). shapeOf k ((head / 32 % 4 * 32 + 28) ∷ (bits + head % 32) ∷ part)) t
+    ∙ rw (lt-leb (suc (suc (length part))) 1 (omega arith), lt-leb (suc (suc (length part))) 2 (omega arith), f, l, head-of head bits e)
+
+module _ (head : ℕ) (part : List ℕ) (h : 1 ≤ length part) where
+  shape-start : shape (fuA head 128 part) ≡ fragment true false (head % 128)
+  shape-start =
+      shape-fuA head 128 part true false h refl (eq-eqb ((128 + head % 32) / 128 % 2) 1 (omega arith))
+      (ne-eqb ((128 + head % 32) / 64 % 2) 1 (λ e. omega arith))
+
+  shape-middle : shape (fuA head 0 part) ≡ fragment false false (head % 128)
+  shape-middle =
+      shape-fuA head 0 part false false h refl (ne-eqb ((0 + head % 32) / 128 % 2) 1 (λ e. omega arith))
+      (ne-eqb ((0 + head % 32) / 64 % 2) 1 (λ e. omega arith))
+
+  shape-end : shape (fuA head 64 part) ≡ fragment false true (head % 128)
+  shape-end =
+      shape-fuA head 64 part false true h refl (ne-eqb ((64 + head % 32) / 128 % 2) 1 (λ e. omega arith))
+      (eq-eqb ((64 + head % 32) / 64 % 2) 1 (omega arith))
+
+-- ---- what `feed` does
+
+feed-alone : (run : Run) (u : List ℕ) → PlainUnit u → feed run u ≡ handedOut (says (u ∷ []))
+unfolding feed
+feed-alone run u p = ap (λ (s : Shape). feedBy s run u) (shape-plain u p)
+
+feed-stapA : (run : Run) (u : List ℕ) (us : Units) → Sized (u ∷ us) → feed run (stapA (u ∷ us)) ≡ handedOut (says (u ∷ us))
+unfolding feed
+feed-stapA run u us w = ap (λ (s : Shape). feedBy s run (stapA (u ∷ us))) (shape-stapA u us) ∙ ap handedOut (unpack-stapA (u ∷ us) w)
+
+feed-fuA : (run : Run) (head bits : ℕ) (part : List ℕ) (first last : Bool) → shape (fuA head bits part) ≡ fragment first last (head % 128) →
+    feed run (fuA head bits part) ≡ fragmented run first last (head % 128) part
+unfolding feed fuA
+feed-fuA run head bits part first last e = ap (λ (s : Shape). feedBy s run (fuA head bits part)) e
+
+-- ---- in a room that is enough
+
+module _ (most largest : ℕ) (bounded : most ≤ 16777215) where
+  does : (run : Run) (payload : List ℕ) (f : nal.Fed) → feed run payload ≡ says f → length (f .kept) ≤ most →
+      Does h264 (Enough most largest) run payload (f .run) (groupIn (f .handed))
+  does run payload f e gather k enough =
+      ap (within k) e
+      ∙ rw (
+        le-ltb (k .gather) (length (f .kept)) (omega (arith, enough .gather)),
+        le-ltb 16777215 (length (f .kept)) (omega arith),
+      )
+
+  -- one payload by itself
+  owes-one : (payload : List ℕ) (u : List ℕ) (us : Units) → ((run : Run) → feed run payload ≡ handedOut (says (u ∷ us))) →
+      Owes h264 (Enough most largest) (record { first = payload; others = []; handed = u ∷ us })
+  owes-one payload u us e =
+      record {
+        hands = λ run. (none, does run payload (record { run = none; kept = []; handed = u ∷ us }) (e run) (omega arith));
+        quiet = tt;
+      }
+
+  -- ---- a fragmented unit
+
+  module _ (head : ℕ) where
+    abbrev Piece : List ℕ → Type 0
+    Piece s = 1 ≤ length s
+
+    abbrev Fits : List ℕ → Type 0
+    Fits s = length s ≤ most
+
+    cuts : Cuts h264 (Enough most largest) gathering (fuA head 128) (fuA head 0) (fuA head 64) (λ s. (head % 128 ∷ s) ∷ []) Piece Fits
+    cuts =
+        record {
+          starts = λ run s p f. does run (fuA head 128 s) (ongoing s) (feed-fuA run head 128 s true false (shape-start head s p)) f;
+          continues =
+              λ before s p f. does (gathering before) (fuA head 0 s) (ongoing (before ++ s))
+              (feed-fuA (gathering before) head 0 s false false (shape-middle head s p)) f;
+          ends =
+              λ before s p f. does (gathering before) (fuA head 64 s) (finished (head % 128) (before ++ s))
+              (feed-fuA (gathering before) head 64 s false true (shape-end head s p)) f;
+          middle-quiet = λ s p. does none (fuA head 0 s) idle (feed-fuA none head 0 s false false (shape-middle head s p)) (omega arith);
+          end-quiet = λ s p. does none (fuA head 64 s) idle (feed-fuA none head 64 s false true (shape-end head s p)) (omega arith);
+          shorter = λ before s f. omega (arith, length-append before s);
+        }
+
+    pieces : (parts : Units) → NoneEmpty parts → Each Piece parts
+    pieces [] w = tt
+    pieces (s ∷ parts) w = (w .0, pieces parts (w .1))
+
+    joined-to : (between : Units) (last : List ℕ) → joinedTo between last ≡ joined between ++ last
+    joined-to [] last = refl
+    joined-to (s ∷ between) last = ap (λ (l : List ℕ). s ++ l) (joined-to between last) ∙ sym (append-assoc s (joined between) last)
+
+    owes-fragmented : (first : List ℕ) (between : Units) (last : List ℕ) → NoneEmpty (first ∷ between) → 1 ≤ length last →
+        Fits (body first between last) → Owes h264 (Enough most largest) (groupOf (sent.fragmented head first between last))
+    owes-fragmented first between last w h f =
+        subst (λ (l : List ℕ). Fits (first ++ l) → Owes h264 (Enough most largest) (record { first = fuA head 128 first; others = map (fuA head 0) between ++ (fuA head 64 last ∷ []); handed = (head % 128 ∷ (first ++ l)) ∷ [] }))
+        (joined-to between last)
+        (cut-owes h264 (Enough most largest) gathering (fuA head 128) (fuA head 0) (fuA head 64) (λ s. (head % 128 ∷ s) ∷ []) Piece Fits cuts first between last (w .0) (pieces between (w .1)) h)
+        f
+
+  -- ---- any list of groups
+
+  pub owes : (s : Sent) → Lawful s → gatheredOf s ≤ most → Owes h264 (Enough most largest) (groupOf s)
+  owes (aggregated unit others) w h = owes-one (stapA (unit ∷ others)) unit others (λ run. feed-stapA run unit others w)
+  owes (alone unit) w h = owes-one unit unit [] (λ run. feed-alone run unit w)
+  owes (sent.fragmented head first between last) w h = owes-fragmented head first between last (w .0) (w .1) h
+
+  -- every group is lawful, and there is room to gather it
+  abbrev pub AllGathered : List Sent → Type 0
+  AllGathered [] = Unit {0}
+  AllGathered (s ∷ ss) = Lawful s × (gatheredOf s ≤ most) × AllGathered ss
+
+  pub owes-all : (ss : List Sent) → AllGathered ss → OwesAll h264 (Enough most largest) (groupsOf ss)
+  owes-all [] w = tt
+  owes-all (s ∷ ss) w = (owes s (w .0) (w .1), owes-all ss (w .2))
+
+-- ---- room for what is handed out
+
+-- units that are handed out in `largest` bytes at most
+abbrev pub Small : Bool → ℕ → Units → Type 0
+Small avc largest us = length (prefixed avc us) ≤ largest
+
+-- a call that hands out one group at most has room for it
+pub small-enough : (avc : Bool) (most largest : ℕ) (k : Room) (out : List Units) → Enough most largest k → AtMost (Small avc largest) 1 out →
+    tooMuch avc k out ≡ false
+small-enough avc most largest k [] enough a = le-ltb (k .out) 0 (omega arith)
+small-enough avc most largest k (us ∷ []) enough a =
+    ap (λ (l : List ℕ). ltb (k .out) (length l)) (append-nil (prefixed avc us))
+    ∙ le-ltb (k .out) (length (prefixed avc us)) (omega (arith, a .each .0, enough .out))
+small-enough avc most largest k (us ∷ vs ∷ out) enough a = absurd (omega (arith, a .few))
+
+-- every group is handed out in `largest` bytes at most
+abbrev pub AllHanded : Bool → ℕ → List Sent → Type 0
+AllHanded avc largest [] = Unit {0}
+AllHanded avc largest (s ∷ ss) = (handedLength avc s ≤ largest) × AllHanded avc largest ss
+
+pub all-small : (avc : Bool) (largest : ℕ) (ss : List Sent) → AllHanded avc largest ss → EachHanded (Small avc largest) (groupsOf ss)
+all-small avc largest [] w = tt
+all-small avc largest (s ∷ ss) w = (w .0, all-small avc largest ss (w .1))

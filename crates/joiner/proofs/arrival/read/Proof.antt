@@ -1,0 +1,33 @@
+-- The reader's answer, shrunk to what is needed: `shrunk-is`.
+use mathlib.Core.Path.{_≡_, sym, ap, _∙_}
+use borrow.Author.Needs.{needs}
+use Rattle.packet.specs.declared.PacketRead.{PacketRead}
+use Rattle.packet.specs.Read.{readPacket}
+use Rattle.packet.specs.Said.{Heard, saidRead}
+use Rattle.joiner.proofs.Joining.{shrunk, shrunk-is}
+use Rattle.joiner.proofs.arrival.read.Statement.{statement}
+use Rattle.joiner.proofs.arrival.read.Tie as tie
+
+returns : tie.Need-returns
+returns c =
+    let u = c .before .before .before .unmarshal in
+    sym (ap (λ (r : PacketRead). shrunk (record { answer = saidRead r; header = u .result .header })) (c .before .read .given .1))
+    ∙ ap shrunk (u .ensures)
+    ∙ shrunk-is (readPacket (c .before .before .before .before .before .args .packet .now))
+
+returns-2 : tie.Need-returns-2
+returns-2 c =
+    let u = c .before .before .before .unmarshal in
+    sym (ap (λ (r : PacketRead). shrunk (record { answer = saidRead r; header = u .result .header })) (c .before .read2 .given .1))
+    ∙ ap shrunk (u .ensures)
+    ∙ shrunk-is (readPacket (c .before .before .before .before .before .args .packet .now))
+
+pub read-spec : {M : Type 1} → statement M
+read-spec =
+    tie.close
+    (tie.spec
+    (λ c κs. search needs)
+    (λ c. search needs)
+    (λ c. search needs)
+    returns
+    returns-2)

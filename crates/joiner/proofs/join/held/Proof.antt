@@ -1,0 +1,18 @@
+-- The test is the definition's own.
+use mathlib.Core.Path.{sym}
+use borrow.Author.Tests.{eq-eqb, ne-eqb}
+use Rattle.joiner.proofs.join.held.Statement.{statement}
+use Rattle.joiner.proofs.join.held.Tie as tie
+
+returns : tie.Need-returns
+returns c = sym (rw (eq-eqb _ 0 (c .if1 .taken)))
+
+returns-2 : tie.Need-returns-2
+returns-2 c = sym (rw (ne-eqb _ 0 (c .if1 .left)))
+
+pub held-spec : {M : Type 1} → statement M
+held-spec =
+    tie.close
+    (tie.spec
+    returns
+    returns-2)

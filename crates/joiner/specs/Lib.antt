@@ -1,0 +1,5 @@
+pub mod Codec
+pub mod Join
+pub mod Said
+pub mod General
+pub mod Sent

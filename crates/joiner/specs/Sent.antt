@@ -1,0 +1,79 @@
+-- Groups of H.264 payloads as RFC 6184 lays them out, from whatever sender. Assumes nothing.
+use mathlib.Core.Bool.{Bool}
+use mathlib.Core.List.{List, [], _∷_, _++_, map}
+use Prim.Native.Nat.{ℕ, _+_, _*_, _/_, _%_, _≤_, _<_}
+use lib.ListN.{length, getD}
+use Rattle.wire.specs.Net.{be16}
+use Rattle.wire.specs.Packets.{joined}
+use Rattle.nal.specs.Fed.{prefixed}
+use Rattle.sequence.specs.Group.{Group}
+use Rattle.joiner.specs.General.{Units}
+
+-- "A group is one STAP-A, one plain unit, or all fragments of one unit"
+pub data Sent : Type 0 where
+  aggregated : (unit : List ℕ) (others : Units) → Sent
+  alone : (unit : List ℕ) → Sent
+  -- a unit's first byte, and the parts of what follows it: the first, those between, the last
+  fragmented : (head : ℕ) (first : List ℕ) (between : Units) (last : List ℕ) → Sent
+
+-- RFC 6184, section 5.7.1: each unit follows its size in two bytes
+abbrev pub sizedUnits : Units → List ℕ
+sizedUnits [] = []
+sizedUnits (u ∷ us) = be16 (length u) ++ (u ++ sizedUnits us)
+
+-- "STAP-A (0x78)"
+unfoldable pub stapA : Units → List ℕ
+stapA us = 0x78 ∷ sizedUnits us
+
+-- RFC 6184, section 5.8: NRI beside type 28; then start bit (128), end bit (64) and the unit's type; then a part of the unit
+unfoldable pub fuA : ℕ → ℕ → List ℕ → List ℕ
+fuA head bits part = (head / 32 % 4 * 32 + 28) ∷ (bits + head % 32) ∷ part
+
+-- a fragmented unit's bytes behind the first
+abbrev pub body : List ℕ → Units → List ℕ → List ℕ
+body first between last = first ++ (joined between ++ last)
+
+-- the payloads of a group, and the units it is handed out as: "all fragments of one unit (handed out with its top bit clear)"
+abbrev pub groupOf : Sent → Group (List ℕ) Units
+groupOf (aggregated unit others) = record { first = stapA (unit ∷ others); others = []; handed = unit ∷ others }
+groupOf (alone unit) = record { first = unit; others = []; handed = unit ∷ [] }
+groupOf (fragmented head first between last) =
+    record {
+      first = fuA head 128 first;
+      others = map (fuA head 0) between ++ (fuA head 64 last ∷ []);
+      handed = (head % 128 ∷ body first between last) ∷ [];
+    }
+
+abbrev pub groupsOf : List Sent → List (Group (List ℕ) Units)
+groupsOf sents = map groupOf sents
+
+-- how many bytes are gathered of it: a fragmented unit "less one byte"
+abbrev pub gatheredOf : Sent → ℕ
+gatheredOf (aggregated unit others) = 0
+gatheredOf (alone unit) = 0
+gatheredOf (fragmented head first between last) = length (body first between last)
+
+-- how many bytes are handed out for it, "prefixes included"
+abbrev pub handedLength : Bool → Sent → ℕ
+handedLength avc s = length (prefixed avc (groupOf s .handed))
+
+-- each unit's length can be said in two bytes
+abbrev pub Sized : Units → Type 0
+Sized [] = Unit {0}
+Sized (u ∷ us) = (length u < 65536) × Sized us
+
+-- none of the parts is empty
+abbrev pub NoneEmpty : Units → Type 0
+NoneEmpty [] = Unit {0}
+NoneEmpty (s ∷ parts) = (1 ≤ length s) × NoneEmpty parts
+
+-- a unit that a payload can be: "of type 1 to 23, of 3 bytes or more"
+pub record PlainUnit (u : List ℕ) : Type 0 where
+  pub long : 3 ≤ length u
+  pub type-low : 1 ≤ getD u 0 0 % 32
+  pub type-high : getD u 0 0 % 32 ≤ 23
+
+abbrev pub Lawful : Sent → Type 0
+Lawful (aggregated unit others) = Sized (unit ∷ others)
+Lawful (alone unit) = PlainUnit unit
+Lawful (fragmented head first between last) = NoneEmpty (first ∷ between) × (1 ≤ length last)

@@ -1,0 +1,68 @@
+// What the joiner needs of a packet: its source, its number, and where its payload is.
+ghost use mathlib.Core.Path.{_≡_};
+ghost use Prim.Native.Nat.{_<_, _≤_, _+_};
+ghost use lib.ListN.{length};
+ghost use Rattle.packet.specs.Read.{readPacket};
+ghost use Rattle.joiner.specs.Said.{arrivalSaid, arrivalOf};
+use error::Error;
+use packet::PacketRead;
+
+pub(crate) enum Arrival {
+    // the payload is `len` bytes of the packet from `at` on
+    Packet {
+        source: u32,
+        number: u16,
+        at: usize,
+        len: usize,
+    },
+    Refused(Error),
+}
+
+fn wide(b: u8) -> usize
+    ensures { λ r. ⌜ (r ≡ b) × (r < 256) ⌝ }
+{
+    b as usize
+}
+
+// By the packet's reader.
+fn read(packet: &[u8]) -> Arrival
+    ensures { λ r. ⌜ arrivalSaid r ≡ arrivalOf (readPacket (now (packet .entry))) ⌝ }
+{
+    let answer = packet::unmarshal(packet);
+    let read = answer.read;
+    match read {
+        PacketRead::Payload { at, len } => Arrival::Packet {
+            source: answer.header.ssrc,
+            number: answer.header.sequence_number,
+            at,
+            len,
+        },
+        PacketRead::Refused(e) => Arrival::Refused(e),
+    }
+}
+
+// A packet without padding and extensions needs no record: its fields stand at fixed places.
+pub(crate) fn arrive(packet: &[u8]) -> Arrival
+    ensures { λ r. ⌜ arrivalSaid r ≡ arrivalOf (readPacket (now (packet .entry))) ⌝ }
+{
+    if packet.len() < 12 {
+        return read(packet);
+    }
+    if 65535 < packet.len() {
+        return read(packet);
+    }
+    let b0 = packet[0];
+    if b0 / 16 % 4 != 0 {
+        return read(packet);
+    }
+    let at = 12 + 4 * wide(b0 % 16);
+    if packet.len() < at {
+        return read(packet);
+    }
+    Arrival::Packet {
+        source: wire::get_u32(packet, 8),
+        number: wire::get_u16(packet, 2),
+        at,
+        len: packet.len() - at,
+    }
+}
