@@ -1,0 +1,26 @@
+-- Each turn is one place further: the measure is what is left.
+use Prim.Native.Nat.{_-_}
+use lib.ListN.{length}
+use borrow.Author.Needs.{needs}
+use Rattle.rows.proofs.text.all_bytes.Statement.{statement}
+use Rattle.rows.proofs.text.all_bytes.Tie as tie
+
+abbrev Inv-loop : tie.InvT-loop
+Inv-loop s from b i₀ i = Unit {0}
+
+abbrev μ-loop : tie.MeasureT-loop
+μ-loop s from b i₀ i = length s - i
+
+pub all-bytes-spec : {M : Type 1} → statement M
+all-bytes-spec =
+    tie.close
+    (tie.spec
+    Inv-loop
+    μ-loop
+    (λ c. search needs)
+    (λ c. search needs)
+    (λ c. search needs)
+    (λ c. search needs)
+    (λ c. search needs)
+    (λ c. search needs)
+    (λ c. search needs))
