@@ -1,0 +1,29 @@
+-- Every worked packet of the paper's table is answered as the paper has it: the definitions compute each. Assumes nothing.
+use mathlib.Core.Path.{_≡_, refl}
+use mathlib.Core.List.{List, map}
+use Rattle.wire.specs.Net.{u16At, u32At, be16, be32}
+use Rattle.wire.specs.Packets.{whole}
+use Rattle.wire.specs.Part.{splice, padTo}
+use Rattle.wire.specs.Turns.{run}
+use Rattle.header.specs.Fields.{elementsOf, layElements, fieldsOf, layOut, inDomain}
+use Rattle.header.specs.Read.{oneByte, taken, turn, fieldsAt, readExtension, readFixed, readHeader}
+use Rattle.header.specs.Size.{headerSize}
+use Rattle.header.specs.Write.{fixedFor, octetsOf, inWritingDomain}
+use Rattle.packet.specs.Read.{stripped, readPacket}
+use Rattle.packet.specs.Write.{payloadOctets, packetOctets, packetSize, writePacket}
+use Rattle.h264.specs.Units.{units, unitsAt}
+use Rattle.h264.specs.Groups.{keep, stapA, pairFor, unitFor, groupsFor, fragment}
+use Rattle.h264.specs.Payload.{payloadOf}
+use Rattle.nal.specs.Kind.{shape}
+use Rattle.nal.specs.Unpack.{unpackTurn, unpack}
+use Rattle.nal.specs.Fed.{layBytes, layFed}
+use Rattle.h264_packet.specs.Depacketize as h264
+use Rattle.vp8.specs.Read as reader
+use Rattle.joiner.specs.Codec.{feed}
+use Rattle.joiner.specs.Join.{bySource, joinStep, opened}
+use Rattle.worked.specs.Asked.{Question, Says, say, blankVp8}
+use Rattle.worked.specs.Table.{Row, table}
+
+pub worked : map (λ (r : Row). say (r .asked)) table ≡ map (λ (r : Row). r .answer) table
+unfolding table u16At u32At be16 be32 whole splice padTo run elementsOf layElements fieldsOf layOut inDomain oneByte taken turn fieldsAt readExtension readFixed readHeader headerSize fixedFor octetsOf inWritingDomain stripped readPacket payloadOctets packetOctets packetSize writePacket units unitsAt keep stapA pairFor unitFor groupsFor fragment payloadOf shape unpackTurn unpack layBytes layFed h264.readPayload h264.depacketized blankVp8 reader.putRequired reader.putFlags reader.putPictureId reader.withFlags reader.withPictureId reader.withTl0 reader.withLayers reader.orShort reader.third reader.second reader.readOn reader.depacketized feed bySource joinStep opened
+worked = refl
