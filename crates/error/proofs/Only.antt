@@ -1,6 +1,9 @@
 -- No second answer: one law for each way in which the contracts are put. Every public call's own theorem cites one of them.
 -- Assumes nothing.
 use mathlib.Core.Path.{_≡_, refl, sym, ap, _∙_}
+use Prim.Native.Nat.{ℕ}
+use Rattle.error.specs.declared.Error.{Error}
+use Rattle.error.specs.Refusal.{numberOf}
 use Rattle.error.specs.Only.{Determined}
 
 -- the contract is an equation of the answer itself
@@ -22,3 +25,8 @@ by-both c d =
       holds = (c .holds, d .holds);
       only = λ r q i. (c .only (r .0) (q .0) i, d .only (r .1) (q .1) i);
     }
+
+-- ---- this crate's own call
+
+pub number-only : (e : Error) → Determined (λ (n : ℕ). n ≡ numberOf e)
+number-only e = by-value (numberOf e)

@@ -14,6 +14,7 @@ use Rattle.error.proofs.Only.{by-value, by-view}
 use Rattle.wire.specs.Net.{u16At}
 use Rattle.wire.specs.Part.{padTo}
 use Rattle.wire.specs.Turns.{Turn, more, done, after, run}
+use Rattle.header.specs.declared.Extensions.{Extensions}
 use Rattle.header.specs.declared.Header.{Header}
 use Rattle.header.specs.declared.HeaderRead.{HeaderRead}
 use Rattle.header.specs.declared.HeaderRead.the-variants as read
@@ -28,7 +29,7 @@ use Rattle.header.specs.declared.Got.the-variants as got
 use Rattle.header.specs.declared.IdCount.{IdCount}
 use Rattle.header.specs.declared.IdCount.the-variants as ids
 use Rattle.header.specs.declared.Ids.{Ids}
-use Rattle.header.specs.Fields.{Element, dataOf, roomFor, fieldsOf, blank, inDomain}
+use Rattle.header.specs.Fields.{Element, dataOf, roomFor, layElements, fieldsOf, blank, inDomain}
 use Rattle.header.specs.Read.{Item, pad, stop, past, element, Block, skip, padded, with-element, taken, turn, itemsBy, items, wholeBlock, Form, one-byte, two-byte, other, formOf, readBlock, Reading, bit, countOf, fixedLength, readingOf, blockAt, readExtension, readFixed, readHeader}
 use Rattle.header.specs.Size.{payloadLength, headerSize, lengthAsked, sizeAsked}
 use Rattle.header.specs.Write.{octetsOf, inWritingDomain, judged, writeHeader}
@@ -232,6 +233,10 @@ unmarshal-only s =
 
 pub default-only : Determined (λ (r : Header). r ≡ blank)
 default-only = by-value blank
+
+-- of `Extensions`
+pub new-only : Determined (λ (r : Extensions). r ≡ layElements [])
+new-only = by-value (layElements [])
 
 -- ---- setting and deleting
 
