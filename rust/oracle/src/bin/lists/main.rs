@@ -1,5 +1,6 @@
 //! Prints lists of questions with the oracle's answers, the same on every run.
 
+mod cases;
 mod h264;
 mod header;
 mod list;
@@ -18,7 +19,7 @@ use random::Random;
 fn main() -> ExitCode {
     let arguments: Vec<String> = std::env::args().skip(1).collect();
     let Some((rows, seed, counts)) = read(&arguments) else {
-        eprintln!("usage: lists header|packet|h264|vp8 [--seed N] [--counts]");
+        eprintln!("usage: lists header|packet|h264|vp8|cases [--seed N] [--counts]");
         return ExitCode::from(2);
     };
     // Refusals 3 and 18 are panics of the Rust; one of the lists' own is news.
@@ -46,6 +47,7 @@ fn read(arguments: &[String]) -> Option<(Rows, u64, bool)> {
         "packet" => packet::rows,
         "h264" => h264::rows,
         "vp8" => vp8::rows,
+        "cases" => cases::rows,
         _ => return None,
     };
     let (mut seed, mut counts) = (1, false);
