@@ -1,6 +1,6 @@
 -- Readers that COMPLETE shuts out: two lawful headers that differ in one field must both be read, and be read differently. Assumes nothing.
 use mathlib.Core.Path.{_≡_, ap}
-use mathlib.Core.Bool.{false}
+use mathlib.Core.Bool.{Bool, false}
 use mathlib.Core.List.{List, [], _++_}
 use mathlib.Core.Option.{none}
 use Prim.Native.Nat.{ℕ, _<_}
@@ -15,13 +15,13 @@ use Rattle.rfc3550.specs.Rfc3550 as rtp
 use Rattle.rfc3550.specs.Rfc8285.{Plan, Lawful, octets}
 use Rattle.header_rfc.specs.Says.{fieldsWith, readingOf, Fits, Complete}
 
--- the shortest header, of a payload type
-abbrev shortest : ℕ → Plan
-shortest type =
+-- the shortest header, of a padding bit and a payload type
+abbrev pub shortest : Bool → ℕ → Plan
+shortest padding type =
     record {
       fixed = record {
         version = 2;
-        padding = false;
+        padding = padding;
         marker = false;
         payload-type = type;
         sequence-number = 0;
@@ -32,8 +32,8 @@ shortest type =
       content = none;
     }
 
-shortest-lawful : (type : ℕ) → type < 128 → Lawful (shortest type)
-shortest-lawful type h =
+pub shortest-lawful : (padding : Bool) (type : ℕ) → type < 128 → Lawful (shortest padding type)
+shortest-lawful padding type h =
     record {
       header = record {
         fixed = record {
@@ -50,20 +50,20 @@ shortest-lawful type h =
       content = tt;
     }
 
-shortest-fits : (type : ℕ) → Fits (octets (shortest type) ++ [])
+shortest-fits : (type : ℕ) → Fits (octets (shortest false type) ++ [])
 unfolding rtp.octets fixedOctets be16 be32
 shortest-fits type = omega arith
 
 -- a complete reader reads the shortest header
 read-shortest : (read : List ℕ → Said Reading) → Complete read → (type : ℕ) → type < 128 →
-    read (octets (shortest type) ++ []) ≡ says (readingOf (shortest type))
+    read (octets (shortest false type) ++ []) ≡ says (readingOf (shortest false type))
 read-shortest read c type h =
-    c .within (shortest type) [] (shortest-lawful type h) tt (shortest-fits type) (record { few = omega arith; small = omega arith })
+    c .within (shortest false type) [] (shortest-lawful false type h) tt (shortest-fits type) (record { few = omega arith; small = omega arith })
 
 -- "a reader that refuses all"
 pub no-refuser : (why : List ℕ → Refusal) → Complete (λ (s : List ℕ). refused (why s)) → ⊥
 no-refuser why c =
-    let e : refused (why (octets (shortest 0) ++ [])) ≡ says (readingOf (shortest 0)) = read-shortest (λ s. refused (why s)) c 0 (omega arith) in
+    let e : refused (why (octets (shortest false 0) ++ [])) ≡ says (readingOf (shortest false 0)) = read-shortest (λ s. refused (why s)) c 0 (omega arith) in
     let z : _≡_ {A = ℕ} 0 1 = cc in
     omega arith
 
@@ -72,7 +72,7 @@ pub no-fixed-record : (f : Fields) (read : List ℕ → Said Reading) → ((s : 
 unfolding fieldsWith
 no-fixed-record f read always c =
     let zero-type : 0 ≡ f .type =
-    ap (λ (g : Fields). g .type) (always (octets (shortest 0) ++ []) (readingOf (shortest 0)) (read-shortest read c 0 (omega arith))) in
+    ap (λ (g : Fields). g .type) (always (octets (shortest false 0) ++ []) (readingOf (shortest false 0)) (read-shortest read c 0 (omega arith))) in
     let one-type : 1 ≡ f .type =
-    ap (λ (g : Fields). g .type) (always (octets (shortest 1) ++ []) (readingOf (shortest 1)) (read-shortest read c 1 (omega arith))) in
+    ap (λ (g : Fields). g .type) (always (octets (shortest false 1) ++ []) (readingOf (shortest false 1)) (read-shortest read c 1 (omega arith))) in
     omega arith

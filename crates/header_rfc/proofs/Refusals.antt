@@ -26,12 +26,12 @@ use Rattle.header_rfc.proofs.Fixed.{readingAt, around, extended, read-p
 use Rattle.header_rfc.proofs.Sound.{cut-refused}
 
 -- the number of a refusal; an answer has none
-abbrev numberIn : {A : Type 0} → Said A → ℕ
+abbrev pub numberIn : {A : Type 0} → Said A → ℕ
 numberIn (says a) = 0
 numberIn (refused r) = r .number
 
 -- a block is said, or refused by 3 or 7
-abbrev Block37 : Said Block → Type 0
+abbrev pub Block37 : Said Block → Type 0
 Block37 b = (numberIn b ≡ 0) ⊎ ((numberIn b ≡ 3) ⊎ (numberIn b ≡ 7))
 
 past-refused : {b : Said Block} → b ≡ refuse 3 → Block37 b
@@ -88,7 +88,7 @@ in-whole b = room (roomFor (b .elements) (b .left)) refl
     room true r = inl (ap (λ (t : Bool). numberIn (cond t (says longer) (refuse 7))) r)
     room false r = inr (inr (ap (λ (t : Bool). numberIn (cond t (says longer) (refuse 7))) r))
 
-in-block : (g : paper.Form) (b : Block) → Block37 (readBlock g b)
+pub in-block : (g : paper.Form) (b : Block) → Block37 (readBlock g b)
 in-block paper.one-byte b = in-turns one-byte (b .left + 1) b
 in-block paper.two-byte b = in-turns (two-byte 0) (b .left + 1) b
 in-block paper.other b = in-whole b

@@ -208,7 +208,7 @@ round-trip f w r payload fits = go (f .extension) refl r
 
 -- ---- WRITER
 
--- "the written octets are those of a lawful plan that says the record"
+-- the written octets are those of a lawful plan that says the record
 pub writer : (f : Fields) → Writable f → ReadsBack f → (AppBits (f .profile) → ⊥) → WrittenAs f
 writer f w r bits = go (f .extension) refl r
   where

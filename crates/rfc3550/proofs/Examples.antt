@@ -2,12 +2,13 @@
 use mathlib.Core.Path.{_≡_, refl}
 use mathlib.Core.Bool.{true, false}
 use mathlib.Core.List.{List, [], _∷_}
-use mathlib.Core.Option.{none}
+use mathlib.Core.Option.{none, some}
 use Prim.Native.Nat.{ℕ}
 use Rattle.wire.specs.Net.{be16, be32}
 use Rattle.rfc3550.specs.Rfc3550.{Fixed, fixedOctets, extensionOctets}
 use Rattle.rfc3550.specs.Rfc3550 as rtp
 use Rattle.rfc3550.specs.Rfc8285.{one-byte, two-byte, padding, element, Content, laid, other, extensionOf, octets}
+use Rattle.rfc3550.specs.Packet.{packetOctets}
 
 abbrev sample : Fixed
 sample =
@@ -48,3 +49,26 @@ two-byte-elements = refl
 no-words : extension (other 0x1234 []) ≡ 0x12 ∷ 0x34 ∷ 0 ∷ 0 ∷ []
 unfolding extensionOctets be16
 no-words = refl
+
+-- RFC 3550 5.1, two octets of payload and three of padding, which need not be zeros
+padded-packet : packetOctets
+    (record {
+      header = record {
+        fixed = record {
+          version = 2;
+          padding = true;
+          marker = false;
+          payload-type = 96;
+          sequence-number = 1;
+          timestamp = 2;
+          ssrc = 3;
+          csrcs = [];
+        };
+        content = none;
+      };
+      payload = 0xAA ∷ 0xBB ∷ [];
+      padding = some (record { before = 7 ∷ 9 ∷ [] });
+    })
+    ≡ 0xA0 ∷ 0x60 ∷ 0 ∷ 1 ∷ 0 ∷ 0 ∷ 0 ∷ 2 ∷ 0 ∷ 0 ∷ 0 ∷ 3 ∷ 0xAA ∷ 0xBB ∷ 7 ∷ 9 ∷ 3 ∷ []
+unfolding packetOctets rtp.octets fixedOctets be16 be32
+padded-packet = refl

@@ -1,0 +1,54 @@
+-- The smallest packets that show where the reader leaves the RFC, computed. Assumes nothing.
+use mathlib.Core.Path.{_≡_, refl}
+use mathlib.Core.Bool.{Bool, true, false}
+use mathlib.Core.List.{List, [], _∷_}
+use Prim.Native.Nat.{ℕ}
+use Rattle.error.specs.Said.{says, refuse}
+use Rattle.wire.specs.Net.{u16At, u32At}
+use Rattle.wire.specs.Turns.{run}
+use Rattle.header.specs.Fields.{Fields}
+use Rattle.header.specs.Read.{oneByte, taken, turn, fieldsAt, readExtension, readFixed, readHeader}
+use Rattle.packet.specs.Read.{stripped, readPacket}
+use Rattle.packet_rfc.proofs.Behind.{readingAt}
+
+-- a header of twelve octets with this first octet, and what follows it
+abbrev packet : ℕ → List ℕ → List ℕ
+packet first rest = first ∷ 0x60 ∷ 0 ∷ 1 ∷ 0 ∷ 0 ∷ 0 ∷ 2 ∷ 0 ∷ 0 ∷ 0 ∷ 3 ∷ rest
+
+-- its fields: the P bit is set, and there are no elements
+abbrev padded : Bool → ℕ → Fields
+padded extension profile =
+    record {
+      version = 2;
+      padding = true;
+      extension = extension;
+      marker = false;
+      type = 96;
+      number = 1;
+      time = 2;
+      source = 3;
+      csrcs = [];
+      profile = profile;
+      elements = [];
+      pads = 0;
+    }
+
+-- "Padding bit, payload 00: payload 00." (`Deviations.zero-kept`)
+count-of-0 : readPacket (packet 0xA0 (0 ∷ [])) ≡ says (readingAt (padded false 0) 12 1)
+unfolding readPacket readHeader readFixed fieldsAt stripped u16At u32At
+count-of-0 = refl
+
+-- "Empty: 4." (`SHORT`)
+no-count : readPacket (packet 0xA0 []) ≡ refuse 4
+unfolding readPacket readHeader readFixed fieldsAt stripped u16At u32At
+no-count = refl
+
+-- padding and no payload (`Deviations.only-padding`)
+count-of-all : readPacket (packet 0xA0 (1 ∷ [])) ≡ says (readingAt (padded false 0) 12 0)
+unfolding readPacket readHeader readFixed fieldsAt stripped u16At u32At
+count-of-all = refl
+
+-- id 15, and the block's last octet is the count (`Deviations.reserved-padded`)
+count-in-block : readPacket (packet 0xB0 (0xBE ∷ 0xDE ∷ 0 ∷ 1 ∷ 0xF0 ∷ 0xAA ∷ 0xBB ∷ 3 ∷ [])) ≡ says (readingAt (padded true 0xBEDE) 17 0)
+unfolding readPacket readHeader readFixed readExtension turn taken oneByte run fieldsAt stripped u16At u32At
+count-in-block = refl

@@ -1,0 +1,10 @@
+pub mod Behind
+pub mod Complete
+pub mod Readers
+pub mod Sound
+pub mod Refusals
+pub mod RoundTrip
+pub mod Deviations
+pub mod Calls
+pub mod Examples
+pub mod Main

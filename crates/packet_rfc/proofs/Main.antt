@@ -1,0 +1,162 @@
+-- The packet's reader and writer against RFC 3550: the theorems, each cited from the file that proves it.
+--
+-- The words. A packet of RFC 3550 is a plan: a header's plan (RFC 3550 and RFC 8285, as crate `header_rfc` has it), a payload, and padding exactly
+-- where the P bit is set. `packetOctets p` are the plan's octets; they are defined in crate `rfc3550` from the RFC alone. A plan is `LawfulPacket`
+-- where its header is lawful, P says whether there is padding, and the padding's last octet counts 1 to 255 octets, itself included.
+-- `readPacket s` is the paper's reading of the bytes s, and `written.packetOctets f payload` what the paper has written for the fields f and a payload:
+-- the code of crate `packet` is proved equal to both. `readingOf p` is what the plan says, in the reader's own terms: the header's fields, elements and
+-- count of padding in the extension, and the payload's place and length; `refuse n` is the paper's refusal n.
+--
+-- The paper's limits are `Fits` (65,535 bytes) and `Within` (32 elements, 1,024 data bytes). Of the crate's deviations COMPLETE has to leave one out:
+-- `Plain`, of the two-byte form's profiles 0x1000 to 0x100F only 0x1000 is read as such.
+use mathlib.Core.Path.{_≡_, ap, _∙_}
+use mathlib.Core.Bool.{true}
+use mathlib.Core.List.{List}
+use mathlib.Core.Logic.{_⊎_}
+use Prim.Native.Nat.{ℕ, _+_, _≤_}
+use lib.ListN.{length, take}
+use Rattle.error.specs.Refusal.{Refusal}
+use Rattle.error.specs.Said.{Said, says, refused, refuse}
+use Rattle.header.specs.declared.Header.{Header}
+use Rattle.header.specs.declared.Length.{Length}
+use Rattle.header.specs.declared.Length.the-variants as len
+use Rattle.header.specs.Fields.{Fields, fieldsOf, layOut}
+use Rattle.header.specs.Said as answers
+use Rattle.rfc3550.specs.Rfc3550.{Octets}
+use Rattle.rfc3550.specs.Packet.{Packet, LawfulPacket, packetOctets, Padded, Uncounted, Short}
+use Rattle.rfc3550.proofs.Packets as packets
+use Rattle.header_rfc.specs.Says.{elementsIn, fieldsIn, Within, Plain, AppBits, Fits}
+use Rattle.header_rfc.specs.RoundTrip.{Writable, ReadsBack, readBack, Trailing}
+use Rattle.packet.specs.declared.Unmarshalled.{Unmarshalled}
+use Rattle.packet.specs.Read.{Payload, PacketReading, readPacket}
+use Rattle.packet.specs.Write as written
+use Rattle.packet.specs.Said.{heard, readingHeard}
+use Rattle.packet_rfc.specs.Says.{readingOf, payloadIn, Complete, Sound, CutInPadding}
+use Rattle.packet_rfc.specs.RoundTrip.{Chosen, FillingEnd, WrittenAs, packetBack, PacketReadsBack, ReadsAgain}
+use Rattle.packet_rfc.proofs.Complete as complete
+use Rattle.packet_rfc.proofs.Readers as readers
+use Rattle.packet_rfc.proofs.Sound as sound
+use Rattle.packet_rfc.proofs.Refusals as refusals
+use Rattle.packet_rfc.proofs.RoundTrip as round-trip
+use Rattle.packet_rfc.proofs.Calls as calls
+
+-- ---- reading
+
+-- COMPLETE. Every well-formed packet within the limits is read as exactly what its plan says: its header's fields, elements and count of padding, and
+-- the payload at its place with its length, whatever the octets of padding are. Over 32 elements or 1,024 data bytes it is 7.
+pub COMPLETE : Complete readPacket
+COMPLETE = complete.complete
+
+-- The bytes at that place are the payload.
+pub PAYLOAD : (p : Packet) → payloadIn (packetOctets p) (readingOf p) ≡ p .payload
+PAYLOAD = complete.payload-bytes
+
+-- The same of the code: whatever `unmarshal` answers under its contract
+pub CODE-COMPLETE : (u : Unmarshalled) (p : Packet) → heard u ≡ readingHeard (readPacket (packetOctets p)) →
+    LawfulPacket p → Plain (p .header .content) → Fits (packetOctets p) → Within (elementsIn (p .header .content)) →
+    heard u ≡ record { answer = says (readingOf p .payload); header = layOut (fieldsIn (p .header)) }
+CODE-COMPLETE u p contract l plain fits w = contract ∙ ap readingHeard (COMPLETE .within p l plain fits w)
+
+-- COMPLETE shuts out "a reader that refuses all" ..
+pub NO-REFUSER : (why : List ℕ → Refusal) → Complete (λ (s : List ℕ). refused (why s)) → ⊥
+NO-REFUSER = readers.no-refuser
+
+-- .. "one fixed record for every packet" ..
+pub NO-FIXED-RECORD : (f : Fields) (read : List ℕ → Said PacketReading) → ((s : List ℕ) (r : PacketReading) → read s ≡ says r → r .fields ≡ f) →
+    Complete read → ⊥
+NO-FIXED-RECORD = readers.no-fixed-record
+
+-- .. one fixed payload for every packet, by its place and length or by its bytes ..
+pub NO-FIXED-PLACE : (p : Payload) (read : List ℕ → Said PacketReading) → ((s : List ℕ) (r : PacketReading) → read s ≡ says r → r .payload ≡ p) →
+    Complete read → ⊥
+NO-FIXED-PLACE = readers.no-fixed-place
+
+pub NO-FIXED-PAYLOAD : (bytes : List ℕ) (read : List ℕ → Said PacketReading) →
+    ((s : List ℕ) (r : PacketReading) → read s ≡ says r → payloadIn s r ≡ bytes) → Complete read → ⊥
+NO-FIXED-PAYLOAD = readers.no-fixed-payload
+
+-- .. and a payload that always goes to the packet's end.
+pub NO-KEEPER : (read : List ℕ → Said PacketReading) →
+    ((s : List ℕ) (r : PacketReading) → read s ≡ says r → r .payload .place + r .payload .len ≡ length s) → Complete read → ⊥
+NO-KEEPER = readers.no-keeper
+
+-- SOUND. Whatever is accepted with version 2 is a packet of the RFC with those fields and that payload; or it is a lawful header with the P bit before
+-- octets of which the last is 0, and all those octets are the payload; or its header strays, as the header's SOUND says, with the place and the reason,
+-- and the payload is measured by the same rule from wherever the reading of the header ended.
+pub SOUND : Sound readPacket
+SOUND = sound.sound
+
+-- 4 is given where a header with the P bit was read, and behind it are no octets, or fewer than the last of them counts ..
+pub SHORT : (s : List ℕ) → CutInPadding s → readPacket s ≡ refuse 4
+SHORT = refusals.short
+
+-- .. and nowhere else ..
+pub ONLY-SHORT : (s : List ℕ) → readPacket s ≡ refuse 4 → CutInPadding s
+ONLY-SHORT = refusals.only-short
+
+-- .. so that no packet of the RFC gets it, within the limits or not.
+pub NEVER-SHORT : (p : Packet) → LawfulPacket p → readPacket (packetOctets p) ≡ refuse 4 → ⊥
+NEVER-SHORT = refusals.never-short
+
+-- ---- the octets alone, without reader and writer
+
+-- UNAMBIGUOUS. Two lawful packets with the same octets are the same packet: header, payload and padding.
+pub UNAMBIGUOUS : (p q : Packet) → LawfulPacket p → LawfulPacket q → packetOctets p ≡ packetOctets q → p ≡ q
+UNAMBIGUOUS = packets.unambiguous-packets
+
+-- All octets behind a header with the P bit are a payload with lawful padding behind it, end in a count of 0, or are short ..
+pub PADDED-OR-NOT : (s : List ℕ) → Octets s → Padded s ⊎ (Uncounted s ⊎ Short s)
+PADDED-OR-NOT = packets.padded-or-not
+
+-- .. and never two of these.
+pub PADDED-COUNTED : (s : List ℕ) → Padded s → Uncounted s → ⊥
+PADDED-COUNTED = packets.padded-counted
+
+pub PADDED-ROOM : (s : List ℕ) → Padded s → Short s → ⊥
+PADDED-ROOM = packets.padded-room
+
+pub UNCOUNTED-ROOM : (s : List ℕ) → Uncounted s → Short s → ⊥
+UNCOUNTED-ROOM = packets.uncounted-room
+
+-- ---- writing
+
+-- WRITER. Under the paper's conditions for the round trip the written octets are those of a lawful packet, which says the record and has the payload. (A
+-- profile 0x1001 to 0x100F is RFC 8285's two-byte form; the crate writes any words there.)
+pub WRITER : (f : Fields) (payload : List ℕ) → Writable f → ReadsBack f → (AppBits (f .profile) → ⊥) → WrittenAs f payload
+WRITER = round-trip.writer
+
+-- What the writer chooses, behind n bytes of payload, is lawful padding: zeros and a count of 1 to 4, up to a multiple of 4; "an aligned payload gets 4".
+pub WRITER-PADDING : (n : ℕ) → Chosen n (written.paddingOctets (written.paddingLength true n))
+WRITER-PADDING = round-trip.padding-chosen
+
+-- ROUND TRIP. "A whole packet reads back so too, where at most 65,535 bytes were written": the fields as in the header's round trip, the payload at its
+-- place with its length, and the bytes there.
+pub ROUND-TRIP : (f : Fields) (payload : List ℕ) → Writable f → ReadsBack f → Fits (written.packetOctets f payload) → PacketReadsBack f payload
+ROUND-TRIP = round-trip.round-trip
+
+-- The same of the code: whatever `marshal_to` leaves in front of a buffer, where it answers that n bytes were written, and `unmarshal` answers of them
+pub CODE-ROUND-TRIP : (h : Header) (payload buf exit : List ℕ) (a : Length) (n : ℕ) (u : Unmarshalled) →
+    answers.heardWritten a exit ≡ answers.written buf (written.writePacket h payload (length buf)) → a ≡ len.Bytes n →
+    heard u ≡ readingHeard (readPacket (take n exit)) → Writable (fieldsOf h) → ReadsBack (fieldsOf h) → n ≤ 65535 →
+    heard u ≡ record { answer = says (packetBack (fieldsOf h) payload .payload); header = layOut (readBack (fieldsOf h)) }
+CODE-ROUND-TRIP = calls.code-round-trip
+
+-- The other way round: what was read from any octets, written again with its own padding bit and payload, reads back with the same payload ..
+pub READ-WRITE-READ : (s : List ℕ) → Octets s → (r : PacketReading) → readPacket s ≡ says r →
+    Fits (written.packetOctets (r .fields) (payloadIn s r)) → ReadsAgain s r
+READ-WRITE-READ = round-trip.reads-again
+
+-- .. and a well-formed packet whose header and padding are laid out as the writer lays them out is written as the octets that were read.
+pub SAME-OCTETS : (p : Packet) → LawfulPacket p → Plain (p .header .content) → Trailing (p .header .content) →
+    FillingEnd (length (p .payload)) (p .padding) → written.packetOctets (fieldsIn (p .header)) (p .payload) ≡ packetOctets p
+SAME-OCTETS = round-trip.written-again
+
+-- ---- where the crate leaves the RFC, each with the theorem that says exactly what it does; those of the header stand in header_rfc/proofs/Main.antt
+--
+-- RFC 3550 5.1, a padding count of 0              nothing is stripped: Deviations.zero-kept; no packet of the RFC: .zero-no-packet
+-- RFC 3550 5.1, padding of 1 to 255 octets        read whatever they are: COMPLETE; written 1 to 4, zeros and the count: WRITER-PADDING
+-- RFC 3550 A.1, a count that leaves no payload    taken, the payload is empty: Deviations.only-padding
+-- RFC 3550 5.3.1, a header that strays            what is left of the packet behind what was read of it is judged by the same rule:
+--                                                 Deviations.stray-plain, .stray-padded, .stray-zero, .stray-short
+-- RFC 8285 4.2, id 15, with the P bit             the padding may stand in the rest of the block: Deviations.reserved-padded
+-- RFC 8285 4.3, application bits not 0            the payload is that of the packet: Deviations.appbits-packet
