@@ -1,16 +1,20 @@
 -- No second answer: for each public call one result, one state and one content of each lent buffer meet its contract. Assumes nothing.
 use mathlib.Core.Path.{_≡_, refl, ap}
 use mathlib.Core.List.{List}
-use mathlib.Core.Bool.{Bool, true, false}
+use mathlib.Core.Bool.{Bool, true, false, cond}
 use Prim.Native.Nat.{ℕ}
-use Rattle.error.specs.Said.{Said, says, refused}
+use Rattle.error.specs.Said.{Said, says, refused, refuse}
 use Rattle.error.specs.Only.{Determined}
 use Rattle.error.proofs.Inverse.{errorOf, errorOf-refusalOf}
 use Rattle.error.proofs.Only.{by-value, by-view}
+use Rattle.h264.specs.declared.search.Found.{Found}
+use Rattle.h264.specs.declared.search.Search.{Search}
+use Rattle.h264.specs.declared.search.Search.the-variants as search-variants
 use Rattle.h264.specs.declared.send.H264Payloader.{H264Payloader}
 use Rattle.h264.specs.declared.send.Payloads.{Payloads}
 use Rattle.h264.specs.declared.send.Payloads.the-variants.{Written, Refused}
 use Rattle.h264.specs.declared.send.Sent.{Sent}
+use Rattle.h264.specs.Search.{nextCode, saidSearch, beyond, nextInd}
 use Rattle.h264.specs.Units.{unitsAt}
 use Rattle.h264.specs.Groups.{Saved, nothingSaved, keepAll, groupsOf, packetsOf}
 use Rattle.h264.specs.Payload.{layOut, savedIn, outside, overLimit, tooSmall, Counts, said, Left, left, refusedWith, sentAs, leftBy, payloadOf}
@@ -57,3 +61,25 @@ payload-only h mtu frame out ends =
 
 pub new-only : Determined (λ (r : H264Payloader). r ≡ layOut nothingSaved)
 new-only = by-value (layOut nothingSaved)
+
+-- ---- the search
+
+abbrev unsaidSearch : Said Found → Search
+unsaidSearch (says found) = search-variants.Yields found
+unsaidSearch (refused r) = search-variants.Refused (errorOf r)
+
+unsaid-search : (a : Search) → unsaidSearch (saidSearch a) ≡ a
+unsaid-search (search-variants.Yields found) = refl
+unsaid-search (search-variants.Refused e) = ap search-variants.Refused (errorOf-refusalOf e)
+
+sayable-search : (b : Bool) (found : Found) →
+    let r : Said Found = cond b (refuse 8) (says found) in
+    saidSearch (unsaidSearch r) ≡ r
+sayable-search true found = refl
+sayable-search false found = refl
+
+pub next-ind-only : (frame : List ℕ) (start : ℕ) → Determined (λ (r : Search). saidSearch r ≡ nextInd frame start)
+unfolding nextInd
+next-ind-only frame start =
+    by-view saidSearch unsaidSearch unsaid-search (unsaidSearch (nextInd frame start)) (nextInd frame start)
+    (sayable-search (beyond frame start) (nextCode frame start))

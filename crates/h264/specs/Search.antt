@@ -1,11 +1,15 @@
 -- "A start code is two or more zeros and a 1." Assumes nothing.
 use mathlib.Core.List.{List, [], _∷_}
-use mathlib.Core.Bool.{Bool, true, false, cond, _&&_}
+use mathlib.Core.Bool.{Bool, true, false, cond, _&&_, _||_}
 use Prim.Native.Nat.{ℕ, _+_, _-_}
-use lib.Dec.{eqb, leb}
-use lib.ListN.{drop}
+use lib.Dec.{eqb, leb, ltb}
+use lib.ListN.{length, drop}
+use Rattle.error.specs.Said.{Said, says, refused, refuse}
+use Rattle.error.specs.Refusal.{refusalOf}
 use Rattle.h264.specs.declared.search.Found.{Found}
 use Rattle.h264.specs.declared.search.Found.the-variants.{At, Nothing}
+use Rattle.h264.specs.declared.search.Search.{Search}
+use Rattle.h264.specs.declared.search.Search.the-variants.{Yields, Refused}
 
 -- how many zeros stand in a row up to a byte, that byte included, where `zeros` stood before it
 abbrev pub zerosBy : Bool → ℕ → ℕ
@@ -25,3 +29,17 @@ scan (b ∷ s) at zeros =
 -- "The search yields the place and length of the first start code, all its zeros included": from the place `start` on
 unfoldable pub nextCode : List ℕ → ℕ → Found
 nextCode frame start = scan (drop start frame) start 0
+
+-- ---- the search as a call
+
+-- what an answer says: the place and length of a start code or that there is none, or the paper's number
+abbrev pub saidSearch : Search → Said Found
+saidSearch (Yields found) = says found
+saidSearch (Refused e) = refused (refusalOf e)
+
+-- 8: "frames up to 16,777,216"; and a place beyond the frame's end, where the Rust panics
+abbrev pub beyond : List ℕ → ℕ → Bool
+beyond frame start = ltb 16777216 (length frame) || ltb (length frame) start
+
+unfoldable pub nextInd : List ℕ → ℕ → Said Found
+nextInd frame start = cond (beyond frame start) (refuse 8) (says (nextCode frame start))

@@ -4,8 +4,9 @@
 ghost use mathlib.Core.Path.{_≡_};
 ghost use Prim.Native.Nat.{_≤_};
 ghost use lib.ListN.{length, drop};
-ghost use Rattle.h264.specs.Search.{nextCode};
+ghost use Rattle.h264.specs.Search.{nextCode, saidSearch, nextInd};
 ghost use Rattle.h264.specs.Units.{units, pieces, Pieced};
+use error::Error;
 
 pub enum Found {
     // the place of a start code's first zero, and how many bytes it has
@@ -13,8 +14,13 @@ pub enum Found {
     Nothing,
 }
 
+pub enum Search {
+    Yields(Found),
+    Refused(Error),
+}
+
 // The first start code from start on, all its zeros included.
-pub(crate) fn next_ind(frame: &[u8], start: usize) -> Found
+pub(crate) fn next_code(frame: &[u8], start: usize) -> Found
     ensures { λ r. ⌜ r ≡ nextCode (now (frame .entry)) start ⌝ }
 {
     let mut zero_count = 0;
@@ -37,11 +43,24 @@ pub(crate) fn next_ind(frame: &[u8], start: usize) -> Found
     }
 }
 
+// The search by itself: too long a frame is refused, and a place beyond its end.
+pub fn next_ind(frame: &[u8], start: usize) -> Search
+    ensures { λ r. ⌜ saidSearch r ≡ nextInd (now (frame .entry)) start ⌝ }
+{
+    if 16777216 < frame.len() {
+        return Search::Refused(Error::OutsideDomain);
+    }
+    if frame.len() < start {
+        return Search::Refused(Error::OutsideDomain);
+    }
+    Search::Yields(next_code(frame, start))
+}
+
 // Where the first unit starts: behind the first start code, or with the frame.
 pub(crate) fn first_unit(frame: &[u8]) -> usize
     ensures { λ r. ⌜ (r ≤ length (now (frame .entry))) × (pieces (drop r (now (frame .entry))) ≡ units (now (frame .entry))) ⌝ }
 {
-    match next_ind(frame, 0) {
+    match next_code(frame, 0) {
         Found::At(at, len) => at + len,
         Found::Nothing => 0,
     }
@@ -62,7 +81,7 @@ pub(crate) fn unit_at(frame: &[u8], start: usize) -> Piece
     requires { ⌜ start ≤ length (now frame) ⌝ }
     ensures { λ r. ⌜ Pieced (now (frame .entry)) start r ⌝ }
 {
-    match next_ind(frame, start) {
+    match next_code(frame, start) {
         Found::At(at, len) => Piece {
             end: at,
             more: true,

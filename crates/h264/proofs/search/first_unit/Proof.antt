@@ -10,17 +10,17 @@ add : tie.Need-add-result
 add c =
     let start = c .before .before .before .before .before in
     let found = c .before .at .given in
-    omega (arith, first-at (start .args .frame .now) (found .0 .0) (found .0 .1 .0) (sym (c .before .before .before .next-ind .ensures) ∙ found .1) .0)
+    omega (arith, first-at (start .args .frame .now) (found .0 .0) (found .0 .1 .0) (sym (c .before .before .before .next-code .ensures) ∙ found .1) .0)
 
 returns : tie.Need-returns
 returns c =
     let start = c .before .before .before .before .before in
     let found = c .before .at .given in
-    first-at (start .args .frame .now) (found .0 .0) (found .0 .1 .0) (sym (c .before .before .before .next-ind .ensures) ∙ found .1)
+    first-at (start .args .frame .now) (found .0 .0) (found .0 .1 .0) (sym (c .before .before .before .next-code .ensures) ∙ found .1)
 
 returns-2 : tie.Need-returns-2
 returns-2 c =
-    (omega arith, first-none (c .before .before .before .before .args .frame .now) (sym (c .before .before .next-ind .ensures) ∙ c .enum-told .given .1))
+    (omega arith, first-none (c .before .before .before .before .args .frame .now) (sym (c .before .before .next-code .ensures) ∙ c .enum-told .given .1))
 
 pub first-unit-spec : {M : Type 1} → statement M
 first-unit-spec =

@@ -18,6 +18,7 @@ pub fn rows(list: &mut List) {
     short_packets(list);
     aggregates(list);
     fragments(list);
+    long_units(list);
     reading_limits(list);
     shows(list);
 }
@@ -48,7 +49,12 @@ fn start_codes(list: &mut List) {
     }
     for zeros in [1, 2, 3, 200, 1_000] {
         let frame = [&[0x65][..], &vec![0; zeros], &[1, 0x41]].concat();
-        list.ask(format!("h264.next {} 0", hex(&frame)));
+        for start in [0, zeros - 1, zeros] {
+            list.ask(format!("h264.next {} {start}", hex(&frame)));
+        }
+    }
+    for start in [1 << 24, 1 << 40, usize::MAX] {
+        list.ask(format!("h264.next 000001 {start}"));
     }
 }
 
@@ -99,14 +105,16 @@ fn units_and_mtus(list: &mut List) {
     }
 }
 
-/// Zeros before, between and behind units, and bytes before the first start code.
+/// Zeros before, between and behind units, a start code at the frame's very end, and bytes before
+/// the first one.
 fn zero_runs(list: &mut List) {
-    for zeros in 0..7 {
+    for zeros in (0..7).chain([200]) {
         let run = &vec![0; zeros][..];
         let frames = [
             [run, &[1, 0x65, 0x11, 0x12]].concat(),
             [&[0, 0, 1, 0x65, 0x11], run, &[1, 0x41, 0x22]].concat(),
             [&[0, 0, 1, 0x65, 0x11], run].concat(),
+            [&[0, 0, 1, 0x65, 0x11], run, &[1]].concat(),
             [&[0x65, 0x11], run, &[2, 0, 0, 1, 0x41]].concat(),
             [&[0, 0, 1], run, &[1, 0x65]].concat(),
             [&[0, 0, 1], run].concat(),
@@ -125,7 +133,7 @@ fn pairs(list: &mut List) {
         [&[0x65, 1, 2], &[0x65], &[0x09, 0x10], &[0x0C, 0x80], &[], &[0x67, 9], &[0x68, 9]];
     let pair = [0, 0, 1, 0x67, 0xEE, 0, 0, 1, 0x68, 0xDD, 0, 0, 1, 0x65, 1, 2];
     for sets in ["- -", "67aa -", "- 68bb", "67aa 68bb", "e7aabbcc 0801", "0701 28"] {
-        for mtu in [0, 1, 2, 3, 8, 9, 10, 11] {
+        for mtu in [0, 1, 2, 3, 7, 8, 9, 10, 11, 12] {
             for unit in units {
                 send(list, mtu, sets, unit);
                 send(list, mtu, sets, &[&[0, 0, 1], unit, &[0, 0, 1, 0x41, 7, 7]].concat());
@@ -244,13 +252,15 @@ fn fragments(list: &mut List) {
         let first = list.random.pick(&[0x1C, 0x3C, 0x7C, 0xFC]);
         read(list, avc, run, &[first, second, 0x33]);
     }
-    let packets: [&[u8]; 8] = [
+    let packets: [&[u8]; 10] = [
         &[0x7C, 0x85, 0x11],
         &[0x7C, 0x05, 0x22, 0x23],
         &[0x5C, 0x41, 0x33],
         &[0x9C, 0xC7, 0x44],
         &[0x65, 0x01, 0x02],
         &[0x78, 0x00, 0x01, 0x41],
+        &[0x78, 0x00, 0x05, 0x41],
+        &[0x78, 0x00, 0x01, 0x41, 0x00],
         &[0x7D, 0x85, 0x11],
         &[0x7C, 0x85],
     ];
@@ -269,6 +279,21 @@ fn next_run(answer: String, run: String) -> String {
     match answer.strip_prefix("ok ").and_then(|rest| rest.split_once(' ')) {
         Some((run, _)) => run.to_string(),
         None => run,
+    }
+}
+
+/// Lengths of more than one byte, behind both prefixes: of a unit alone, in a STAP-A and joined.
+fn long_units(list: &mut List) {
+    for len in [255, 256, 257, 1_000] {
+        let unit: Vec<u8> = (0x65..0x65 + len).map(|byte| byte as u8).collect();
+        let size = (len as u16).to_be_bytes();
+        let aggregate = [&[0x78], &size[..], &unit, &[0, 2, 0x41, 0x42]].concat();
+        let (run, last) = (hex(&unit[1..101]), [&[0x7C, 0x45], &unit[101..]].concat());
+        for avc in ["0", "1"] {
+            read(list, avc, "c1c2", &unit);
+            read(list, avc, "-", &aggregate);
+            read(list, avc, &run, &last);
+        }
     }
 }
 
@@ -291,7 +316,7 @@ fn shows(list: &mut List) {
         let (mut sets, mut run) = ("- -".to_string(), "-".to_string());
         let avc = list.random.pick(&["0", "1"]);
         for _ in 0..5 {
-            let mtu = list.random.pick(&[3, 4, 5, 9, 12, 30]);
+            let mtu = list.random.pick(&[0, 2, 3, 4, 5, 9, 12, 30]);
             let frame = frame(&mut list.random);
             let answer = send(list, mtu, &sets, &frame);
             let Some((saved, packets)) =
@@ -312,7 +337,7 @@ fn shows(list: &mut List) {
 
 fn frame(random: &mut Random) -> Vec<u8> {
     let mut frame = vec![];
-    for _ in 0..1 + random.below(4) {
+    for _ in 0..random.below(5) {
         frame.extend(vec![0; 2 + random.below(3)]);
         frame.push(1);
         frame
