@@ -144,7 +144,7 @@ unit-headed mtu u o = go (leb (length u) mtu) (ltb mtu 3)
     go false true = tt
     go false false = divided u
 
-keep-octets : (v : Saved) (u : List ℕ) → SavedOctets v → Octets u → SavedOctets (keep v u)
+pub keep-octets : (v : Saved) (u : List ℕ) → SavedOctets v → Octets u → SavedOctets (keep v u)
 unfolding keep
 keep-octets v u o q = go (kindOf u)
   where
@@ -159,7 +159,7 @@ keep-octets v u o q = go (kindOf u)
     go Pps = record { sps = o .sps; pps = q }
     go Coded = forgot (bothSaved v)
 
-groups-headed : (mtu : ℕ) (v : Saved) (us : List (List ℕ)) → SavedOctets v → Each Octets us → Each Headed (groupsOf mtu v us)
+pub groups-headed : (mtu : ℕ) (v : Saved) (us : List (List ℕ)) → SavedOctets v → Each Octets us → Each Headed (groupsOf mtu v us)
 unfolding groupsFor
 groups-headed mtu v [] o q = tt
 groups-headed mtu v (u ∷ us) o q =

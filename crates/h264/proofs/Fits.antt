@@ -69,7 +69,7 @@ sendable mtu v (u ∷ us) =
 
 -- ---- so every packet fits
 
-group-fits : (mtu : ℕ) (g : Group) → Sendable mtu g → Each (λ (p : List ℕ). length p ≤ mtu) (packetsOfGroup g)
+pub group-fits : (mtu : ℕ) (g : Group) → Sendable mtu g → Each (λ (p : List ℕ). length p ≤ mtu) (packetsOfGroup g)
 group-fits mtu (pair sps pps) w = (rw (length-stapA sps pps) (w .2), tt)
 group-fits mtu (plain u) w = (w .1, tt)
 group-fits mtu (fragments head first middle last) w =

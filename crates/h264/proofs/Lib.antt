@@ -15,6 +15,7 @@ pub mod Fits
 pub mod LeftOut
 pub mod Conforms
 pub mod OneUnit
+pub mod FrameUnits
 pub mod StartEnd
 pub mod Only
 pub mod Frames

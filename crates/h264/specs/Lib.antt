@@ -5,3 +5,4 @@ pub mod Payload
 pub mod Step
 pub mod Conformance
 pub mod AnnexB
+pub mod Frames

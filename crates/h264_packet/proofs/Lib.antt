@@ -1,1 +1,2 @@
 pub mod Depacketizing
+pub mod Only

@@ -1,3 +1,4 @@
 pub mod Handing
 pub mod Unpacking
 pub mod Running
+pub mod Shapes

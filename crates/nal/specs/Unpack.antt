@@ -1,10 +1,11 @@
 -- The units of a STAP-A. RFC 6184, section 5.7.1: a 16-bit size in network order before each unit. Assumes nothing.
 use mathlib.Core.Bool.{cond}
 use mathlib.Core.List.{List, [], _∷_, _++_}
-use Prim.Native.Nat.{ℕ, _+_, _*_}
+use Prim.Native.Nat.{ℕ, _+_, _*_, _<_}
 use lib.Dec.{ltb}
 use lib.ListN.{length, take, drop}
 use Rattle.error.specs.Said.{Said, says, refused, refuse}
+use Rattle.wire.specs.Net.{be16}
 use Rattle.wire.specs.Turns.{Turn, more, done, run}
 
 pub record Unpacking : Type 0 where
@@ -38,3 +39,13 @@ unitsIn (refused r) = []
 
 abbrev pub unitsOf : List ℕ → List (List ℕ)
 unitsOf s = unitsIn (unpack s)
+
+-- the other way round: units, each behind its size
+abbrev pub sizedUnits : List (List ℕ) → List ℕ
+sizedUnits [] = []
+sizedUnits (u ∷ us) = be16 (length u) ++ (u ++ sizedUnits us)
+
+-- each unit's length can be said in two bytes
+abbrev pub Sized : List (List ℕ) → Type 0
+Sized [] = Unit {0}
+Sized (u ∷ us) = (length u < 65536) × Sized us

@@ -1,0 +1,25 @@
+-- Frames one after the other through a sender: what is saved goes from call to call. Assumes nothing.
+use mathlib.Core.List.{List, [], _∷_, _++_}
+use Prim.Native.Nat.{ℕ}
+use Rattle.h264.specs.declared.kind.Kind.{Kind}
+use Rattle.h264.specs.declared.kind.Kind.the-variants.{Empty, Dropped, Sps, Pps, Coded}
+use Rattle.h264.specs.Units.{unitsAt}
+use Rattle.h264.specs.Groups.{Saved, nothingSaved, Group, keepAll, groupsOf}
+
+-- the groups sent for frames in order, where v is saved
+abbrev pub groupsFrom : ℕ → Saved → List (List ℕ) → List Group
+groupsFrom mtu v [] = []
+groupsFrom mtu v (frame ∷ frames) =
+    groupsOf mtu v (unitsAt mtu frame) ++ groupsFrom mtu (keepAll v (unitsAt mtu frame)) frames
+
+-- "a fresh sender"
+abbrev pub groupsSent : ℕ → List (List ℕ) → List Group
+groupsSent mtu frames = groupsFrom mtu nothingSaved frames
+
+-- P of a unit "unless type 7, 8, 9 or 12"
+abbrev pub WhereCoded : (List ℕ → Type 0) → Kind → List ℕ → Type 0
+WhereCoded P Empty u = Unit {0}
+WhereCoded P Dropped u = Unit {0}
+WhereCoded P Sps u = Unit {0}
+WhereCoded P Pps u = Unit {0}
+WhereCoded P Coded u = P u

@@ -1,0 +1,14 @@
+pub mod Calls
+pub mod Steps
+pub mod Fragments
+pub mod Complete
+pub mod Readers
+pub mod Sound
+pub mod Kept
+pub mod Unsendable
+pub mod Deviations
+pub mod Rows
+pub mod Sent
+pub mod Contract
+pub mod Main
+pub mod Example

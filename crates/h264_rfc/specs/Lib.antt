@@ -1,0 +1,5 @@
+pub mod Reading
+pub mod Loose
+pub mod Meaning
+pub mod Sent
+pub mod Contract

@@ -1,0 +1,56 @@
+-- Fragments that need not be those of one unit, by RFC 6184's figure of an FU-A (5.8). Assumes nothing.
+use mathlib.Core.List.{List, [], _∷_, _++_, map}
+use Prim.Native.Nat.{ℕ, _+_, _<_, _≤_}
+use lib.ListN.{length}
+use Rattle.wire.specs.Packets.{joined}
+use Rattle.rfc6184.specs.Sending.{octet, Part, Fragmented, fragment, Formed, FormedPart}
+use Rattle.h264_rfc.specs.Reading.{Some}
+
+-- a fragment: the unit whose F, NRI and type it bears, its Start bit, and its part
+pub record Loose : Type 0 where
+  pub of : Fragmented
+  pub start : ℕ
+  pub part : Part
+
+-- its octets, with End bit e
+abbrev pub looseOctets : ℕ → Loose → List ℕ
+looseOctets e l = fragment (l .of) (l .start) e (l .part)
+
+-- its fields fit into their bits, and it is not empty
+pub record LooseFormed (l : Loose) : Type 0 where
+  pub formed : Formed (l .of .f) (l .of .nri) (l .of .type)
+  pub start-bit : l .start < 2
+  pub part-formed : FormedPart (l .part)
+  pub some : Some (l .part)
+  -- "packets up to 65,535 bytes"
+  pub short : 2 + length (l .part .octets) ≤ 65535
+
+-- the parts of fragments, one behind the other
+abbrev pub partsOf : List Loose → List ℕ
+partsOf ls = joined (map (λ (l : Loose). l .part .octets) ls)
+
+-- the first byte of a joined unit: "writes NRI and type from that packet"
+abbrev pub headFrom : Loose → ℕ
+headFrom l = octet 0 (l .of .nri) (l .of .type)
+
+-- fragments ls without End bit, and behind them l with it: their payloads ..
+abbrev pub looseAll : List Loose → Loose → List (List ℕ)
+looseAll ls l = map (looseOctets 0) ls ++ (looseOctets 1 l ∷ [])
+
+-- .. and the unit that is joined of them
+abbrev pub looseUnit : List Loose → Loose → List ℕ
+looseUnit ls l = headFrom l ∷ (partsOf ls ++ l .part .octets)
+
+-- the paper's limits, and room
+pub record LooseRoom (gather : ℕ) (outs : ℕ → List ℕ) (ls : List Loose) (l : Loose) : Type 0 where
+  -- 6: "the run over 16,777,215 bytes"
+  pub run : length (looseUnit ls l) ≤ 16777216
+  -- "Room: gather for the longest unit less one byte"
+  pub gather-room : length (looseUnit ls l) ≤ gather + 1
+  -- "output for the largest group as handed out, prefixes included"
+  pub out-room : (i : ℕ) → 4 + length (looseUnit ls l) ≤ length (outs i)
+
+-- g's fragments where one between those `before` and those `after` is lost
+abbrev pub without : Fragmented → List Part → List Part → Fragmented
+without g before after =
+    record { f = g .f; nri = g .nri; type = g .type; first = g .first; middle = before ++ after; last = g .last }
