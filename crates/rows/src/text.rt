@@ -1,22 +1,31 @@
-// An answer written as text, and what two answers are compared by. Where the text is full, what is written falls away: the
-// answer is then longer than any row's.
-ghost use Prim.Native.Nat.{_≤_};
+// An answer written as text, and what two answers are compared by. Where the text is full, what is written falls away, and the
+// place answered is one past the text: such an answer is equal to no row's.
+ghost use Prim.Native.Nat.{_<_};
 ghost use mathlib.Core.Path.{_≡_};
-ghost use mathlib.Core.Bool.{true};
-ghost use lib.ListN.{length};
+ghost use mathlib.Core.Bool.{true, cond};
+ghost use lib.Dec.{eqb};
+ghost use lib.ListN.{length, drop, replicate};
+ghost use Rattle.io.specs.Digits.{glyph as Digits·glyph};
+ghost use Rattle.rows.specs.Hex.{hexText};
+ghost use Rattle.rows.specs.Same.{allAre};
+ghost use Rattle.rows.specs.Text.{upTo, putByte, putAll, decimalText, fieldText, fieldsText, refusedText, partText, packetsText};
 use error::Error;
 
+// A byte at a place; the next place, or one past the text where the byte fell away.
 fn put(text: &mut [u8], at: usize, b: u8) -> usize
-    ensures { λ r. ⌜ r ≤ length (now (text .exit)) ⌝ }
+    ensures { λ r. ⌜ upTo (now (text .exit)) r ≡ putByte (upTo (now (text .entry)) at) b ⌝ }
 {
     if at < text.len() {
         text[at] = b;
         return at + 1;
     }
-    text.len()
+    text.len() + 1
 }
 
-pub fn put_word(text: &mut [u8], at: usize, word: &[u8]) -> usize {
+// The word's bytes, one behind the other.
+pub fn put_word(text: &mut [u8], at: usize, word: &[u8]) -> usize
+    ensures { λ r. ⌜ upTo (now (text .exit)) r ≡ putAll (upTo (now (text .entry)) at) (now (word .entry)) ⌝ }
+{
     let mut end = at;
     let mut i = 0;
     while i < word.len() {
@@ -26,24 +35,26 @@ pub fn put_word(text: &mut [u8], at: usize, word: &[u8]) -> usize {
     end
 }
 
-pub fn put_number(text: &mut [u8], at: usize, n: u64) -> usize {
+// A number in decimal.
+pub fn put_number(text: &mut [u8], at: usize, n: u64) -> usize
+    ensures { λ r. ⌜ upTo (now (text .exit)) r ≡ putAll (upTo (now (text .entry)) at) (decimalText n) ⌝ }
+{
     let mut digits = [0u8; 20];
     let k = io::decimal(n, &mut digits);
     put_word(text, at, &digits[..k])
 }
 
-fn glyph(n: u8) -> u8 {
-    if n < 10 {
-        return 48 + n;
-    }
-    if n < 16 {
-        return 87 + n;
-    }
-    b'?'
+fn glyph(n: u8) -> u8
+    requires { ⌜ n < 16 ⌝ }
+    ensures { λ r. ⌜ r ≡ Digits·glyph n ⌝ }
+{
+    if n < 10 { 48 + n } else { 87 + n }
 }
 
 // The bytes in hexadecimal, `-` for none.
-pub fn put_hex(text: &mut [u8], at: usize, bytes: &[u8]) -> usize {
+pub fn put_hex(text: &mut [u8], at: usize, bytes: &[u8]) -> usize
+    ensures { λ r. ⌜ upTo (now (text .exit)) r ≡ putAll (upTo (now (text .entry)) at) (hexText (now (bytes .entry))) ⌝ }
+{
     if bytes.len() == 0 {
         return put(text, at, b'-');
     }
@@ -58,7 +69,9 @@ pub fn put_hex(text: &mut [u8], at: usize, bytes: &[u8]) -> usize {
 }
 
 // A refusal: its number, and what it carries.
-pub fn put_refused(text: &mut [u8], at: usize, error: Error) -> usize {
+pub fn put_refused(text: &mut [u8], at: usize, error: Error) -> usize
+    ensures { λ r. ⌜ upTo (now (text .exit)) r ≡ putAll (upTo (now (text .entry)) at) (refusedText error) ⌝ }
+{
     let word = put_word(text, at, b"refused ");
     let end = put_number(text, word, wide(error.number()));
     match error {
@@ -72,7 +85,9 @@ pub fn put_refused(text: &mut [u8], at: usize, error: Error) -> usize {
 }
 
 // Numbers, each behind a space.
-pub fn put_fields(text: &mut [u8], at: usize, list: &[u64]) -> usize {
+pub fn put_fields(text: &mut [u8], at: usize, list: &[u64]) -> usize
+    ensures { λ r. ⌜ upTo (now (text .exit)) r ≡ putAll (upTo (now (text .entry)) at) (fieldsText (now (list .entry))) ⌝ }
+{
     let mut end = at;
     let mut i = 0;
     while i < list.len() {
@@ -83,21 +98,29 @@ pub fn put_fields(text: &mut [u8], at: usize, list: &[u64]) -> usize {
 }
 
 // A number behind a space.
-pub fn put_field(text: &mut [u8], at: usize, n: u64) -> usize {
+pub fn put_field(text: &mut [u8], at: usize, n: u64) -> usize
+    ensures { λ r. ⌜ upTo (now (text .exit)) r ≡ putAll (upTo (now (text .entry)) at) (fieldText n) ⌝ }
+{
     let end = put(text, at, b' ');
     put_number(text, end, n)
 }
 
-pub fn wide(b: u8) -> u64 {
+pub fn wide(b: u8) -> u64
+    ensures { λ r. ⌜ (r ≡ b) × (r < 256) ⌝ }
+{
     b as u64
 }
 
-pub fn wide_flag(b: bool) -> u64 {
+pub fn wide_flag(b: bool) -> u64
+    ensures { λ r. ⌜ r ≡ cond b 1 0 ⌝ }
+{
     if b { 1 } else { 0 }
 }
 
 // The bytes from a place up to another: `?` where there are none such.
-pub fn put_part(text: &mut [u8], at: usize, bytes: &[u8], from: usize, to: usize) -> usize {
+pub fn put_part(text: &mut [u8], at: usize, bytes: &[u8], from: usize, to: usize) -> usize
+    ensures { λ r. ⌜ upTo (now (text .exit)) r ≡ putAll (upTo (now (text .entry)) at) (partText (now (bytes .entry)) from to) ⌝ }
+{
     if from <= to {
         if to <= bytes.len() {
             return put_hex(text, at, &bytes[from..to]);
@@ -106,7 +129,9 @@ pub fn put_part(text: &mut [u8], at: usize, bytes: &[u8], from: usize, to: usize
     put(text, at, b'?')
 }
 
-fn between(i: usize) -> u8 {
+fn between(i: usize) -> u8
+    ensures { λ r. ⌜ r ≡ cond (eqb i 0) 32 44 ⌝ }
+{
     if i == 0 { b' ' } else { b',' }
 }
 
@@ -117,7 +142,9 @@ pub fn put_packets<'a>(
     n: usize,
     out: &'a [u8],
     ends: &'a [usize],
-) -> usize {
+) -> usize
+    ensures { λ r. ⌜ upTo (now (text .exit)) r ≡ putAll (upTo (now (text .entry)) at) (packetsText n (now (out .entry)) (now (ends .entry))) ⌝ }
+{
     if n == 0 {
         return put_word(text, at, b" -");
     }
@@ -143,11 +170,15 @@ pub fn same(a: &[u8], b: &[u8]) -> bool
     check::same(a, b)
 }
 
-pub fn fill_bytes(s: &mut [u8], b: u8) {
+pub fn fill_bytes(s: &mut [u8], b: u8)
+    ensures { λ _. ⌜ now (s .exit) ≡ replicate (length (now (s .entry))) b ⌝ }
+{
     wire::fill_at(s, 0, s.len(), b);
 }
 
-pub fn fill_places(s: &mut [usize], n: usize) {
+pub fn fill_places(s: &mut [usize], n: usize)
+    ensures { λ _. ⌜ now (s .exit) ≡ replicate (length (now (s .entry))) n ⌝ }
+{
     let mut i = 0;
     while i < s.len() {
         s[i] = n;
@@ -156,7 +187,9 @@ pub fn fill_places(s: &mut [usize], n: usize) {
 }
 
 // Whether every byte from a place on is b.
-pub fn all_bytes(s: &[u8], from: usize, b: u8) -> bool {
+pub fn all_bytes(s: &[u8], from: usize, b: u8) -> bool
+    ensures { λ r. ⌜ r ≡ allAre b (drop from (now (s .entry))) ⌝ }
+{
     let mut i = from;
     while i < s.len() {
         if s[i] != b {
@@ -167,13 +200,16 @@ pub fn all_bytes(s: &[u8], from: usize, b: u8) -> bool {
     true
 }
 
-pub fn all_places(s: &[usize], from: usize, n: usize) -> bool {
-    let mut i = from;
-    while i < s.len() {
-        if s[i] != n {
+// The same of a table of places.
+pub fn all_places(s: &[usize], from: usize, n: usize) -> bool
+    ensures { λ r. ⌜ r ≡ allAre n (drop from (now (s .entry))) ⌝ }
+{
+    let mut at = from;
+    while at < s.len() {
+        if s[at] != n {
             return false;
         }
-        i += 1;
+        at += 1;
     }
     true
 }

@@ -1,0 +1,11 @@
+pub mod Fronts
+pub mod Values
+pub mod Hexes
+pub mod Alike
+pub mod Fills
+pub mod Decimals
+pub mod Words
+pub mod Tallies
+pub mod Reports
+pub mod Whole
+pub mod Back
