@@ -1,5 +1,5 @@
-//! The paper's worked packets, in its order, and the published vectors. Short enough to be read: the
-//! replay prints its answer to each.
+//! The paper's worked packets, in its order, with which each list begins; with the published vectors
+//! they are a list of their own, short enough to be read.
 
 use crate::list::List;
 use crate::vectors;
@@ -24,7 +24,7 @@ fn next(list: &mut List, question: String) -> String {
     answer.strip_prefix("ok ").unwrap_or("-").to_string()
 }
 
-fn headers(list: &mut List) {
+pub fn headers(list: &mut List) {
     list.ask(format!("header.read {H}"));
     list.ask(format!("header.read {}", &H[..22]));
     for rest in ["10aa0000", "f0aabbccdd", "0000001201020304", "000000120102"] {
@@ -38,14 +38,14 @@ fn headers(list: &mut List) {
     list.ask(format!("header.write {high} 64 0"));
 }
 
-fn packets(list: &mut List) {
+pub fn packets(list: &mut List) {
     list.ask(format!("packet.read {H}"));
     list.ask(format!("packet.read {P}00"));
     list.ask(format!("packet.read {P}"));
     list.ask("packet.write 2 1 0 0 96 1 2 3 - 0 - 0 01020304 20 255");
 }
 
-fn h264(list: &mut List) {
+pub fn h264(list: &mut List) {
     for mtu in [4, 2] {
         list.ask(format!("h264.send {mtu} - - 000001650102030405"));
     }
@@ -57,7 +57,7 @@ fn h264(list: &mut List) {
     list.ask("h264.read 0 - 1800014105");
 }
 
-fn vp8(list: &mut List) {
+pub fn vp8(list: &mut List) {
     for question in ["1 127 4", "1 128 4", "1 128 5"] {
         list.ask(format!("vp8.send {question} aabb"));
     }

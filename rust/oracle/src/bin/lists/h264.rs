@@ -2,11 +2,13 @@
 
 use oracle::text::hex;
 
+use crate::cases;
 use crate::list::List;
 use crate::random::{strings, Random};
 use crate::vectors;
 
 pub fn rows(list: &mut List) {
+    cases::h264(list);
     published(list);
     start_codes(list);
     partitions(list);

@@ -5,12 +5,14 @@ use oracle::record::text;
 use oracle::text::hex;
 use util::marshal::MarshalSize;
 
+use crate::cases;
 use crate::list::List;
 use crate::reading;
 use crate::records::{self, element, holding, off, ONE_BYTE, OTHER, TWO_BYTE};
 use crate::vectors;
 
 pub fn rows(list: &mut List) {
+    cases::headers(list);
     published(list);
     short_packets(list);
     random_packets(list);

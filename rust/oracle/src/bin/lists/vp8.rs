@@ -2,6 +2,7 @@
 
 use oracle::text::hex;
 
+use crate::cases;
 use crate::list::List;
 use crate::random::strings;
 use crate::vectors;
@@ -9,6 +10,7 @@ use crate::vectors;
 const FRESH: &str = "0 0 0 0 0 0 0 0 0 0 0 0 0";
 
 pub fn rows(list: &mut List) {
+    cases::vp8(list);
     published(list);
     partitions(list);
     headers_and_mtus(list);
