@@ -3,12 +3,9 @@ use mathlib.Core.Path.{_≡_, refl, sym, ap, ap₂, _∙_}
 use mathlib.Core.List.{List}
 use mathlib.Core.Bool.{Bool, true, false, cond, not, _&&_}
 use Prim.Native.Nat.{ℕ, _+_, _≤_, _<_}
-use native.Mathlib.Omega.{arith}
-use lib.Dec.{leb, ltb}
 use lib.ListN.{length, take, set}
 use borrow.Author.Tests.{lt-ltb, le-ltb, le-leb, lt-leb}
 use Rattle.rows.specs.declared.count.Tally.{Tally}
-use Rattle.rows.specs.declared.count.Verdict.{Verdict}
 use Rattle.rows.specs.declared.count.Verdict.the-variants.{Answer, Touched, Skipped, Waiting}
 use Rattle.rows.specs.Same.{isSame}
 use Rattle.rows.specs.Count.{isEqual, isUnequal, isSkipped, isWaiting, moreIf, withLine, counted}

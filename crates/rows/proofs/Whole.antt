@@ -1,8 +1,8 @@
 -- A row is counted as equal only where the whole answer is the row's: an answer that fits stands in the text as it is, and of one
 -- that does not fit the end lies past the text. Assumes nothing.
-use mathlib.Core.Path.{_≡_, refl, sym, ap, ap₂, subst, _∙_}
-use mathlib.Core.List.{List, [], _∷_, _++_}
-use mathlib.Core.Bool.{Bool, true, false, false≢true, _&&_}
+use mathlib.Core.Path.{_≡_, refl, sym, ap, ap₂, _∙_}
+use mathlib.Core.List.{List, [], _∷_}
+use mathlib.Core.Bool.{Bool, true, _&&_}
 use Prim.Native.Nat.{ℕ, suc, _+_, _≤_, _<_, min}
 use native.Mathlib.Decide.{decLe}
 use native.Mathlib.Nat.{add-zero}
@@ -11,7 +11,7 @@ use lib.Dec.{leb}
 use lib.ListN.{length, take, set, length-set}
 use borrow.Author.Tests.{le-leb, leb-true}
 use Rattle.wire.specs.Part.{splice}
-use Rattle.wire.proofs.Part.{splice-nothing, splice-one, splice-on, take-through, length-splice}
+use Rattle.wire.proofs.Part.{splice-nothing, splice-one, splice-on, take-through}
 use Rattle.rows.specs.declared.count.Verdict.the-variants.{Answer}
 use Rattle.rows.specs.Same.{isSame}
 use Rattle.rows.specs.Text.{Text, upTo, putByte, putAll}

@@ -1,9 +1,7 @@
 -- None is no word; else three words are put one behind the other.
 use mathlib.Core.Path.{sym, ap, _∙_}
-use mathlib.Core.List.{List, [], _∷_}
-use Prim.Native.Nat.{ℕ}
 use borrow.Author.Needs.{needs}
-use Rattle.rows.specs.Text.{upTo, decimalText}
+use Rattle.rows.specs.Text.{upTo}
 use Rattle.rows.proofs.Words.{putEach, put-then, put-joined}
 use Rattle.rows.specs.Report.{besidesWords}
 use Rattle.rows.proofs.Reports.{besides-none, besides-some}

@@ -1,5 +1,4 @@
 -- The test is whether one more is still a u64.
-use mathlib.Core.Path.{_≡_}
 use native.Mathlib.Omega.{arith}
 use borrow.Author.Needs.{needs}
 use Rattle.rows.specs.Count.{moreIf}

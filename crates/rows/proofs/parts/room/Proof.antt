@@ -1,5 +1,5 @@
 -- A token of no bytes is the empty one.
-use mathlib.Core.Path.{sym, ap, _∙_}
+use mathlib.Core.Path.{sym, _∙_}
 use borrow.Author.Needs.{needs}
 use Rattle.rows.proofs.Values.{room-none, room-some}
 use Rattle.rows.proofs.parts.room.Statement.{statement}

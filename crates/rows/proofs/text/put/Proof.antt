@@ -1,7 +1,6 @@
 -- A store past the end is none.
 use mathlib.Core.Path.{sym, ap, ap₂}
 use native.Mathlib.Omega.{arith}
-use lib.ListN.{length-set}
 use lib.Seq.{set-out}
 use borrow.Author.Needs.{needs}
 use Rattle.rows.specs.Text.{upTo, putByte}

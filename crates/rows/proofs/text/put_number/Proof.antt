@@ -1,7 +1,7 @@
 -- The digits that `decimal` gives are the fewest, and so those of `decimalText`.
 use mathlib.Core.Path.{ap, _∙_}
 use borrow.Author.Needs.{needs}
-use Rattle.rows.specs.Text.{upTo, putAll, decimalText}
+use Rattle.rows.specs.Text.{upTo, putAll}
 use Rattle.rows.proofs.Decimals.{decimal-digits}
 use Rattle.rows.proofs.text.put_number.Statement.{statement}
 use Rattle.rows.proofs.text.put_number.Tie as tie

@@ -1,15 +1,14 @@
 -- What is still to be listed leads to the same text: a turn is one packet.
-use mathlib.Core.Path.{_≡_, refl, sym, ap, ap₂, _∙_}
-use mathlib.Core.List.{List, _∷_}
+use mathlib.Core.Path.{_≡_, sym, ap, _∙_}
+use mathlib.Core.List.{_∷_}
 use mathlib.Core.Bool.{Bool, cond}
-use Prim.Native.Nat.{ℕ, suc, _+_, _-_}
+use Prim.Native.Nat.{ℕ, _+_, _-_}
 use native.Mathlib.Nat.{sub-zero}
 use native.Mathlib.Omega.{arith}
 use lib.Dec.{eqb}
-use lib.ListN.{length, drop, getD, drop-of-length-le}
+use lib.ListN.{length, drop, getD}
 use borrow.Author.Tests.{ne-eqb}
 use borrow.Author.Needs.{needs}
-use Rattle.wire.proofs.Part.{drop-front}
 use Rattle.rows.specs.Text.{Text, upTo, putByte, putAll, partText, listed, packetsText}
 use Rattle.rows.proofs.Words.{put-behind, put-front, put-then, packets-none, packets-some, listed-on, listed-short, listed-all}
 use Rattle.rows.proofs.text.put_packets.Statement.{statement}

@@ -2,7 +2,7 @@
 use mathlib.Core.Path.{sym, ap, _∙_}
 use mathlib.Core.Logic.{⊎-elim}
 use borrow.Author.Needs.{needs}
-use Rattle.rows.specs.Text.{upTo, putAll, partText}
+use Rattle.rows.specs.Text.{upTo, putAll}
 use Rattle.rows.proofs.Words.{part-some, part-before, part-beyond}
 use Rattle.rows.proofs.text.put_part.Statement.{statement}
 use Rattle.rows.proofs.text.put_part.Tie as tie

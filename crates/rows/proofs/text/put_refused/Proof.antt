@@ -9,7 +9,7 @@ use Rattle.error.proofs.Error.{the-type}
 use Rattle.error.specs.declared.Error.{Error}
 use Rattle.error.specs.declared.Error.the-variants.{ErrHeaderSizeInsufficient, ErrHeaderSizeInsufficientForExtension, ElementPastPacket, ErrShortPacket, ErrBufferTooSmall, GatherTooSmall, OverLimits, OutsideDomain, HeaderExtensionPayloadNot32BitWords, ErrRfc3550headerIdrange, ErrRfc8285oneByteHeaderIdrange, ErrRfc8285oneByteHeaderSize, ErrRfc8285twoByteHeaderIdrange, ErrRfc8285twoByteHeaderSize, ErrHeaderExtensionNotFound, ErrHeaderExtensionsNotEnabled, StapASizeLargerThanBuffer, StapASizeCut, NaluTypeIsNotHandled, OtherSource, StartAndEnd, AlreadyClosed, ClosingTooFar, MissedTotalFull}
 use Rattle.error.specs.Refusal.{numberOf, carriedBy}
-use Rattle.rows.specs.Text.{Text, upTo, putAll, fieldText, fieldsText, decimalText, refusedWord, refusedText}
+use Rattle.rows.specs.Text.{Text, upTo, putAll, fieldText, fieldsText, decimalText, refusedWord}
 use Rattle.rows.proofs.Words.{put-behind, refused-words}
 use Rattle.rows.proofs.text.put_refused.Statement.{statement}
 use Rattle.rows.proofs.text.put_refused.Tie as tie

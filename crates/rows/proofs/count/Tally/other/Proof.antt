@@ -1,9 +1,6 @@
 -- The test is whether fewer than eight are kept.
-use mathlib.Core.Path.{sym, ap}
-use mathlib.Core.Bool.{Bool, cond}
-use borrow.Author.Tests.{lt-ltb, le-ltb}
+use mathlib.Core.Path.{sym}
 use borrow.Author.Needs.{needs}
-use Rattle.rows.specs.Count.{withLine}
 use Rattle.rows.proofs.Tallies.{line-kept, lines-full}
 use Rattle.rows.proofs.count.Tally.other.Statement.{statement}
 use Rattle.rows.proofs.count.Tally.other.Tie as tie

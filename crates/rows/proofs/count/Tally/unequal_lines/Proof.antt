@@ -1,12 +1,11 @@
 -- None is no word; else the lines that are kept stand behind the word, and the lines are eight.
 use mathlib.Core.Path.{_≡_, sym, ap, _∙_}
-use mathlib.Core.List.{List, [], _∷_}
+use mathlib.Core.List.{[], _∷_}
 use Prim.Native.Nat.{ℕ}
 use native.Mathlib.Nat.{sub-zero}
-use native.Mathlib.Omega.{arith}
 use lib.ListN.{length, take}
 use borrow.Author.Needs.{needs}
-use Rattle.rows.specs.Text.{Text, upTo, putAll, fieldsText}
+use Rattle.rows.specs.Text.{upTo, putAll, fieldsText}
 use Rattle.rows.specs.Report.{unequalWords}
 use Rattle.rows.proofs.Words.{putEach, put-then, put-joined}
 use Rattle.rows.proofs.Reports.{unequal-none, unequal-some}
