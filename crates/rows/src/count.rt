@@ -136,10 +136,9 @@ impl Tally {
         put_fields(text, end, &lines[0..kept])
     }
 
-    // Writes one line, `NAME: N rows, N equal` and so on: what is written no contract can say, `line` says which text it is.
-    pub fn report(self, name: &[u8])
-        ensures { λ r. ⌜ r ≡ tt ⌝ }
-    {
+    // Writes one line, `NAME: N rows, N equal` and so on. It returns nothing, and what the system writes no contract can say; which text it is
+    // handed `line` says.
+    pub fn report(self, name: &[u8]) {
         let mut space = [0u8; 512];
         let text: &mut [u8] = &mut space;
         let n = self.line(text);
