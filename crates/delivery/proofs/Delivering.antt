@@ -1,36 +1,36 @@
 -- Demand 3 from the three parts: the plain rule within the window, the reader on plain packets, and the H.264 codec on the groups
 -- sent. Assumes nothing.
-use mathlib.Core.Path.{_≡_, refl, sym, ap, ap₂, subst, subst₂, _∙_}
-use mathlib.Core.Bool.{Bool, true, false, cond}
+use mathlib.Core.Path.{_≡_, refl, sym, ap, ap₂, _∙_}
+use mathlib.Core.Bool.{Bool, false, cond}
 use mathlib.Core.List.{List, [], _∷_, _++_, map, append-nil}
-use Prim.Native.Nat.{ℕ, zero, suc, _%_, _≤_, _<_, max}
+use Prim.Native.Nat.{ℕ, zero, suc, _≤_, _<_}
 use native.Mathlib.Omega.{arith}
-use lib.Dec.{eqb, ltb, leb·suc-zero}
+use lib.Dec.{leb·suc-zero}
 use lib.ListN.{length, getD}
 use borrow.Author.Tests.{eq-eqb, ne-eqb}
 use Rattle.error.specs.Refusal.{Refusal}
 use Rattle.error.specs.Said.{Said, says, refused}
+use Rattle.wire.specs.Each.{Each}
 use Rattle.wire.specs.Part.{part}
 use Rattle.packet.specs.Read.{PacketReading, readPacket}
 use Rattle.packet.proofs.Plain.{packet-back, payload-back}
 use Rattle.nal.specs.Fed.{Run, prefixed}
 use Rattle.sequence.specs.Number.{numberOf}
-use Rattle.sequence.specs.Arrival.{Arrival, ours, other, acceptedCalls, accepted, never, raised, Window}
-use Rattle.sequence.specs.Group.{wholeOf, handedOf}
-use Rattle.sequence.specs.Joiner.{Parts, Heard, notOurs, numbered, shut, close, final, answers}
+use Rattle.sequence.specs.Arrival.{Arrival, ours, other, acceptedCalls, raised, Window}
+use Rattle.sequence.specs.Joiner.{Parts, notOurs, numbered, shut, close, answers}
 use Rattle.sequence.specs.Joiner as any
 use Rattle.sequence.proofs.Ruling.{plain-follows}
 use Rattle.sequence.specs.Demand.{Told}
 use Rattle.sequence.specs.Demand as any-demand
 use Rattle.sequence.proofs.Joining.{delivered}
-use Rattle.joiner.specs.Join.{Accepted, opened, outside}
+use Rattle.joiner.specs.Join.{Accepted, opened}
 use Rattle.joiner.specs.General.{Units, Room, Enough, refusing, heardFrom, reader, parts, standing, closingSeen}
-use Rattle.joiner.specs.Sent.{Sent, Lawful, groupsOf}
+use Rattle.joiner.specs.Sent.{Sent, Lawful, groupsOf, handedLength}
 use Rattle.joiner.proofs.OneCall.{one-close, closed-after, shut-is}
-use Rattle.joiner.proofs.SentGroups.{AllGathered, owes-all, Small, small-enough, AllHanded, all-small}
+use Rattle.joiner.proofs.SentGroups.{Gathered, owes-all, Small, small-enough, all-small}
 use Rattle.delivery.specs.Show.{Show, payloads, count, payload, packet, longest, largest}
 use Rattle.delivery.specs.Play.{arriving, played, closing, handedOut, joinerAfter}
-use Rattle.delivery.specs.Demand.{Foreign, OthersForeign, AllLawful, AllShort, Premises, Delivered, wasAccepted, missed}
+use Rattle.delivery.specs.Demand.{Foreign, OthersForeign, AllShort, Premises, Delivered, wasAccepted, missed}
 use Rattle.delivery.proofs.Playing.{accepted-as, refused-as, handed-as, rooms, Plays, plays}
 
 -- ---- what arrives
@@ -59,11 +59,11 @@ short-at [] i h = omega arith
 short-at (s ∷ ss) zero h = h .0
 short-at (s ∷ ss) (suc i) h = short-at ss i (h .1)
 
-gathered-all : (ss : List Sent) (most big : ℕ) (bounded : most ≤ 16777215) → AllLawful ss → longest ss ≤ most → AllGathered most big bounded ss
+gathered-all : (ss : List Sent) (most big : ℕ) (bounded : most ≤ 16777215) → Each Lawful ss → longest ss ≤ most → Each (Gathered most big bounded) ss
 gathered-all [] most big bounded w h = tt
-gathered-all (s ∷ ss) most big bounded w h = (w .0, omega arith, gathered-all ss most big bounded (w .1) (omega arith))
+gathered-all (s ∷ ss) most big bounded w h = ((w .0, omega arith), gathered-all ss most big bounded (w .1) (omega arith))
 
-handed-all : (ss : List Sent) (big : ℕ) → largest ss ≤ big → AllHanded false big ss
+handed-all : (ss : List Sent) (big : ℕ) → largest ss ≤ big → Each (λ (s : Sent). handedLength false s ≤ big) ss
 handed-all [] big h = tt
 handed-all (s ∷ ss) big h = (omega arith, handed-all ss big (omega arith))
 

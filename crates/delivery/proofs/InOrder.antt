@@ -11,7 +11,7 @@ use Rattle.sequence.proofs.InOrder.{inOrder, in-order-within, in-order-accepted
 use Rattle.joiner.specs.Sent.{groupsOf}
 use Rattle.delivery.specs.Show.{Show, count}
 use Rattle.delivery.specs.Play.{handedOut, played}
-use Rattle.delivery.specs.Demand.{Premises, Delivered, missed}
+use Rattle.delivery.specs.Demand.{Premises, Delivered}
 use Rattle.delivery.proofs.Main.{any-sender}
 
 -- "Window", for every n

@@ -1,8 +1,8 @@
 -- A show played through this joiner is played through the joiner for any rule, reader and codec, call by call. Assumes nothing.
-use mathlib.Core.Path.{_≡_, refl, sym, ap, ap₂, subst, subst₂, _∙_}
-use mathlib.Core.Bool.{Bool, true, false}
+use mathlib.Core.Path.{_≡_, refl, sym, ap, ap₂, subst₂, _∙_}
+use mathlib.Core.Bool.{false}
 use mathlib.Core.List.{List, [], _∷_, _++_, map, map-map, map-append}
-use Prim.Native.Nat.{ℕ, suc, _≤_, _<_}
+use Prim.Native.Nat.{ℕ, suc, _≤_}
 use native.Mathlib.Omega.{arith}
 use lib.Dec.{ltb}
 use lib.ListN.{length}
@@ -15,7 +15,7 @@ use Rattle.sequence.specs.Joiner as any
 use Rattle.joiner.specs.declared.Joiner.{Joiner}
 use Rattle.joiner.specs.Join.{accepted, late, outside, Stepped, joinStep}
 use Rattle.joiner.specs.Join as join
-use Rattle.joiner.specs.General.{Units, Room, parts, standing, handedBytes, seenBy, asBytes}
+use Rattle.joiner.specs.General.{Units, Room, parts, standing, seenBy, asBytes}
 use Rattle.joiner.proofs.OneCall.{Stands, one-call, or-left}
 use Rattle.delivery.specs.Play.{steps, joinerAfter, isAccepted, isRefused, handedIn, handedOut}
 use Rattle.delivery.specs.Demand.{Within}
@@ -147,7 +147,7 @@ plays (b ∷ bytes) j gather outs not-closed inside =
           tells =
               ap₂ (λ (a : Answer Refusal (List ℕ)) (l : List (Answer Refusal (List ℕ))). a ∷ l) (h .answer)
               (p .tells ∙ ap (λ (s : any.State ℕ _). map (asBytes false) (answers (parts false source) (rooms len later) s bytes)) (h .state));
-          lies = (bound, h .same-length, p .lies);
+          lies = ((bound, h .same-length), p .lies);
           last = p .last;
           state = p .state ∙ ap (λ (s : any.State ℕ _). final (parts false source) (rooms len later) s bytes) (h .state);
           same-source = p .same-source;

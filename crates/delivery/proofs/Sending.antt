@@ -2,24 +2,24 @@
 -- carry the frames' units, and no unit is longer than its frame. Assumes nothing.
 use mathlib.Core.Path.{_≡_, refl, sym, ap, ap₂, subst, _∙_}
 use mathlib.Core.Bool.{Bool, true, false, cond, _&&_, _||_}
-use mathlib.Core.List.{List, [], _∷_, _++_, map, append-nil, append-assoc}
-use Prim.Native.Nat.{ℕ, zero, suc, _+_, _-_, _≤_, _<_, max}
+use mathlib.Core.List.{List, [], _∷_, _++_, map, append-nil}
+use Prim.Native.Nat.{ℕ, suc, _+_, _-_, _≤_}
 use native.Mathlib.Omega.{arith}
 use lib.Dec.{eqb, leb}
 use lib.ListN.{length, replicate, length-append, length-replicate}
 use Rattle.error.specs.Refusal.{Refusal}
-use Rattle.error.specs.Said.{Said, says, refused, refuse}
+use Rattle.error.specs.Said.{says, refused}
+use Rattle.wire.specs.Each.{Each}
 use Rattle.wire.specs.Net.{be16}
 use Rattle.wire.specs.Packets.{joined}
-use Rattle.rfc6184.specs.Sending.{Each}
-use Rattle.rfc6184.proofs.Each.{each-append, each-by}
+use Rattle.wire.proofs.Each.{each-append, each-by, each-map}
 use Rattle.h264.specs.declared.kind.Kind.{Kind}
 use Rattle.h264.specs.declared.kind.Kind.the-variants.{Empty, Dropped, Sps, Pps, Coded}
 use Rattle.h264.specs.declared.send.H264Payloader.{H264Payloader}
 use Rattle.h264.specs.Search.{zerosBy, endsCode}
 use Rattle.h264.specs.Units.{Cut, cutBy, cut, unitsOfCut, units, unitsAt}
 use Rattle.h264.specs.Groups.{Saved, Group, pair, plain, fragments, kindOf, keepAll, groupsOf, stapA, fragment, packetsOfGroup, packetsOf}
-use Rattle.h264.specs.Conformance.{rebuilt, Divided, Sendable, unitsIn, codedKind, goesOut, thoseThat}
+use Rattle.h264.specs.Conformance.{Divided, Sendable, unitsIn, codedKind, goesOut, thoseThat}
 use Rattle.h264.specs.Payload.{Counts, Left, layOut, savedIn, outside, overLimit, tooSmall, refusedWith, sentAs, leftBy, payloadOf}
 use Rattle.h264.proofs.Fits.{sendable, fits}
 use Rattle.h264.proofs.LeftOut.{left-out}
@@ -27,10 +27,10 @@ use Rattle.h264.proofs.Sizes.{packets-append}
 use Rattle.h264.proofs.State.{saved-laid}
 use Rattle.sequence.specs.Group.{packetsIn}
 use Rattle.sequence.specs.Group as any
-use Rattle.joiner.specs.Sent.{Sent, Lawful, NoneEmpty, PlainUnit, groupOf, gatheredOf, fuA}
+use Rattle.joiner.specs.Sent.{Lawful, NoneEmpty, PlainUnit, groupOf, gatheredOf, fuA}
 use Rattle.joiner.specs.Sent as sent
-use Rattle.delivery.specs.Show.{Show, payloads, longest}
-use Rattle.delivery.specs.Demand.{AllLawful, AllShort, Premises}
+use Rattle.delivery.specs.Show.{longest}
+use Rattle.delivery.specs.Demand.{AllShort, Premises}
 use Rattle.delivery.specs.Frames.{groupsFrom, groupsSent, sentOf, Sending, showOf, UnitOf, FrameOk, SendingPremises, Lent, sending, NoneRefused, written}
 
 -- ---- no unit is longer than its frame
@@ -100,8 +100,8 @@ abbrev Fine : Group → Type 0
 Fine g = Lawful (sentOf g) × (gatheredOf (sentOf g) ≤ 16777215)
 
 none-empty : (size : ℕ) → 1 ≤ size → (parts : List (List ℕ)) → Each (λ (p : List ℕ). length p ≡ size) parts → NoneEmpty parts
-none-empty size h [] w = tt
-none-empty size h (p ∷ parts) w = (omega (arith, w .0), none-empty size h parts (w .1))
+none-empty size h parts w =
+    each-by (λ (p : List ℕ). 1 ≤ length p) (λ (p : List ℕ). length p ≡ size) (λ p e. omega (arith, e)) parts w
 
 fine-groups : (mtu : ℕ) → mtu ≤ 65523 → (gs : List Group) → Each (Sendable mtu) gs → Each Good (unitsIn gs) → Each Fine gs
 fine-groups mtu m [] w good = tt
@@ -140,17 +140,16 @@ all-fit mtu v (frame ∷ frames) =
 
 -- ---- as a show
 
-lawful-all : (gs : List Group) → Each Fine gs → AllLawful (map sentOf gs)
-lawful-all [] w = tt
-lawful-all (g ∷ gs) w = (w .0 .0, lawful-all gs (w .1))
+lawful-all : (gs : List Group) → Each Fine gs → Each Lawful (map sentOf gs)
+lawful-all gs w = each-map Lawful sentOf gs (each-by (λ (g : Group). Lawful (sentOf g)) Fine (λ g w. w .0) gs w)
 
 longest-bound : (gs : List Group) → Each Fine gs → longest (map sentOf gs) ≤ 16777215
 longest-bound [] w = omega arith
 longest-bound (g ∷ gs) w = let rec : longest (map sentOf gs) ≤ 16777215 = longest-bound gs (w .1) in omega (arith, w .0 .1)
 
 short-all : (mtu : ℕ) → mtu ≤ 65523 → (ps : List (List ℕ)) → Each (λ (p : List ℕ). length p ≤ mtu) ps → AllShort ps
-short-all mtu m [] w = tt
-short-all mtu m (p ∷ ps) w = (omega (arith, w .0), short-all mtu m ps (w .1))
+short-all mtu m ps w =
+    each-by (λ (p : List ℕ). length p ≤ 65523) (λ (p : List ℕ). length p ≤ mtu) (λ p h. omega (arith, h)) ps w
 
 -- the same packets
 same-packets-in : (g : Group) → packetsIn (groupOf (sentOf g)) ≡ packetsOfGroup g

@@ -5,6 +5,7 @@ use mathlib.Core.List.{List, [], _∷_, map}
 use Prim.Native.Nat.{ℕ, _≤_, _<_}
 use lib.ListN.{length}
 use Rattle.error.specs.Said.{says}
+use Rattle.wire.specs.Each.{Each}
 use Rattle.packet.specs.Plain.{Stampable}
 use Rattle.packet.specs.Read.{PacketReading, readPacket}
 use Rattle.nal.specs.Fed.{prefixed}
@@ -12,7 +13,7 @@ use Rattle.sequence.specs.Arrival.{Arrival, ours, other, acceptedCalls, accepte
 use Rattle.sequence.specs.Group.{wholeOf, handedOf}
 use Rattle.sequence.specs.Joiner.{isOther}
 use Rattle.joiner.specs.Join.{Accepted, Stepped}
-use Rattle.joiner.specs.Sent.{Sent, Lawful, groupsOf}
+use Rattle.joiner.specs.Sent.{Lawful, groupsOf}
 use Rattle.delivery.specs.Show.{Show, payloads, count, longest, largest}
 use Rattle.delivery.specs.Play.{isAccepted, isRefused, handedOut, played, closing}
 
@@ -27,18 +28,13 @@ OthersForeign source [] = Unit {0}
 OthersForeign source (ours i ∷ later) = OthersForeign source later
 OthersForeign source (other bytes ∷ later) = Foreign source bytes × OthersForeign source later
 
-abbrev pub AllLawful : List Sent → Type 0
-AllLawful [] = Unit {0}
-AllLawful (s ∷ ss) = Lawful s × AllLawful ss
-
 -- "mtu 3 to 65,523", and "Every packet fits the mtu"
 abbrev pub AllShort : List (List ℕ) → Type 0
-AllShort [] = Unit {0}
-AllShort (s ∷ ss) = (length s ≤ 65523) × AllShort ss
+AllShort = Each (λ (s : List ℕ). length s ≤ 65523)
 
 pub record Premises (w : Show) : Type 0 where
   -- "units .. of type 1 to 23, of 3 bytes or more": each group is a STAP-A, a plain unit or the fragments of one
-  pub lawful : AllLawful (w .groups)
+  pub lawful : Each Lawful (w .groups)
   -- "mtu 3 to 65,523", and "Every packet fits the mtu"
   pub short : AllShort (payloads w)
   -- "n at most 4,294,967,295"
@@ -72,8 +68,7 @@ missed w = never (wasAccepted w) 0 (count w)
 
 -- the gathered run lies within its buffer after each call
 abbrev pub Within : ℕ → List Stepped → Type 0
-Within room [] = Unit {0}
-Within room (st ∷ sts) = (st .joiner .gathered ≤ room) × (length (st .gather) ≡ room) × Within room sts
+Within room = Each (λ (st : Stepped). (st .joiner .gathered ≤ room) × (length (st .gather) ≡ room))
 
 pub record Delivered (w : Show) : Type 0 where
   -- (a) call by call, a packet is accepted "exactly when its index is above every index that arrived before it"

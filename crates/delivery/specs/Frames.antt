@@ -4,14 +4,14 @@ use mathlib.Core.List.{List, [], _∷_, _++_, map}
 use Prim.Native.Nat.{ℕ, suc, _≤_, _<_}
 use lib.ListN.{length}
 use Rattle.error.specs.Said.{says}
+use Rattle.wire.specs.Each.{Each}
 use Rattle.packet.specs.Plain.{Stamp, Stampable}
-use Rattle.rfc6184.specs.Sending.{Each}
 use Rattle.h264.specs.declared.kind.Kind.{Kind}
 use Rattle.h264.specs.declared.kind.Kind.the-variants.{Empty, Dropped, Sps, Pps, Coded}
 use Rattle.h264.specs.declared.send.H264Payloader.{H264Payloader}
 use Rattle.h264.specs.Units.{unitsAt}
 use Rattle.h264.specs.Groups.{Saved, nothingSaved, Group, pair, plain, fragments, kindOf, keepAll, groupsOf, packetsOf}
-use Rattle.h264.specs.Payload.{Counts, Left, layOut, sentAs, payloadOf}
+use Rattle.h264.specs.Payload.{Counts, Left, sentAs, payloadOf}
 use Rattle.sequence.specs.Arrival.{Arrival, Window}
 use Rattle.joiner.specs.Sent.{Sent, aggregated, alone, fragmented, PlainUnit}
 use Rattle.delivery.specs.Show.{Show, count, longest, largest}

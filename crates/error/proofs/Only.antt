@@ -1,10 +1,13 @@
 -- No second answer: one law for each way in which the contracts are put. Every public call's own theorem cites one of them.
 -- Assumes nothing.
 use mathlib.Core.Path.{_≡_, refl, sym, ap, _∙_}
+use mathlib.Core.Bool.{Bool, true, false, cond}
 use Prim.Native.Nat.{ℕ}
 use Rattle.error.specs.declared.Error.{Error}
-use Rattle.error.specs.Refusal.{numberOf}
+use Rattle.error.specs.Refusal.{Refusal, numberOf, refusalOf}
+use Rattle.error.specs.Said.{Said, says, refused}
 use Rattle.error.specs.Only.{Determined}
+use Rattle.error.proofs.Inverse.{errorOf}
 
 -- the contract is an equation of the answer itself
 pub by-value {ℓ} : {A : Type ℓ} (a : A) → Determined (λ (r : A). r ≡ a)
@@ -25,6 +28,33 @@ by-both c d =
       holds = (c .holds, d .holds);
       only = λ r q i. (c .only (r .0) (q .0) i, d .only (r .1) (q .1) i);
     }
+
+-- ---- what an answer can say
+
+-- a refusal as `Error` has it
+abbrev pub spoken : {A : Type 0} → Said A → Said A
+spoken (says x) = says x
+spoken (refused r) = refused (refusalOf (errorOf r))
+
+-- some answer says this: its refusal, if it is one, is one of `Error`
+abbrev pub Sayable : {A : Type 0} → Said A → Type 0
+Sayable x = spoken x ≡ x
+
+pub either : {A : Type 0} {x y : Said A} (b : Bool) → Sayable x → Sayable y → Sayable (cond b x y)
+either true p q = p
+either false p q = q
+
+pub known : {A : Type 0} {r : Refusal} → Sayable {A = A} (refused r) → refusalOf (errorOf r) ≡ r
+known e = cc
+
+-- a refusal that is passed on
+pub passed : {A B : Type 0} {r : Refusal} → Sayable {A = A} (refused r) → Sayable {A = B} (refused r)
+passed {A} {B} {r} e = ap refused (known {A = A} {r = r} e)
+
+-- the same of what two outcomes say
+pub tested : {L A : Type 0} (said : L → Said A) (x y : L) (b : Bool) → Sayable (said x) → Sayable (said y) → Sayable (said (cond b x y))
+tested said x y true p q = p
+tested said x y false p q = q
 
 -- ---- this crate's own call
 

@@ -2,21 +2,21 @@
 -- the definitions give is one of `Error`, so that what a call says can be taken back to the call's own answer. Assumes nothing.
 use mathlib.Core.Path.{_≡_, refl, ap}
 use mathlib.Core.Bool.{Bool, true, false, cond, _||_}
-use mathlib.Core.List.{List, [], _∷_, _++_}
-use Prim.Native.Nat.{ℕ, zero, suc, _+_, _*_, _/_, _%_}
+use mathlib.Core.List.{List}
+use Prim.Native.Nat.{ℕ, _/_, _%_}
 use lib.Dec.{ltb, eqb}
-use lib.ListN.{length, take, drop, getD}
-use Rattle.error.specs.Refusal.{Refusal, refusalOf}
+use lib.ListN.{length, getD}
+use Rattle.error.specs.Refusal.{Refusal}
 use Rattle.error.specs.Said.{Said, says, refused, refuse}
 use Rattle.error.specs.Only.{Determined}
 use Rattle.error.proofs.Inverse.{errorOf, errorOf-refusalOf}
-use Rattle.error.proofs.Only.{by-value, by-view}
-use Rattle.wire.specs.Turns.{more, done, after, run}
+use Rattle.error.proofs.Only.{by-value, by-view, Sayable, known, tested}
+use Rattle.wire.specs.Turns.{run}
 use Rattle.nal.specs.Kind.{Shape, short, unknown, plain, aggregate, fragment, shape, bit}
-use Rattle.nal.specs.Unpack.{Unpacking, unpackTurn, unpack}
-use Rattle.wire.specs.Part.{splice}
-use Rattle.nal.specs.Fed.{Run, gathered, Fed, prefixed, OutLaid, layBytes, tooLong, gatherAfter, Laid, layFed}
-use Rattle.nal.specs.Ran.{handing, RanOn, withRun, layRun}
+use Rattle.nal.specs.Unpack.{unpack}
+use Rattle.nal.specs.Fed.{Run, gathered, Fed, Laid}
+use Rattle.nal.specs.Ran.{RanOn, layRun}
+use Rattle.nal.proofs.Sayable.{unpack-sayable, handing-sayable, run-sayable}
 use Rattle.h264_packet.specs.declared.H264Packet.{H264Packet}
 use Rattle.h264_packet.specs.declared.Shown.{Shown}
 use Rattle.h264_packet.specs.declared.Shown.the-variants as shown
@@ -28,73 +28,15 @@ use Rattle.h264_packet.specs.declared.Head.the-variants as head
 use Rattle.h264_packet.specs.Depacketize.{readBy, readPayload, runOf, outside, depacketized, Showing, nowhere, in-packet, in-gather, shownOf, bodyOf, headTest}
 use Rattle.h264_packet.specs.Said.{saidShown, saidDepacketize, Heard, heard, readingHeard, depacketizedHeard, saidHead}
 
--- ---- what an answer can say
-
--- a refusal is one of `Error`
-abbrev Sayable : {A : Type 0} → Said A → Type 0
-Sayable (says x) = Unit {0}
-Sayable (refused r) = refusalOf (errorOf r) ≡ r
-
--- where both outcomes of a test say so, the test does
-tested : {L A : Type 0} (said : L → Said A) (x y : L) (b : Bool) → Sayable (said x) → Sayable (said y) → Sayable (said (cond b x y))
-tested said x y true p q = p
-tested said x y false p q = q
-
 -- ---- the definitions say no other refusal
 
--- a turn refuses, or the next one follows
-turn-sayable : (t : Bool) (r : Refusal) (next : Unpacking) (go : Unpacking → Said (List (List ℕ))) →
-    refusalOf (errorOf r) ≡ r → Sayable (go next) → Sayable (after (cond t (done (refused r)) (more next)) go)
-turn-sayable true r next go p q = p
-turn-sayable false r next go p q = q
-
-turns-sayable : (fuel : ℕ) (rest : List ℕ) (units : List (List ℕ)) →
-    Sayable (run unpackTurn (refuse 18) fuel (record { rest = rest; units = units }))
-unfolding run unpackTurn
-turns-sayable zero rest units = refl
-turns-sayable (suc fuel) [] units = tt
-turns-sayable (suc fuel) (a ∷ []) units = refl
-turns-sayable (suc fuel) (a ∷ b ∷ rest) units =
-    let size : ℕ = a * 256 + b in
-    turn-sayable (ltb (length rest) size) (record { number = 17; carried = size ∷ length rest ∷ [] })
-    (record { rest = drop size rest; units = units ++ (take size rest ∷ []) }) (run unpackTurn (refuse 18) fuel) refl
-    (turns-sayable fuel (drop size rest) (units ++ (take size rest ∷ [])))
-
-handing-sayable : (run : Run) (kept : List ℕ) (x : Said (List (List ℕ))) → Sayable x → Sayable (handing run kept x)
-handing-sayable run kept (says units) e = tt
-handing-sayable run kept (refused r) e = e
-
 shape-sayable : (s : Shape) (run : Run) (payload : List ℕ) → Sayable (readBy s run payload)
-unfolding unpack
 shape-sayable short run payload = refl
 shape-sayable (unknown t) run payload = refl
-shape-sayable plain run payload = tt
+shape-sayable plain run payload = refl
 shape-sayable aggregate run payload =
-    handing-sayable run (gathered run) (unpack payload) (turns-sayable (length payload + 1) (drop 1 payload) [])
-shape-sayable (fragment first last head) run payload = tt
-
-with-run-sayable : (n : ℕ) (x : Said ℕ) → Sayable x → Sayable (withRun n x)
-with-run-sayable n (says bytes) e = tt
-with-run-sayable n (refused r) e = e
-
-bytes-sayable : (out bytes : List ℕ) → Sayable (layBytes out bytes .answer)
-unfolding layBytes
-bytes-sayable out bytes =
-    tested (λ (l : OutLaid). l .answer) (record { answer = refuse 5; out = out })
-    (record { answer = says (length bytes); out = splice out 0 bytes }) (ltb (length out) (length bytes)) refl tt
-
-fed-sayable : (avc : Bool) (gather out : List ℕ) (f : Fed) → Sayable (layFed avc gather out f .answer)
-unfolding layFed
-fed-sayable avc gather out f =
-    let l : OutLaid = layBytes out (prefixed avc (f .handed)) in
-    tested (λ (x : Laid ℕ). x .answer) (record { answer = refuse 6; gather = gather; out = out })
-    (record { answer = l .answer; gather = gatherAfter gather (f .kept) (l .answer); out = l .out }) (tooLong gather (f .kept)) refl
-    (bytes-sayable out (prefixed avc (f .handed)))
-
-run-sayable : (avc : Bool) (gather out : List ℕ) (x : Said Fed) → Sayable x → Sayable (layRun avc gather out x .answer)
-run-sayable avc gather out (says f) e =
-    with-run-sayable (length (gathered (f .run))) (layFed avc gather out f .answer) (fed-sayable avc gather out f)
-run-sayable avc gather out (refused r) e = e
+    handing-sayable run (gathered run) (unpack payload) (unpack-sayable payload)
+shape-sayable (fragment first last head) run payload = refl
 
 read-sayable : (avc : Bool) (n : ℕ) (payload gather out : List ℕ) → Sayable (depacketized avc n payload gather out .answer)
 unfolding depacketized readPayload
@@ -152,7 +94,8 @@ view-back p payload gather out (says r) e =
     (λ (s : Showing). record { packet = record { «is_avc» = p .«is_avc»; gathered = r .gathered }; answer = says (r .bytes); showing = s; gather = gather; out = out })
     (said-shownBy (shownOf (shape payload) (p .gathered) (length payload)))
 view-back p payload gather out (refused r) e =
-    ap (λ (k : Refusal). record { packet = p; answer = refused k; showing = nowhere; gather = gather; out = out }) e
+    ap (λ (k : Refusal). record { packet = p; answer = refused k; showing = nowhere; gather = gather; out = out })
+    (known {A = RanOn} {r = r} e)
 
 pub depacketize-only : (p : H264Packet) (payload gather out : List ℕ) →
     Determined (λ (x : Handed). heard (x .0) (x .1) (x .2) ≡ depacketizedHeard p payload (depacketized (p .«is_avc») (p .gathered) payload gather out))
@@ -176,7 +119,7 @@ headBy-said (head.Refused e) = ap head.Refused (errorOf-refusalOf e)
 
 said-headBy : (x : Said Bool) → Sayable x → saidHead (headBy x) ≡ x
 said-headBy (says b) e = refl
-said-headBy (refused r) e = ap refused e
+said-headBy (refused r) e = e
 
 head-sayable : (s : List ℕ) → Sayable (headTest s)
 unfolding headTest
@@ -185,8 +128,8 @@ head-sayable s =
     let start : Said Bool = says (bit (getD s 1 0 / 128)) in
     let typed : Said Bool = cond (eqb t 28 || eqb t 29) start (says true) in
     tested (λ (x : Said Bool). x) (refuse 8) (cond (ltb (length s) 2) (says false) typed) (ltb 65535 (length s)) refl
-    (tested (λ (x : Said Bool). x) (says false) typed (ltb (length s) 2) tt
-    (tested (λ (x : Said Bool). x) start (says true) (eqb t 28 || eqb t 29) tt tt))
+    (tested (λ (x : Said Bool). x) (says false) typed (ltb (length s) 2) refl
+    (tested (λ (x : Said Bool). x) start (says true) (eqb t 28 || eqb t 29) refl refl))
 
 pub is-partition-head-only : (s : List ℕ) → Determined (λ (r : Head). saidHead r ≡ headTest s)
 is-partition-head-only s =

@@ -1,16 +1,16 @@
 -- "that no second answer satisfies it is proved": each public call's contract is met by one answer, and by no other. For the writer an
 -- answer is the result with the buffer as it is left. Assumes nothing.
-use mathlib.Core.Path.{_≡_, refl, sym, ap, _∙_}
+use mathlib.Core.Path.{_≡_, refl, ap, _∙_}
 use mathlib.Core.Bool.{Bool, true, false, cond, _&&_}
 use mathlib.Core.List.{List, [], map}
 use Prim.Native.Nat.{ℕ, zero, suc, _+_, _*_, _/_, _%_}
 use lib.Dec.{ltb, leb, eqb}
 use lib.ListN.{length, take, drop, getD}
-use Rattle.error.specs.Refusal.{Refusal, refusalOf}
+use Rattle.error.specs.Refusal.{Refusal}
 use Rattle.error.specs.Said.{Said, says, refused, refuse}
 use Rattle.error.specs.Only.{Determined}
 use Rattle.error.proofs.Inverse.{errorOf, errorOf-refusalOf}
-use Rattle.error.proofs.Only.{by-value, by-view}
+use Rattle.error.proofs.Only.{by-value, by-view, spoken, Sayable, either, known, passed}
 use Rattle.wire.specs.Net.{u16At}
 use Rattle.wire.specs.Part.{padTo}
 use Rattle.wire.specs.Turns.{Turn, more, done, after, run}
@@ -30,34 +30,12 @@ use Rattle.header.specs.declared.IdCount.{IdCount}
 use Rattle.header.specs.declared.IdCount.the-variants as ids
 use Rattle.header.specs.declared.Ids.{Ids}
 use Rattle.header.specs.Fields.{Element, dataOf, roomFor, layElements, fieldsOf, blank, inDomain}
-use Rattle.header.specs.Read.{Item, pad, stop, past, element, Block, skip, padded, with-element, taken, turn, itemsBy, items, wholeBlock, Form, one-byte, two-byte, other, formOf, readBlock, Reading, bit, countOf, fixedLength, readingOf, blockAt, readExtension, readFixed, readHeader}
+use Rattle.header.specs.Read.{Item, pad, stop, past, element, Block, skip, with-element, taken, turn, itemsBy, wholeBlock, Form, one-byte, two-byte, other, formOf, readBlock, Reading, bit, countOf, fixedLength, readingOf, blockAt, readExtension, readFixed, readHeader}
 use Rattle.header.specs.Size.{payloadLength, headerSize, lengthAsked, sizeAsked}
 use Rattle.header.specs.Write.{octetsOf, inWritingDomain, judged, writeHeader}
 use Rattle.header.specs.Extension as extension
 use Rattle.header.specs.Extension.{Found, absent, find, replace, append, limited, idRefusal, setFound, setLater, setFirst, setExtension, delFound, delExtension, getExtension, getExtensionIds}
 use Rattle.header.specs.Said.{saidRead, Heard, heard, readingHeard, saidLength, Written, heardWritten, written, saidChange, After, heardChange, changeHeard, saidGot, saidCount, Listed, heardIds, idsHeard}
-
--- ---- what an answer can say
-
--- a refusal as `Error` has it
-abbrev pub spoken : {A : Type 0} → Said A → Said A
-spoken (says x) = says x
-spoken (refused r) = refused (refusalOf (errorOf r))
-
--- some answer says this: its refusal, if it is one, is one of `Error`
-abbrev pub Sayable : {A : Type 0} → Said A → Type 0
-Sayable x = spoken x ≡ x
-
-pub either : {A : Type 0} {x y : Said A} (b : Bool) → Sayable x → Sayable y → Sayable (cond b x y)
-either true p q = p
-either false p q = q
-
-pub known : {A : Type 0} {r : Refusal} → Sayable {A = A} (refused r) → refusalOf (errorOf r) ≡ r
-known e = cc
-
--- a refusal that is passed on
-pub passed : {A B : Type 0} {r : Refusal} → Sayable {A = A} (refused r) → Sayable {A = B} (refused r)
-passed {A} {B} {r} e = ap refused (known {A = A} {r = r} e)
 
 -- ---- lengths
 

@@ -1,36 +1,34 @@
 -- How the joiner's definitions go on, from the facts that the code tests. Assumes nothing.
-use mathlib.Core.Path.{_≡_, refl, sym, ap, ap₂, subst⁻¹, _∙_}
+use mathlib.Core.Path.{_≡_, refl, sym, ap, subst⁻¹, _∙_}
 use mathlib.Core.Bool.{Bool, true, false, cond, or-true}
-use mathlib.Core.List.{List, [], _∷_, _++_}
+use mathlib.Core.List.{List, []}
 use mathlib.Core.Logic.{_⊎_, inl, inr}
 use Prim.Native.Nat.{ℕ, _+_, _-_, _/_, _%_, _≤_, _<_}
 use native.Mathlib.Decide.{decLe}
 use native.Mathlib.Nat.{lt-of-not-le}
 use native.Mathlib.Omega.{arith}
-use lib.Dec.{ltb, eqb}
-use lib.ListN.{length, take, drop, getD, length-drop}
+use lib.Dec.{ltb, leb}
+use lib.ListN.{length, drop, getD, length-drop}
 use borrow.Author.Tests.{lt-ltb, le-ltb, le-leb, lt-leb, eq-eqb, ne-eqb}
 use Rattle.error.specs.Refusal.{Refusal}
 use Rattle.error.specs.Said.{Said, says, refused, refuse}
 use Rattle.wire.specs.Net.{u16At, u32At}
-use Rattle.wire.specs.Part.{splice, part}
-use Rattle.wire.proofs.Part.{splice-nothing}
+use Rattle.wire.specs.Part.{part}
 use Rattle.header.specs.declared.Header.{Header}
 use Rattle.header.specs.Fields.{layOut}
-use Rattle.header.specs.Read.{Reading, readHeader, readingOf, fieldsAt, blockAt, countOf, fixedLength}
+use Rattle.header.specs.Read.{Reading, fieldsAt, countOf, fixedLength}
 use Rattle.header.proofs.Reading.{header-plain, header-long}
 use Rattle.packet.specs.Read.{Payload, PacketReading, behind, readPacket}
 use Rattle.packet.specs.Said.{Heard, readingHeard}
 use Rattle.packet.proofs.Reading.{payload-inside}
 use Rattle.sequence.specs.Number.{distanceOf}
-use Rattle.nal.specs.Fed.{Run, none, gathering, gathered, Fed, prefixed, OutLaid, layBytes, GatherLaid, layGather, gatherAfter, Laid, layFed, ongoing, finished}
-use Rattle.nal.specs.Kind.{Shape, short, plain, fragment, shape}
-use Rattle.nal.specs.Said.{Measure, measureOf}
-use Rattle.nal.proofs.Handing.{bytes-fit, gather-long, gather-fits, fed-long, fed-by}
+use Rattle.nal.specs.Fed.{none, gathered, Fed, OutLaid, Laid, layFed}
+use Rattle.nal.specs.Ran.{RanOn, withRun, layRun}
+use Rattle.nal.proofs.Running.{run-beside, nothing-out}
 use Rattle.joiner.specs.declared.Joiner.{Joiner}
-use Rattle.joiner.specs.Codec.{handedOut, idle, feed}
-use Rattle.joiner.specs.Join.{runOf, runAt, outside, Stepped, late, unchanged, laidBy, fedBy, byDistance, bySource, byReading, joinStep, ClosingStepped, Accepted, shut, closeBy, closeStep}
-use Rattle.joiner.specs.Said.{Arrived, arrivalOf, RanOn, withRun, layRun, OutFed, layUnits, acceptedJoiner, acceptedAnswer}
+use Rattle.joiner.specs.Codec.{idle, feed}
+use Rattle.joiner.specs.Join.{runOf, runAt, outside, Stepped, late, unchanged, laidBy, fedBy, byDistance, bySource, byReading, joinStep, ClosingStepped, shut, closeBy, closeStep}
+use Rattle.joiner.specs.Said.{Arrived, arrivalOf, acceptedJoiner, acceptedAnswer}
 
 -- ---- a packet
 
@@ -160,112 +158,11 @@ module _ (j : Joiner) (packet gather out : List ℕ) where
 
 -- ---- a payload
 
-module _ (gather out : List ℕ) where
-  -- an answer with both buffers is its three parts
-  laid-path : {A : Type 0} (a b : Laid A) → a .answer ≡ b .answer → a .gather ≡ b .gather → a .out ≡ b .out → a ≡ b
-  laid-path a b e f h i = record { answer = e i; gather = f i; out = h i }
-
-  -- nothing gathered leaves the gather buffer
-  stays : (answer : Said ℕ) → gatherAfter gather [] answer ≡ gather
-  stays (says n) = splice-nothing gather 0
-  stays (refused r) = refl
-
-  -- units that drop the run: the output's answer decides
-  pub run-handed : (units : List (List ℕ)) →
-      layRun gather out (handedOut (says units))
-      ≡ record {
-        answer = withRun 0 (layBytes out (prefixed false units) .answer);
-        gather = gather;
-        out = layBytes out (prefixed false units) .out;
-      }
-  run-handed units =
-      let f : Fed = record { run = none; kept = []; handed = units } in
-      let l : layFed false gather out f ≡ record { answer = layBytes out (prefixed false units) .answer; gather = gatherAfter gather [] (layBytes out (prefixed false units) .answer); out = layBytes out (prefixed false units) .out } =
-      fed-by false gather out f (layBytes out (prefixed false units)) (omega arith) (omega arith) refl in
-      ap (λ (x : Laid ℕ). record { answer = withRun 0 (x .answer); gather = x .gather; out = x .out }) l
-      ∙ ap (λ (g : List ℕ). record { answer = withRun 0 (layBytes out (prefixed false units) .answer); gather = g; out = layBytes out (prefixed false units) .out })
-      (stays (layBytes out (prefixed false units) .answer))
-
-  nothing-out : layBytes out [] ≡ record { answer = says 0; out = out }
-  nothing-out =
-      bytes-fit out [] (omega arith) ∙ ap (λ (o : List ℕ). record { answer = says 0; out = o }) (splice-nothing out 0)
-
-  pub run-idle : layRun gather out (says idle) ≡ record { answer = says (record { gathered = 0; bytes = 0 }); gather = gather; out = out }
-  run-idle =
-      run-handed []
-      ∙ ap (λ (l : OutLaid). record { answer = withRun 0 (l .answer); gather = gather; out = l .out }) nothing-out
-
-  -- a run that goes on: the gather buffer's answer decides
-  pub run-ongoing : (bytes : List ℕ) →
-      layRun gather out (says (ongoing bytes))
-      ≡ record {
-        answer = withRun (length bytes) (layGather gather bytes .answer);
-        gather = layGather gather bytes .gather;
-        out = out;
-      }
-  run-ongoing bytes =
-      ap (λ (x : Laid ℕ). record { answer = withRun (length bytes) (x .answer); gather = x .gather; out = x .out })
-      (by (decLe (length bytes) (length gather)) (decLe (length bytes) 16777215))
-    where
-      long : (length gather < length bytes) ⊎ (16777215 < length bytes) →
-          layFed false gather out (ongoing bytes)
-          ≡ record { answer = layGather gather bytes .answer; gather = layGather gather bytes .gather; out = out }
-      long h =
-          fed-long false gather out (ongoing bytes) h
-          ∙ sym (ap (λ (l : GatherLaid). record { answer = l .answer; gather = l .gather; out = out }) (gather-long gather bytes h))
-
-      by : Dec (length bytes ≤ length gather) → Dec (length bytes ≤ 16777215) →
-          layFed false gather out (ongoing bytes)
-          ≡ record { answer = layGather gather bytes .answer; gather = layGather gather bytes .gather; out = out }
-      by (yes h) (yes g) =
-          fed-by false gather out (ongoing bytes) (record { answer = says 0; out = out }) h g nothing-out
-          ∙ sym (ap (λ (l : GatherLaid). record { answer = l .answer; gather = l .gather; out = out }) (gather-fits gather bytes h g))
-      by (yes h) (no g) = long (inr (lt-of-not-le g))
-      by (no h) (yes g) = long (inl (lt-of-not-le h))
-      by (no h) (no g) = long (inl (lt-of-not-le h))
-
--- a fragment has three bytes at least
-pub fragment-long : (s : List ℕ) (first last : Bool) (head : ℕ) → shape s ≡ fragment first last head → 3 ≤ length s
-unfolding shape
-fragment-long s first last head e = by (decLe (length s) 1) (decLe (length s) 2)
-  where
-    not-short : short ≡ fragment first last head → ⊥
-    not-short q = let z : _≡_ {A = ℕ} 0 1 = cc in omega arith
-
-    not-plain : plain ≡ fragment first last head → ⊥
-    not-plain q = let z : _≡_ {A = ℕ} 0 1 = cc in omega arith
-
-    two : (b : Bool) → cond b plain short ≡ fragment first last head → ⊥
-    two true q = not-plain q
-    two false q = not-short q
-
-    by : Dec (length s ≤ 1) → Dec (length s ≤ 2) → 3 ≤ length s
-    by (yes h) g = absurd (not-short (sym (rw (le-leb (length s) 1 h)) ∙ e))
-    by (no h) (yes g) =
-        absurd (two (eqb (getD s 0 0 % 32) 9) (sym (rw (lt-leb (length s) 1 (lt-of-not-le h), le-leb (length s) 2 g)) ∙ e))
-    by (no h) (no g) = lt-of-not-le g
-
--- a STAP-A that has no measure has no units
-pub unmeasured : (x : Said (List (List ℕ))) (r : Refusal) → measureOf x ≡ refused r → x ≡ refused r
-unmeasured (says us) r e = let z : _≡_ {A = ℕ} 0 1 = cc in absurd (omega arith)
-unmeasured (refused n) r e = let same : n ≡ r = cc in ap refused same
-
--- a plain unit handed out, from what `hand_plain` and `with_run` say
-pub plain-heard : (g o payload : List ℕ) (answer : Said RanOn) (handed : Said ℕ) (o′ : List ℕ) → answer ≡ withRun 0 handed →
-    _≡_ {A = OutLaid} (record { answer = handed; out = o′ }) (layBytes o (prefixed false (payload ∷ []))) →
-    _≡_ {A = Laid RanOn} (record { answer = answer; gather = g; out = o′ }) (layRun g o (handedOut (says (payload ∷ []))))
-plain-heard g o payload answer handed o′ e l =
-    ap (λ (x : Said RanOn). record { answer = x; gather = g; out = o′ }) e
-    ∙ ap (λ (x : OutLaid). record { answer = withRun 0 (x .answer); gather = g; out = x .out }) l
-    ∙ sym (run-handed g o (payload ∷ []))
-
--- the units of a STAP-A handed out, from what `feed_units` says
-pub units-heard : (g o : List ℕ) (x : Said (List (List ℕ))) (answer : Said RanOn) (o′ : List ℕ) →
-    _≡_ {A = OutFed} (record { answer = answer; out = o′ }) (layUnits o x) →
-    _≡_ {A = Laid RanOn} (record { answer = answer; gather = g; out = o′ }) (layRun g o (handedOut x))
-units-heard g o (says us) answer o′ e =
-    ap (λ (x : OutFed). record { answer = x .answer; gather = g; out = x .out }) e ∙ sym (run-handed g o us)
-units-heard g o (refused r) answer o′ e = ap (λ (x : OutFed). record { answer = x .answer; gather = g; out = x .out }) e
+pub run-idle : (gather out : List ℕ) →
+    layRun false gather out (says idle) ≡ record { answer = says (record { gathered = 0; bytes = 0 }); gather = gather; out = out }
+run-idle gather out =
+    run-beside false gather out 0 none [] (omega arith) (omega arith)
+    ∙ ap (λ (l : OutLaid). record { answer = withRun 0 (l .answer); gather = gather; out = l .out }) (nothing-out false gather out)
 
 -- ---- the step
 
@@ -280,7 +177,7 @@ module _ (j : Joiner) (d number : ℕ) (gather out : List ℕ) where
         out = l .out;
       }
 
-  pub fedBy-is : (x : Said Fed) → fedBy j d number gather out x ≡ stepped (layRun gather out x)
+  pub fedBy-is : (x : Said Fed) → fedBy j d number gather out x ≡ stepped (layRun false gather out x)
   fedBy-is (refused r) = refl
   fedBy-is (says f) = go (layFed false gather out f) (layFed false gather out f .answer)
     where
@@ -333,7 +230,7 @@ module _ (j : Joiner) (number : ℕ) (payload gather out : List ℕ) where
 
   pub distance-fed : (d : ℕ) → d < 32768 → j .missed + d ≤ 4294967295 →
       byDistance j d number payload gather out
-      ≡ steppedWith j number (j .missed + d) d (layRun gather out (feed (runAt j d gather) payload))
+      ≡ steppedWith j number (j .missed + d) d (layRun false gather out (feed (runAt j d gather) payload))
   distance-fed d h g =
       rw (lt-leb 32768 d h, le-ltb 4294967295 (j .missed + d) g)
       (fedBy-is j d number gather out (feed (runAt j d gather) payload))
@@ -374,3 +271,18 @@ module _ (j : Joiner) (d : ℕ) where
   pub close-shut : d < 32768 → j .missed + d ≤ 4294967295 →
       closeBy j d ≡ record { joiner = shut j d; answer = says (record { first = j .awaited; count = d; bytes = 0 }) }
   close-shut h g = rw (lt-leb 32768 d h, le-ltb 4294967295 (j .missed + d) g)
+
+-- what is so of each of the five outcomes is so of closing
+pub closing-cases : (P : ClosingStepped → Type 0) (j : Joiner) (number : ℕ) →
+    P (record { joiner = j; answer = refuse 22 }) → P (record { joiner = j; answer = refuse 8 }) →
+    P (record { joiner = j; answer = refuse 23 }) → P (record { joiner = j; answer = refuse 24 }) →
+    P (record { joiner = shut j (d j number); answer = says (record { first = j .awaited; count = d j number; bytes = 0 }) }) →
+    P (closeStep j number)
+unfolding closeStep
+closing-cases P j number closed outside far full shut =
+    either (j .closed) closed
+    (either (ltb 16777215 (j .gathered)) outside (either (leb 32768 (d j number)) far (either (ltb 4294967295 (j .missed + d j number)) full shut)))
+  where
+    either : {x y : ClosingStepped} (b : Bool) → P x → P y → P (cond b x y)
+    either true p q = p
+    either false p q = q

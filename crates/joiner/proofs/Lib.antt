@@ -2,3 +2,4 @@ pub mod Joining
 pub mod Records
 pub mod SentGroups
 pub mod OneCall
+pub mod Only

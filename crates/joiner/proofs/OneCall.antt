@@ -4,35 +4,37 @@ use mathlib.Core.Path.{_≡_, refl, sym, ap, ap₂, subst, subst₂, _∙_}
 use mathlib.Core.Bool.{Bool, true, false, cond, _||_, true≢false}
 use mathlib.Core.Logic.{_⊎_, inl, inr}
 use mathlib.Core.List.{List, [], _∷_, _++_, map, append-nil}
-use Prim.Native.Nat.{ℕ, zero, suc, _+_, _-_, _%_, _≤_, _<_}
+use Prim.Native.Nat.{ℕ, _+_, _-_, _≤_}
 use native.Mathlib.Nat.{add-zero}
 use native.Mathlib.Omega.{arith}
-use lib.Dec.{ltb, leb, eqb, eqb·suc-zero}
-use lib.ListN.{length, take, drop, getD, length-append, length-drop}
-use borrow.Author.Tests.{leb-false, ltb-false, le-ltb, ne-eqb}
+use lib.Dec.{ltb, leb, eqb}
+use lib.ListN.{length, drop, length-append, length-drop}
+use borrow.Author.Tests.{ltb-false, le-ltb, ne-eqb}
 use Rattle.error.specs.Refusal.{Refusal}
 use Rattle.error.specs.Said.{Said, says, refused, refuse}
 use Rattle.wire.specs.Part.{splice, part}
 use Rattle.wire.specs.Packets.{joined}
 use Rattle.wire.proofs.Part.{part-of-splice, length-splice}
 use Rattle.packet.specs.Read.{PacketReading, readPacket}
-use Rattle.nal.specs.Kind.{Shape, short, unknown, plain, aggregate, fragment, shapeBy, shapeOf, shape}
+use Rattle.nal.specs.Kind.{Shape, short, unknown, plain, aggregate, fragment, shape}
 use Rattle.nal.specs.Unpack.{unpack}
-use Rattle.nal.specs.Fed.{Run, none, gathering, gathered, prefixed, tooLong, gatherAfter, layBytes, Laid, layFed, ongoing, finished}
+use Rattle.nal.specs.Fed.{Run, none, gathering, gathered, prefixed, tooLong, gatherAfter, layBytes, Laid, layFed, ongoing}
 use Rattle.nal.specs.Fed as nal
 use Rattle.nal.proofs.Handing.{length-prefixed}
+use Rattle.nal.proofs.Shapes.{fragment-long}
 use Rattle.sequence.specs.Number.{distanceOf, nextOf}
-use Rattle.sequence.specs.Event.{got, holes, lostIn}
+use Rattle.sequence.specs.Event.{got, holes}
 use Rattle.sequence.specs.Rule.{late, onward, arriveBy, tooFar, ended}
 use Rattle.sequence.specs.Codec.{Fed, refusal, fed, feedAll}
 use Rattle.sequence.specs.Joiner.{Made, stays, byFed, byRule, byHeard, call, refuses, tooLate, takes, notShut, shut, shutFed, shutBy, close}
 use Rattle.sequence.specs.Joiner as any
 use Rattle.sequence.proofs.Feeding.{lostIn-holes, feed-holes, feed-only-holes}
 use Rattle.joiner.specs.declared.Joiner.{Joiner}
-use Rattle.joiner.specs.Codec.{feedBy, feed, handedOut, idle, fragmented, continued}
-use Rattle.joiner.specs.Join.{runOf, outside, Accepted, Answer, accepted, Stepped, unchanged, moved, laidBy, fedBy, runAt, byDistance, bySource, byReading, joinStep, ClosingStepped, closeStep}
+use Rattle.joiner.specs.Codec.{feedBy, feed, handedOut, fragmented, continued}
+use Rattle.joiner.specs.Join.{runOf, outside, Accepted, Answer, Stepped, unchanged, laidBy, fedBy, runAt, byDistance, bySource, byReading, joinStep, ClosingStepped, closeStep}
 use Rattle.joiner.specs.Join as join
-use Rattle.joiner.specs.General.{Units, Room, refusing, groupIn, within, h264, heardFrom, reader, parts, standing, handedBytes, seenBy, asBytes, closingSaid, closingSeen}
+use Rattle.joiner.specs.General.{Units, Room, refusing, groupIn, within, h264, heardFrom, parts, standing, handedBytes, seenBy, asBytes, closingSaid, closingSeen}
+use Rattle.joiner.proofs.Joining.{closing-cases}
 
 -- ---- what is gathered
 
@@ -45,22 +47,6 @@ not-says e = let z : _≡_ {A = ℕ} 0 1 = cc in omega arith
 
 fed-is : {a f : nal.Fed} → says a ≡ says f → a ≡ f
 fed-is e = cc
-
-no-fragment : {first last : Bool} {head : ℕ} (b : Bool) → cond b plain short ≡ fragment first last head → ⊥
-no-fragment true e = let z : _≡_ {A = ℕ} 0 1 = cc in omega arith
-no-fragment false e = let z : _≡_ {A = ℕ} 0 1 = cc in omega arith
-
--- a fragment has a byte behind its first two
-long-fragment : (s : List ℕ) (first last : Bool) (head : ℕ) → shape s ≡ fragment first last head → 1 ≤ length (drop 2 s)
-unfolding shape
-long-fragment s first last head e = go (leb (length s) 1) (leb (length s) 2) refl refl e
-  where
-    go : (one two : Bool) → leb (length s) 1 ≡ one → leb (length s) 2 ≡ two →
-        cond one short (cond two (cond (eqb (getD s 0 0 % 32) 9) plain short) (shapeBy (getD s 0 0 % 32) (getD s 0 0) (getD s 1 0))) ≡ fragment first last head →
-        1 ≤ length (drop 2 s)
-    go true two p q f = absurd (no-fragment false f)
-    go false true p q f = absurd (no-fragment (eqb (getD s 0 0 % 32) 9) f)
-    go false false p q f = rw (length-drop 2 s) (omega (arith, leb-false (length s) 2 q))
 
 kept-of : (run : Run) (payload : List ℕ) (f : nal.Fed) → feed run payload ≡ says f → Kept f
 unfolding feed
@@ -89,7 +75,7 @@ kept-of run payload f e = go (shape payload) refl e
     go (unknown t) is e = absurd (not-says e)
     go plain is e = closed (says (payload ∷ [])) e
     go aggregate is e = closed (unpack payload) e
-    go (fragment first last head) is e = by-bits first last head (long-fragment payload first last head is) e
+    go (fragment first last head) is e = by-bits first last head (rw (length-drop 2 payload) (omega (arith, fragment-long payload first last head is))) e
 
 -- the record's length and the gather buffer stand for the run
 run-stands : (gather : List ℕ) (f : nal.Fed) → Kept f → length (f .kept) ≤ length gather →
@@ -316,27 +302,12 @@ module _ (j : Joiner) (gather out : List ℕ) (not-closed : j .closed ≡ false)
 
 -- a joiner that was not refused its closing is closed
 pub closed-after : (j : Joiner) (number : ℕ) (a : Accepted) → closeStep j number .answer ≡ says a → closeStep j number .joiner .closed ≡ true
-unfolding closeStep
 closed-after j number a =
-    go (j .closed) (ltb 16777215 (j .gathered)) (leb 32768 d) (ltb 4294967295 (j .missed + d))
+    closing-cases (λ (st : ClosingStepped). st .answer ≡ says a → st .joiner .closed ≡ true) j number
+    not-closed not-closed not-closed not-closed (λ e. refl)
   where
-    d : ℕ
-    d = distanceOf number (j .awaited)
-
-    after : (done wrong far full : Bool) → ClosingStepped
-    after done wrong far full =
-        cond done (record { joiner = j; answer = refuse 22 })
-        (cond wrong (record { joiner = j; answer = refuse 8 })
-        (cond far (record { joiner = j; answer = refuse 23 })
-        (cond full (record { joiner = j; answer = refuse 24 })
-        (record { joiner = join.shut j d; answer = says (record { first = j .awaited; count = d; bytes = 0 }) }))))
-
-    go : (done wrong far full : Bool) → after done wrong far full .answer ≡ says a → after done wrong far full .joiner .closed ≡ true
-    go true wrong far full e = absurd (not-says e)
-    go false true far full e = absurd (not-says e)
-    go false false true full e = absurd (not-says e)
-    go false false false true e = absurd (not-says e)
-    go false false false false e = refl
+    not-closed : {r : Refusal} → _≡_ {A = Said Accepted} (refused r) (says a) → j .closed ≡ true
+    not-closed e = absurd (not-says e)
 
 -- what is seen of a closing that was not refused
 pub shut-is : (st : ClosingStepped) (m : ℕ) (out : List Units) → closingSeen st ≡ shut m out →

@@ -1,80 +1,38 @@
 -- What `feed` does with the payloads of a plain unit, a STAP-A and a fragmented unit: each is a group that the codec owes.
 -- Assumes nothing.
-use mathlib.Core.Path.{_≡_, refl, sym, ap, ap₂, subst, _∙_}
-use mathlib.Core.Bool.{Bool, true, false, cond, _||_}
+use mathlib.Core.Path.{_≡_, refl, sym, ap, subst, _∙_}
+use mathlib.Core.Bool.{Bool, true, false}
 use mathlib.Core.List.{List, [], _∷_, _++_, map, append-nil, append-assoc}
-use Prim.Native.Nat.{ℕ, zero, suc, _+_, _-_, _*_, _/_, _%_, _≤_, _<_}
-use native.Mathlib.Nat.{not-suc-le-zero}
+use Prim.Native.Nat.{ℕ, _+_, _-_, _*_, _/_, _%_, _≤_}
 use native.Mathlib.Omega.{arith}
-use lib.Dec.{ltb, leb, eqb}
-use lib.ListN.{length, take, drop, getD, length-append}
-use lib.Seq.{take-at, drop-at}
-use borrow.Author.Tests.{le-leb, lt-leb, lt-ltb, le-ltb, eq-eqb, ne-eqb}
-use Rattle.error.specs.Refusal.{Refusal}
-use Rattle.error.specs.Said.{Said, says, refused, refuse}
+use lib.Dec.{ltb}
+use lib.ListN.{length, length-append}
+use borrow.Author.Tests.{le-ltb, eq-eqb, ne-eqb}
+use Rattle.error.specs.Said.{says}
+use Rattle.wire.specs.Each.{Each}
 use Rattle.wire.specs.Net.{be16}
 use Rattle.wire.specs.Packets.{joined}
-use Rattle.wire.specs.Turns.{more, done, run}
-use Rattle.wire.proofs.Turns.{run-more, run-done}
-use Rattle.nal.specs.Kind.{Shape, plain, aggregate, fragment, bit, headOf, shapeBy, shapeOf, shape}
-use Rattle.nal.specs.Unpack.{Unpacking, unpackBy, unpackTurn, unpack}
+use Rattle.wire.specs.Turns.{run}
+use Rattle.wire.proofs.Each.{each-by, each-map}
+use Rattle.nal.specs.Kind.{Shape, aggregate, fragment, bit, headOf, shape}
+use Rattle.nal.proofs.Shapes.{shape-plain, shape-aggregate, shape-fragment, unpack-sized}
+use Rattle.nal.specs.Unpack.{sizedUnits, Sized}
 use Rattle.nal.specs.Fed.{Run, none, gathering, prefixed, ongoing, finished}
 use Rattle.nal.specs.Fed as nal
 use Rattle.sequence.specs.Group.{Group, EachHanded}
-use Rattle.sequence.specs.Codec.{Fed, fed, Does, Owes, OwesAll, Cuts}
+use Rattle.sequence.specs.Codec.{Fed, Does, Owes, OwesAll, Cuts}
 use Rattle.sequence.proofs.Feeding.{AtMost}
-use Rattle.sequence.proofs.Cutting.{joinedTo, Each, cut-owes}
-use Rattle.joiner.specs.Codec.{feedBy, feed, handedOut, idle, fragmented, continued}
+use Rattle.sequence.proofs.Cutting.{joinedTo, cut-owes}
+use Rattle.joiner.specs.Codec.{feedBy, feed, handedOut, idle, fragmented}
 use Rattle.joiner.specs.General.{Units, Room, Enough, groupIn, within, h264, tooMuch}
-use Rattle.joiner.specs.Sent.{Sent, aggregated, alone, sizedUnits, stapA, fuA, body, groupOf, groupsOf, gatheredOf, handedLength, Sized, NoneEmpty, PlainUnit, Lawful}
+use Rattle.joiner.specs.Sent.{Sent, aggregated, alone, stapA, fuA, body, groupOf, groupsOf, gatheredOf, handedLength, NoneEmpty, PlainUnit, Lawful}
 use Rattle.joiner.specs.Sent as sent
 
--- ---- a unit by itself
-
-shape-plain : (u : List ℕ) → PlainUnit u → shape u ≡ plain
-unfolding shape
-shape-plain u p =
-    rw (
-      lt-leb (length u) 1 (omega (arith, p .long)),
-      lt-leb (length u) 2 (p .long),
-      ne-eqb (getD u 0 0 % 32) 24 (λ e. omega (arith, p .type-high)),
-      ne-eqb (getD u 0 0 % 32) 28 (λ e. omega (arith, p .type-high)),
-      ne-eqb (getD u 0 0 % 32) 0 (λ e. omega (arith, p .type-low)),
-      le-leb (getD u 0 0 % 32) 23 (p .type-high),
-    )
-
--- ---- a STAP-A
-
-unpack-turn : (u : List ℕ) (us before : Units) → length u < 65536 →
-    unpackTurn (record { rest = sizedUnits (u ∷ us); units = before }) ≡ more (record { rest = sizedUnits us; units = before ++ (u ∷ []) })
-unfolding unpackTurn be16
-unpack-turn u us before h =
-    let size : length u / 256 % 256 * 256 + length u % 256 ≡ length u = omega arith in
-    rw (size, le-ltb (length (u ++ sizedUnits us)) (length u) (omega (arith, length-append u (sizedUnits us))), take-at u (sizedUnits us) (length u) refl, drop-at u (sizedUnits us) (length u) refl)
-
-unpack-all : (us before : Units) (fuel : ℕ) → length (sizedUnits us) < fuel → Sized us →
-    run unpackTurn (refuse 18) fuel (record { rest = sizedUnits us; units = before }) ≡ says (before ++ us)
-unfolding unpackTurn be16
-unpack-all [] before fuel h w =
-    run-done unpackTurn (refuse 18) fuel (record { rest = []; units = before }) (says before) (omega arith) refl
-    ∙ ap says (sym (append-nil before))
-unpack-all (u ∷ us) before fuel h w =
-    run-more unpackTurn (refuse 18) fuel (record { rest = sizedUnits (u ∷ us); units = before })
-    (record { rest = sizedUnits us; units = before ++ (u ∷ []) }) (omega arith) (unpack-turn u us before (w .0))
-    ∙ unpack-all us (before ++ (u ∷ [])) (fuel - 1) (omega (arith, length-append u (sizedUnits us))) (w .1)
-    ∙ ap says (append-assoc before (u ∷ []) us)
-
-unpack-stapA : (us : Units) → Sized us → unpack (stapA us) ≡ says us
-unfolding unpack stapA
-unpack-stapA us w = unpack-all us [] (length (0x78 ∷ sizedUnits us) + 1) (omega arith) w
+-- ---- the shapes of what is sent
 
 shape-stapA : (u : List ℕ) (us : Units) → shape (stapA (u ∷ us)) ≡ aggregate
-unfolding shape stapA be16
-shape-stapA u us =
-    let s : List ℕ = 0x78 ∷ sizedUnits (u ∷ us) in
-    rw (lt-leb (length s) 1 (omega arith), lt-leb (length s) 2 (omega arith))
-
--- ---- fragments
+unfolding stapA be16
+shape-stapA u us = shape-aggregate (0x78 ∷ sizedUnits (u ∷ us)) (omega arith) refl
 
 -- the first byte of the unit: "NRI and type"
 head-of : (head bits : ℕ) → bits % 32 ≡ 0 → headOf (head / 32 % 4 * 32 + 28) (bits + head % 32) ≡ head % 128
@@ -83,11 +41,10 @@ head-of head bits e = omega arith
 shape-fuA : (head bits : ℕ) (part : List ℕ) (first last : Bool) → 1 ≤ length part → bits % 32 ≡ 0 →
     bit ((bits + head % 32) / 128) ≡ first → bit ((bits + head % 32) / 64) ≡ last →
     shape (fuA head bits part) ≡ fragment first last (head % 128)
-unfolding shape fuA
+unfolding fuA
 shape-fuA head bits part first last h e f l =
-    let t : (head / 32 % 4 * 32 + 28) % 32 ≡ 28 = omega arith in
-    ap (λ (k : ℕ). shapeOf k ((head / 32 % 4 * 32 + 28) ∷ (bits + head % 32) ∷ part)) t
-    ∙ rw (lt-leb (suc (suc (length part))) 1 (omega arith), lt-leb (suc (suc (length part))) 2 (omega arith), f, l, head-of head bits e)
+    shape-fragment ((head / 32 % 4 * 32 + 28) ∷ (bits + head % 32) ∷ part) (omega arith) (omega arith)
+    ∙ rw (f, l, head-of head bits e)
 
 module _ (head : ℕ) (part : List ℕ) (h : 1 ≤ length part) where
   shape-start : shape (fuA head 128 part) ≡ fragment true false (head % 128)
@@ -109,11 +66,12 @@ module _ (head : ℕ) (part : List ℕ) (h : 1 ≤ length part) where
 
 feed-alone : (run : Run) (u : List ℕ) → PlainUnit u → feed run u ≡ handedOut (says (u ∷ []))
 unfolding feed
-feed-alone run u p = ap (λ (s : Shape). feedBy s run u) (shape-plain u p)
+feed-alone run u p = ap (λ (s : Shape). feedBy s run u) (shape-plain u (p .long) (p .type-low) (p .type-high))
 
 feed-stapA : (run : Run) (u : List ℕ) (us : Units) → Sized (u ∷ us) → feed run (stapA (u ∷ us)) ≡ handedOut (says (u ∷ us))
-unfolding feed
-feed-stapA run u us w = ap (λ (s : Shape). feedBy s run (stapA (u ∷ us))) (shape-stapA u us) ∙ ap handedOut (unpack-stapA (u ∷ us) w)
+unfolding feed stapA
+feed-stapA run u us w =
+    ap (λ (s : Shape). feedBy s run (stapA (u ∷ us))) (shape-stapA u us) ∙ ap handedOut (unpack-sized 0x78 (u ∷ us) w)
 
 feed-fuA : (run : Run) (head bits : ℕ) (part : List ℕ) (first last : Bool) → shape (fuA head bits part) ≡ fragment first last (head % 128) →
     feed run (fuA head bits part) ≡ fragmented run first last (head % 128) part
@@ -165,10 +123,6 @@ module _ (most largest : ℕ) (bounded : most ≤ 16777215) where
           shorter = λ before s f. omega (arith, length-append before s);
         }
 
-    pieces : (parts : Units) → NoneEmpty parts → Each Piece parts
-    pieces [] w = tt
-    pieces (s ∷ parts) w = (w .0, pieces parts (w .1))
-
     joined-to : (between : Units) (last : List ℕ) → joinedTo between last ≡ joined between ++ last
     joined-to [] last = refl
     joined-to (s ∷ between) last = ap (λ (l : List ℕ). s ++ l) (joined-to between last) ∙ sym (append-assoc s (joined between) last)
@@ -178,7 +132,7 @@ module _ (most largest : ℕ) (bounded : most ≤ 16777215) where
     owes-fragmented first between last w h f =
         subst (λ (l : List ℕ). Fits (first ++ l) → Owes h264 (Enough most largest) (record { first = fuA head 128 first; others = map (fuA head 0) between ++ (fuA head 64 last ∷ []); handed = (head % 128 ∷ (first ++ l)) ∷ [] }))
         (joined-to between last)
-        (cut-owes h264 (Enough most largest) gathering (fuA head 128) (fuA head 0) (fuA head 64) (λ s. (head % 128 ∷ s) ∷ []) Piece Fits cuts first between last (w .0) (pieces between (w .1)) h)
+        (cut-owes h264 (Enough most largest) gathering (fuA head 128) (fuA head 0) (fuA head 64) (λ s. (head % 128 ∷ s) ∷ []) Piece Fits cuts first between last (w .0) (w .1) h)
         f
 
   -- ---- any list of groups
@@ -188,14 +142,14 @@ module _ (most largest : ℕ) (bounded : most ≤ 16777215) where
   owes (alone unit) w h = owes-one unit unit [] (λ run. feed-alone run unit w)
   owes (sent.fragmented head first between last) w h = owes-fragmented head first between last (w .0) (w .1) h
 
-  -- every group is lawful, and there is room to gather it
-  abbrev pub AllGathered : List Sent → Type 0
-  AllGathered [] = Unit {0}
-  AllGathered (s ∷ ss) = Lawful s × (gatheredOf s ≤ most) × AllGathered ss
+  -- a group is lawful, and there is room to gather it
+  abbrev pub Gathered : Sent → Type 0
+  Gathered s = Lawful s × (gatheredOf s ≤ most)
 
-  pub owes-all : (ss : List Sent) → AllGathered ss → OwesAll h264 (Enough most largest) (groupsOf ss)
-  owes-all [] w = tt
-  owes-all (s ∷ ss) w = (owes s (w .0) (w .1), owes-all ss (w .2))
+  pub owes-all : (ss : List Sent) → Each Gathered ss → OwesAll h264 (Enough most largest) (groupsOf ss)
+  owes-all ss w =
+      each-map (Owes h264 (Enough most largest)) groupOf ss
+      (each-by (λ (s : Sent). Owes h264 (Enough most largest) (groupOf s)) Gathered (λ s w. owes s (w .0) (w .1)) ss w)
 
 -- ---- room for what is handed out
 
@@ -212,11 +166,6 @@ small-enough avc most largest k (us ∷ []) enough a =
     ∙ le-ltb (k .out) (length (prefixed avc us)) (omega (arith, a .each .0, enough .out))
 small-enough avc most largest k (us ∷ vs ∷ out) enough a = absurd (omega (arith, a .few))
 
--- every group is handed out in `largest` bytes at most
-abbrev pub AllHanded : Bool → ℕ → List Sent → Type 0
-AllHanded avc largest [] = Unit {0}
-AllHanded avc largest (s ∷ ss) = (handedLength avc s ≤ largest) × AllHanded avc largest ss
-
-pub all-small : (avc : Bool) (largest : ℕ) (ss : List Sent) → AllHanded avc largest ss → EachHanded (Small avc largest) (groupsOf ss)
-all-small avc largest [] w = tt
-all-small avc largest (s ∷ ss) w = (w .0, all-small avc largest ss (w .1))
+pub all-small : (avc : Bool) (largest : ℕ) (ss : List Sent) → Each (λ (s : Sent). handedLength avc s ≤ largest) ss →
+    EachHanded (Small avc largest) (groupsOf ss)
+all-small avc largest ss w = each-map (λ (g : Group (List ℕ) Units). Small avc largest (g .handed)) groupOf ss w

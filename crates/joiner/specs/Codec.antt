@@ -1,7 +1,7 @@
 -- What an H.264 payload does to the open run: the paper's "Plain units and STAP-A drop the run and are handed out as Annex B. A start
 -- fragment replaces the run; a continuation without a run yields nothing; the end bit hands the unit out, its first byte being NRI
 -- and type as in 002." Assumes nothing.
-use mathlib.Core.Bool.{Bool, true, false, cond}
+use mathlib.Core.Bool.{Bool, true, false}
 use mathlib.Core.List.{List, [], _∷_, _++_}
 use Prim.Native.Nat.{ℕ}
 use lib.ListN.{drop}
@@ -9,11 +9,11 @@ use Rattle.error.specs.Said.{Said, says, refused, refuse}
 use Rattle.nal.specs.Kind.{Shape, short, unknown, plain, aggregate, fragment, shape}
 use Rattle.nal.specs.Unpack.{unpack}
 use Rattle.nal.specs.Fed.{Run, none, gathering, Fed, ongoing, finished}
+use Rattle.nal.specs.Ran.{handing}
 
 -- units that drop the run
 abbrev pub handedOut : Said (List (List ℕ)) → Said Fed
-handedOut (says units) = says (record { run = none; kept = []; handed = units })
-handedOut (refused r) = refused r
+handedOut units = handing none [] units
 
 -- nothing is done, and no run is open
 abbrev pub idle : Fed

@@ -2,11 +2,10 @@
 -- unchanged; 24; H.264 checks", 8 after 22; then "the packet is accepted: missed grows by d, awaited is the number plus 1, and d > 0
 -- drops the open run." Assumes nothing.
 use mathlib.Core.Bool.{Bool, true, false, cond, _||_}
-use mathlib.Core.List.{List, []}
+use mathlib.Core.List.{List}
 use Prim.Native.Nat.{ℕ, _+_}
 use lib.Dec.{ltb, leb, eqb}
 use lib.ListN.{length, take}
-use Rattle.error.specs.Refusal.{Refusal}
 use Rattle.error.specs.Said.{Said, says, refused, refuse}
 use Rattle.wire.specs.Part.{part}
 use Rattle.packet.specs.Read.{PacketReading, readPacket}

@@ -1,10 +1,11 @@
 -- Groups of H.264 payloads as RFC 6184 lays them out, from whatever sender. Assumes nothing.
 use mathlib.Core.Bool.{Bool}
 use mathlib.Core.List.{List, [], _∷_, _++_, map}
-use Prim.Native.Nat.{ℕ, _+_, _*_, _/_, _%_, _≤_, _<_}
+use Prim.Native.Nat.{ℕ, _+_, _*_, _/_, _%_, _≤_}
 use lib.ListN.{length, getD}
-use Rattle.wire.specs.Net.{be16}
+use Rattle.wire.specs.Each.{Each}
 use Rattle.wire.specs.Packets.{joined}
+use Rattle.nal.specs.Unpack.{sizedUnits, Sized}
 use Rattle.nal.specs.Fed.{prefixed}
 use Rattle.sequence.specs.Group.{Group}
 use Rattle.joiner.specs.General.{Units}
@@ -16,12 +17,7 @@ pub data Sent : Type 0 where
   -- a unit's first byte, and the parts of what follows it: the first, those between, the last
   fragmented : (head : ℕ) (first : List ℕ) (between : Units) (last : List ℕ) → Sent
 
--- RFC 6184, section 5.7.1: each unit follows its size in two bytes
-abbrev pub sizedUnits : Units → List ℕ
-sizedUnits [] = []
-sizedUnits (u ∷ us) = be16 (length u) ++ (u ++ sizedUnits us)
-
--- "STAP-A (0x78)"
+-- RFC 6184, section 5.7.1: each unit follows its size in two bytes; "STAP-A (0x78)"
 unfoldable pub stapA : Units → List ℕ
 stapA us = 0x78 ∷ sizedUnits us
 
@@ -57,15 +53,9 @@ gatheredOf (fragmented head first between last) = length (body first between las
 abbrev pub handedLength : Bool → Sent → ℕ
 handedLength avc s = length (prefixed avc (groupOf s .handed))
 
--- each unit's length can be said in two bytes
-abbrev pub Sized : Units → Type 0
-Sized [] = Unit {0}
-Sized (u ∷ us) = (length u < 65536) × Sized us
-
 -- none of the parts is empty
 abbrev pub NoneEmpty : Units → Type 0
-NoneEmpty [] = Unit {0}
-NoneEmpty (s ∷ parts) = (1 ≤ length s) × NoneEmpty parts
+NoneEmpty = Each (λ (s : List ℕ). 1 ≤ length s)
 
 -- a unit that a payload can be: "of type 1 to 23, of 3 bytes or more"
 pub record PlainUnit (u : List ℕ) : Type 0 where

@@ -1,7 +1,6 @@
 // What the joiner needs of a packet: its source, its number, and where its payload is.
 ghost use mathlib.Core.Path.{_≡_};
-ghost use Prim.Native.Nat.{_<_, _≤_, _+_};
-ghost use lib.ListN.{length};
+ghost use Prim.Native.Nat.{_<_, _+_};
 ghost use Rattle.packet.specs.Read.{readPacket};
 ghost use Rattle.joiner.specs.Said.{arrivalSaid, arrivalOf};
 use error::Error;

@@ -6,8 +6,9 @@ ghost use lib.Dec.{eqb};
 ghost use lib.ListN.{length};
 ghost use Rattle.error.specs.Refusal.{refusalOf};
 ghost use Rattle.error.specs.Said.{refused};
-ghost use Rattle.joiner.specs.Join.{opened, bySource, joinStep, closeStep, ClosingStepped};
-ghost use Rattle.joiner.specs.Said.{fedSaid, saidJoined, stepHeard, acceptedJoiner, acceptedAnswer, closingHeard};
+ghost use Rattle.joiner.specs.Join.{opened, bySource, joinStep, closeStep};
+ghost use Rattle.nal.specs.Ran.{ranSaid};
+ghost use Rattle.joiner.specs.Said.{saidJoined, stepHeard, acceptedJoiner, acceptedAnswer, closingHeard};
 use crate::Closed;
 use crate::Closing;
 use crate::Joined;
@@ -15,9 +16,9 @@ use crate::Joiner;
 use crate::Step;
 use crate::arrival::Arrival;
 use crate::arrival::arrive;
-use crate::feed::Fed;
 use crate::feed::feed;
 use error::Error;
+use nal::Ran;
 
 fn wide(n: u32, d: u16) -> u64
     ensures { λ r. ⌜ r ≡ n + d ⌝ }
@@ -39,11 +40,11 @@ impl Joiner {
     }
 
     // A packet of the sender's was accepted after `d` numbers were passed over.
-    fn accept(self, d: u16, number: u16, missed: u32, fed: Fed) -> Step
-        ensures { λ r. ⌜ (r .joiner ≡ acceptedJoiner self number missed (fedSaid fed)) × (saidJoined (r .answer) ≡ acceptedAnswer self d (fedSaid fed)) ⌝ }
+    fn accept(self, d: u16, number: u16, missed: u32, ran: Ran) -> Step
+        ensures { λ r. ⌜ (r .joiner ≡ acceptedJoiner self number missed (ranSaid ran)) × (saidJoined (r .answer) ≡ acceptedAnswer self d (ranSaid ran)) ⌝ }
     {
-        match fed {
-            Fed::Run { gathered, bytes } => Step {
+        match ran {
+            Ran::On { gathered, bytes } => Step {
                 joiner: Joiner {
                     source: self.source,
                     awaited: sequence::after(number),
@@ -57,7 +58,7 @@ impl Joiner {
                     bytes,
                 },
             },
-            Fed::Refused(e) => Step {
+            Ran::Refused(e) => Step {
                 joiner: self,
                 answer: Joined::Refused(e),
             },
@@ -97,8 +98,8 @@ impl Joiner {
             };
         }
         let run = held(self.gathered, d);
-        let fed = feed(run, payload, gather, out);
-        self.accept(d, number, missed as u32, fed)
+        let ran = feed(run, payload, gather, out);
+        self.accept(d, number, missed as u32, ran)
     }
 
     pub fn join(self, packet: &[u8], gather: &mut [u8], out: &mut [u8]) -> Step

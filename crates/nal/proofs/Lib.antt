@@ -2,3 +2,4 @@ pub mod Handing
 pub mod Unpacking
 pub mod Running
 pub mod Shapes
+pub mod Sayable

@@ -1,5 +1,5 @@
 -- Which payloads have which shape, and what a shape tells of its payload: the definition's tests, one by one. Assumes nothing.
-use mathlib.Core.Path.{_≡_, refl, sym, ap, _∙_}
+use mathlib.Core.Path.{_≡_, refl, sym, ap, subst, _∙_}
 use mathlib.Core.Bool.{Bool, true, false, cond}
 use mathlib.Core.List.{List, [], _∷_, _++_, append-nil, append-assoc}
 use mathlib.Core.Logic.{_⊎_, inl, inr}
@@ -125,6 +125,10 @@ told s = by-length (leb (length s) 1) (leb (length s) 2) refl refl
     by-length false true e f = two (eqb (type s) 9) (omega (arith, leb-false (length s) 1 e, leb-true (length s) 2 f)) refl
     by-length false false e f =
         by-type (leb-false (length s) 2 f) (eqb (type s) 24) (eqb (type s) 28) (eqb (type s) 0) (leb (type s) 23) refl refl refl refl
+
+-- a fragment has three bytes at least
+pub fragment-long : (s : List ℕ) (first last : Bool) (head : ℕ) → shape s ≡ fragment first last head → 3 ≤ length s
+fragment-long s first last head e = subst (Facts s) e (told s) .long
 
 -- ---- a STAP-A's units
 

@@ -1,27 +1,26 @@
 -- The units of a STAP-A while the code reads them: what is still to be read leads to what the definition says of the whole.
 -- Assumes nothing.
-use mathlib.Core.Path.{_≡_, refl, sym, ap, ap₂, _∙_}
+use mathlib.Core.Path.{_≡_, refl, sym, ap, _∙_}
 use mathlib.Core.Bool.{Bool, true, false, cond}
 use mathlib.Core.List.{List, [], _∷_, _++_, append-nil, append-assoc}
-use Prim.Native.Nat.{ℕ, zero, suc, _+_, _*_, _-_, _%_, _<_, _≤_}
+use Prim.Native.Nat.{ℕ, zero, suc, _+_, _*_, _-_, _<_, _≤_}
 use native.Mathlib.Decide.{decLe}
 use native.Mathlib.Nat.{lt-of-not-le}
 use native.Mathlib.Omega.{arith}
-use lib.Dec.{ltb, eqb}
+use lib.Dec.{ltb}
 use lib.ListN.{length, take, drop, getD, length-append, length-drop, drop-of-length-le, take-append-drop}
 use lib.Seq.{drop-drop, length-take-le}
-use borrow.Author.Tests.{lt-ltb, le-ltb, le-leb, lt-leb}
+use borrow.Author.Tests.{lt-ltb, le-ltb}
 use Rattle.error.specs.Refusal.{Refusal}
 use Rattle.error.specs.Said.{Said, says, refused, refuse}
 use Rattle.wire.specs.Net.{u16At}
 use Rattle.wire.specs.Packets.{joined}
-use Rattle.wire.specs.Turns.{Turn, more, done, after, run}
+use Rattle.wire.specs.Turns.{more, done, after, run}
 use Rattle.wire.specs.Part.{splice}
 use Rattle.wire.proofs.Part.{drop-front, drop-two, splice-nothing, splice-on}
 use Rattle.wire.proofs.Turns.{run-more, run-done}
 use Rattle.nal.proofs.Handing.{joined-append, prefixed-append, prefixed-one, length-unit}
 use Rattle.nal.specs.Fed.{prefixOf, prefixed}
-use Rattle.nal.specs.Kind.{short, plain, fragment, shape}
 use Rattle.nal.specs.Said.{Room, Measure, measureOf}
 use Rattle.nal.specs.Unpack.{Unpacking, sized, unpackBy, unpackTurn, unpack, unitsIn, unitsOf}
 
@@ -330,24 +329,3 @@ measured s m e = go (unpack s) e
 pub unmeasured : (x : Said Units) (r : Refusal) → measureOf x ≡ refused r → x ≡ refused r
 unmeasured (says us) r e = let z : _≡_ {A = ℕ} 0 1 = cc in absurd (omega arith)
 unmeasured (refused n) r e = let same : n ≡ r = cc in ap refused same
-
--- a fragment has three bytes at least
-pub fragment-long : (s : List ℕ) (first last : Bool) (head : ℕ) → shape s ≡ fragment first last head → 3 ≤ length s
-unfolding shape
-fragment-long s first last head e = by (decLe (length s) 1) (decLe (length s) 2)
-  where
-    not-short : short ≡ fragment first last head → ⊥
-    not-short q = let z : _≡_ {A = ℕ} 0 1 = cc in omega arith
-
-    not-plain : plain ≡ fragment first last head → ⊥
-    not-plain q = let z : _≡_ {A = ℕ} 0 1 = cc in omega arith
-
-    two : (b : Bool) → cond b plain short ≡ fragment first last head → ⊥
-    two true q = not-plain q
-    two false q = not-short q
-
-    by : Dec (length s ≤ 1) → Dec (length s ≤ 2) → 3 ≤ length s
-    by (yes h) g = absurd (not-short (sym (rw (le-leb (length s) 1 h)) ∙ e))
-    by (no h) (yes g) =
-        absurd (two (eqb (getD s 0 0 % 32) 9) (sym (rw (lt-leb (length s) 1 (lt-of-not-le h), le-leb (length s) 2 g)) ∙ e))
-    by (no h) (no g) = lt-of-not-le g

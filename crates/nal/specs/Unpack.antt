@@ -5,6 +5,7 @@ use Prim.Native.Nat.{ℕ, _+_, _*_, _<_}
 use lib.Dec.{ltb}
 use lib.ListN.{length, take, drop}
 use Rattle.error.specs.Said.{Said, says, refused, refuse}
+use Rattle.wire.specs.Each.{Each}
 use Rattle.wire.specs.Net.{be16}
 use Rattle.wire.specs.Turns.{Turn, more, done, run}
 
@@ -47,5 +48,4 @@ sizedUnits (u ∷ us) = be16 (length u) ++ (u ++ sizedUnits us)
 
 -- each unit's length can be said in two bytes
 abbrev pub Sized : List (List ℕ) → Type 0
-Sized [] = Unit {0}
-Sized (u ∷ us) = (length u < 65536) × Sized us
+Sized = Each (λ (u : List ℕ). length u < 65536)

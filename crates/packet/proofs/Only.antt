@@ -10,7 +10,7 @@ use Rattle.error.specs.Refusal.{Refusal}
 use Rattle.error.specs.Said.{Said, says, refused, refuse}
 use Rattle.error.specs.Only.{Determined}
 use Rattle.error.proofs.Inverse.{errorOf, errorOf-refusalOf}
-use Rattle.error.proofs.Only.{by-view}
+use Rattle.error.proofs.Only.{by-view, Sayable, either, known, passed}
 use Rattle.header.specs.declared.Header.{Header}
 use Rattle.header.specs.declared.Length.{Length}
 use Rattle.header.specs.Fields.{Fields, fieldsOf, blank, inDomain}
@@ -18,7 +18,7 @@ use Rattle.header.specs.Read.{Form, formOf, Reading, readHeader}
 use Rattle.header.specs.Size.{payloadLength}
 use Rattle.header.specs.Write.{inWritingDomain, judged}
 use Rattle.header.specs.Said.{saidLength, written}
-use Rattle.header.proofs.Only.{Sayable, either, known, passed, length-only, Left, heardLeft, written-only, judged-sayable, read-sayable}
+use Rattle.header.proofs.Only.{length-only, Left, heardLeft, written-only, judged-sayable, read-sayable}
 use Rattle.packet.specs.declared.PacketRead.{PacketRead}
 use Rattle.packet.specs.declared.PacketRead.the-variants as read
 use Rattle.packet.specs.declared.Unmarshalled.{Unmarshalled}
@@ -75,7 +75,7 @@ behind-sayable : (s : List ℕ) (x : Said Reading) → Sayable x → Sayable (be
 behind-sayable s (says r) e = fields-sayable (r .fields) (payloadAt s r) (payload-sayable s r)
 behind-sayable s (refused r) e = passed {A = Reading} {r = r} e
 
-packet-sayable : (s : List ℕ) → Sayable (readPacket s)
+pub packet-sayable : (s : List ℕ) → Sayable (readPacket s)
 unfolding readPacket
 packet-sayable s = behind-sayable s (readHeader s) (read-sayable s)
 

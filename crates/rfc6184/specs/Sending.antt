@@ -4,13 +4,9 @@ use mathlib.Core.Path.{_≡_}
 use mathlib.Core.List.{List, [], _∷_, _++_, map}
 use Prim.Native.Nat.{ℕ, _+_, _*_, _/_, _%_, _<_, _≤_, max}
 use lib.ListN.{length}
+pub use Rattle.wire.specs.Each.{Each}
 use Rattle.wire.specs.Net.{be16}
 use Rattle.wire.specs.Packets.{joined}
-
--- P of each member of a list
-abbrev pub Each {ℓ} : {A : Type ℓ} → (A → Type 0) → List A → Type 0
-Each P [] = Unit
-Each P (x ∷ xs) = P x × Each P xs
 
 -- a NAL unit: the three fields of its first octet, and the octets after it
 pub record Nal : Type 0 where

@@ -1,16 +1,16 @@
 -- What is above all indices so far is at or above one more than the largest of them, and what is not above them is not accepted
 -- later either. Assumes nothing.
 use mathlib.Core.Path.{_≡_, refl, sym, ap, ap₂, _∙_}
-use mathlib.Core.Bool.{Bool, true, false, cond, _&&_, _||_, and-eq-true-iff}
+use mathlib.Core.Bool.{Bool, true, false, _&&_, _||_, and-eq-true-iff}
 use mathlib.Core.List.{List, [], _∷_}
 use mathlib.Core.Logic.{_⊎_, inl, inr, _↔_}
-use Prim.Native.Nat.{ℕ, zero, suc, _≤_, _<_}
+use Prim.Native.Nat.{ℕ, suc, _≤_, _<_}
 use native.Mathlib.Nat.{lt-of-not-le}
 use native.Mathlib.Decide.{decLe}
 use native.Mathlib.Omega.{arith}
 use lib.Dec.{leb, ltb, eqb, leb·zero}
-use borrow.Author.Tests.{le-leb, lt-leb, lt-ltb, le-ltb, ltb-true, leb-true, leb-false, eqb-true}
-use Rattle.sequence.specs.Arrival.{Arrival, ours, other, aboveAll, isAccepted, isPacket, acceptedAmong, raised}
+use borrow.Author.Tests.{le-leb, lt-leb, lt-ltb, le-ltb, ltb-true, eqb-true}
+use Rattle.sequence.specs.Arrival.{Arrival, ours, other, aboveAll, isAccepted, acceptedAmong, raised}
 
 -- ---- the paper's sentence, as a statement on indices
 

@@ -1,7 +1,8 @@
 -- A unit cut into pieces is a group: the first piece starts a run, each other one goes on, and the last hands the unit out.
 -- Assumes nothing.
-use mathlib.Core.Path.{_≡_, refl, sym, ap, subst, _∙_}
+use mathlib.Core.Path.{_≡_, sym, subst}
 use mathlib.Core.List.{List, [], _∷_, _++_, map, append-assoc}
+use Rattle.wire.specs.Each.{Each}
 use Rattle.sequence.specs.Group.{Group}
 use Rattle.sequence.specs.Codec.{Codec, Does, HandsOut, Quiet, Owes, Cuts}
 
@@ -10,10 +11,6 @@ module _ {A : Type 0} where
   abbrev pub joinedTo : List (List A) → List A → List A
   joinedTo [] last = last
   joinedTo (s ∷ between) last = s ++ joinedTo between last
-
-  abbrev pub Each : (List A → Type 0) → List (List A) → Type 0
-  Each Piece [] = Unit {0}
-  Each Piece (s ∷ between) = Piece s × Each Piece between
 
 module _ {K E P Run O : Type 0} (codec : Codec K E P Run O) (Enough : K → Type 0) {A : Type 0} (gathering : List A → Run)
     (start middle end : List A → P) (unit : List A → O) (Piece Fits : List A → Type 0)

@@ -4,14 +4,14 @@ use mathlib.Core.Path.{_≡_, refl, sym, ap, ap₂, subst, _∙_}
 use mathlib.Core.Bool.{Bool, true, false, cond, _&&_}
 use mathlib.Core.List.{List, [], _∷_, _++_, append-nil, append-assoc}
 use Prim.Native.Nat.{ℕ, zero, suc, _+_, _≤_}
-use native.Mathlib.Nat.{suc-add}
 use native.Mathlib.Omega.{arith}
 use lib.Dec.{eqb, eqb·suc-zero}
 use lib.ListN.{length}
+use Rattle.wire.specs.Each.{Each}
 use Rattle.sequence.specs.Arrival.{never}
 use Rattle.sequence.specs.Event.{Event, lost, got, holes, eventOf, seen, lostIn, gotIn}
 use Rattle.sequence.specs.Group.{Group, packetsIn, packetsOf, handedOf, EachHanded, allCame, keep, wholeOf}
-use Rattle.sequence.specs.Codec.{Fed, refusal, fed, Codec, behind, andThen, feedAll, Does, HandsOut, Quiet, Owes, OwesAll}
+use Rattle.sequence.specs.Codec.{Fed, refusal, fed, Codec, behind, andThen, feedAll, Does, HandsOut, Quiet, OwesAll}
 
 -- ---- events
 
@@ -80,14 +80,10 @@ module _ {O : Type 0} (Ok : O → Type 0) where
   AtMostOne (o ∷ []) = Ok o
   AtMostOne (o ∷ o′ ∷ out) = ⊥
 
-  abbrev pub Each : List O → Type 0
-  Each [] = Unit {0}
-  Each (o ∷ out) = Ok o × Each out
-
   -- c things at most, each of which is so
   pub record AtMost (c : ℕ) (out : List O) : Type 0 where
     pub few : length out ≤ c
-    pub each : Each out
+    pub each : Each Ok out
 
   at-most-more : (c : ℕ) (now out : List O) → AtMostOne now → AtMost c out → AtMost (1 + c) (now ++ out)
   at-most-more c [] out h a = record { few = omega (arith, a .few); each = a .each }

@@ -2,18 +2,17 @@
 -- events hand out, and the missed total is the number of holes. Assumes nothing.
 use mathlib.Core.Path.{_≡_, refl, sym, ap, ap₂, subst, subst₂, _∙_}
 use mathlib.Core.Bool.{Bool, true, false, cond, false≢true}
-use mathlib.Core.List.{List, [], _∷_, _++_, map, append-nil, append-assoc}
-use Prim.Native.Nat.{ℕ, zero, suc, _+_, _≤_, _<_}
+use mathlib.Core.List.{List, [], _∷_, _++_, map, append-assoc}
+use Prim.Native.Nat.{ℕ, suc, _+_, _≤_, _<_}
 use native.Mathlib.Omega.{arith}
-use lib.Dec.{ltb}
-use lib.ListN.{length, getD}
+use lib.ListN.{length}
 use borrow.Author.Tests.{le-ltb}
 use Rattle.sequence.specs.Arrival.{Arrival, ours, other, never}
 use Rattle.sequence.specs.Event.{Event, lostIn, gotIn, seen}
-use Rattle.sequence.specs.Rule.{Ruled, late, onward, Ended, tooFar, ended, Rule, isOnward, isEnded, stateAfter, eventsOf, endedEvents, ruling, lastState, allEvents, onwardCalls, JoinsAtMost, Follows}
-use Rattle.sequence.specs.Group.{Group, packetsOf, handedOf, EachHanded, wholeOf}
-use Rattle.sequence.specs.Codec.{Fed, refusal, fed, Codec, feedAll, OwesAll}
-use Rattle.sequence.specs.Joiner.{Heard, notOurs, numbered, Parts, State, Answer, refuses, tooLate, takes, Called, Shut, notShut, shut, Now, Made, stays, byFed, byRule, byHeard, call, shutFed, shutBy, close, answers, final, isTaken, isRefused, handedBy, handedOut, handedAtEnd, bytesOf, isOther}
+use Rattle.sequence.specs.Rule.{Ruled, late, onward, Ended, tooFar, ended, isOnward, isEnded, stateAfter, eventsOf, endedEvents, ruling, lastState, allEvents, onwardCalls, JoinsAtMost, Follows}
+use Rattle.sequence.specs.Group.{Group, packetsOf, EachHanded, wholeOf}
+use Rattle.sequence.specs.Codec.{fed, feedAll, OwesAll}
+use Rattle.sequence.specs.Joiner.{numbered, Parts, State, Answer, refuses, tooLate, takes, notShut, shut, Now, Made, stays, byFed, byRule, byHeard, shutFed, shutBy, close, answers, final, isTaken, isRefused, handedBy, handedOut, bytesOf, isOther}
 use Rattle.sequence.specs.Demand.{Told, Delivered}
 use Rattle.sequence.proofs.Feeding.{AtMost, Yields, Split, split, split-end, lostIn-append, lostIn-seen, lostIn-bound, all-whole, groups-yield}
 

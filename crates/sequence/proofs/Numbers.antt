@@ -1,6 +1,6 @@
 -- Inside the window the distance of two numbers tells the distance of their indices. Assumes nothing.
 use mathlib.Core.Path.{_≡_}
-use Prim.Native.Nat.{ℕ, suc, _+_, _-_, _%_, _≤_, _<_}
+use Prim.Native.Nat.{ℕ, suc, _-_, _≤_, _<_}
 use native.Mathlib.Omega.{arith}
 use Rattle.sequence.specs.Number.{numberOf, distanceOf, nextOf, Near, Closable}
 

@@ -7,14 +7,14 @@ use Prim.Native.Nat.{ℕ, zero, suc, _+_, _-_, _≤_, _<_}
 use native.Mathlib.Nat.{lt-of-not-le, not-suc-le-zero}
 use native.Mathlib.Decide.{decLe}
 use native.Mathlib.Omega.{arith}
-use lib.Dec.{leb, ltb, eqb}
+use lib.Dec.{leb, eqb}
 use lib.ListN.{length, getD, drop, length-drop}
 use lib.Seq.{getD-drop, drop-drop}
 use borrow.Author.Tests.{le-leb, lt-leb, eq-eqb, ne-eqb}
-use Rattle.sequence.specs.Number.{numberOf, distanceOf, nextOf, isLate, Near, Closable}
-use Rattle.sequence.specs.Arrival.{Arrival, ours, other, aboveAll, isAccepted, acceptedCalls, acceptedAmong, accepted, raised, Window}
+use Rattle.sequence.specs.Number.{numberOf, distanceOf, Near, Closable}
+use Rattle.sequence.specs.Arrival.{Arrival, ours, other, aboveAll, acceptedCalls, acceptedAmong, accepted, raised, Window}
 use Rattle.sequence.specs.Event.{Event, lost, got, holes, gotIn, eventOf, seen}
-use Rattle.sequence.specs.Rule.{Ruled, late, onward, Ended, tooFar, ended, Rule, arriveBy, closeBy, plain, stateAfter, eventsOf, isOnward, endedEvents, isEnded, ruling, lastState, allEvents, onwardCalls, JoinsAtMost, Follows}
+use Rattle.sequence.specs.Rule.{Ruled, late, onward, ended, Rule, arriveBy, closeBy, plain, stateAfter, eventsOf, isOnward, endedEvents, isEnded, ruling, lastState, allEvents, onwardCalls, JoinsAtMost, Follows}
 use Rattle.sequence.proofs.Numbers.{first-number, next-number, ahead, ahead-near, late-far, closing, closing-near}
 use Rattle.sequence.proofs.Accepting.{Tops, tops-none, tops-ours, not-later}
 

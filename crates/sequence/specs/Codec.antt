@@ -1,6 +1,7 @@
 -- A codec: what a packet does to the open run, and what it owes of the groups sent. Assumes nothing.
 use mathlib.Core.Path.{_≡_}
 use mathlib.Core.List.{List, [], _∷_, _++_}
+use Rattle.wire.specs.Each.{Each}
 use Rattle.sequence.specs.Event.{Event, lost, got}
 use Rattle.sequence.specs.Group.{Group, packetsIn}
 
@@ -46,8 +47,7 @@ module _ {K E P Run O : Type 0} (codec : Codec K E P Run O) (Enough : K → Type
 
   -- with no run open, the packets yield nothing
   abbrev pub Quiet : List P → Type 0
-  Quiet [] = Unit {0}
-  Quiet (p ∷ ps) = Does (codec .idle) p (codec .idle) [] × Quiet ps
+  Quiet = Each (λ (p : P). Does (codec .idle) p (codec .idle) [])
 
   -- whatever run is open, a group's packets hand it out with the last; with no run open, its packets but the first yield nothing
   pub record Owes (g : Group P O) : Type 0 where
@@ -55,8 +55,7 @@ module _ {K E P Run O : Type 0} (codec : Codec K E P Run O) (Enough : K → Type
     pub quiet : Quiet (g .others)
 
   abbrev pub OwesAll : List (Group P O) → Type 0
-  OwesAll [] = Unit {0}
-  OwesAll (g ∷ gs) = Owes g × OwesAll gs
+  OwesAll = Each Owes
 
   -- ---- a unit cut into pieces
 

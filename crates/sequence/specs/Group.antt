@@ -3,6 +3,7 @@ use mathlib.Core.Bool.{Bool, true, false, _&&_}
 use mathlib.Core.List.{List, [], _∷_, _++_}
 use Prim.Native.Nat.{ℕ, suc, _+_}
 use lib.ListN.{length}
+use Rattle.wire.specs.Each.{Each}
 
 pub record Group (P O : Type 0) : Type 0 where
   -- its first packet, and the others in order
@@ -24,8 +25,7 @@ module _ {P O : Type 0} where
 
 -- what each group is handed out as is so
 abbrev pub EachHanded : {P O : Type 0} → (O → Type 0) → List (Group P O) → Type 0
-EachHanded Ok [] = Unit {0}
-EachHanded Ok (g ∷ gs) = Ok (g .handed) × EachHanded Ok gs
+EachHanded {P} {O} Ok = Each (λ (g : Group P O). Ok (g .handed))
 
 -- all packets from index i on came
 abbrev pub allCame : {P : Type 0} → (ℕ → Bool) → ℕ → List P → Bool

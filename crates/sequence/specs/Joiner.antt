@@ -4,7 +4,7 @@ use mathlib.Core.List.{List, [], _∷_, _++_}
 use Prim.Native.Nat.{ℕ, suc, _+_}
 use lib.Dec.{ltb}
 use Rattle.sequence.specs.Arrival.{Arrival, ours, other}
-use Rattle.sequence.specs.Event.{Event, lostIn}
+use Rattle.sequence.specs.Event.{lostIn}
 use Rattle.sequence.specs.Rule.{Rule, Ruled, late, onward, Ended, tooFar, ended}
 use Rattle.sequence.specs.Codec.{Fed, refusal, fed, Codec, feedAll}
 

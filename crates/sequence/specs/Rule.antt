@@ -5,7 +5,7 @@ use mathlib.Core.List.{List, [], _∷_, _++_}
 use Prim.Native.Nat.{ℕ, _≤_}
 use Rattle.sequence.specs.Number.{distanceOf, nextOf, isLate}
 use Rattle.sequence.specs.Arrival.{Arrival, ours, other}
-use Rattle.sequence.specs.Event.{Event, lost, got, holes, gotIn}
+use Rattle.sequence.specs.Event.{Event, got, holes, gotIn}
 
 -- what a rule says of a numbered packet: nothing is done with it, or the rule goes on and yields events
 pub data Ruled (S P : Type 0) : Type 0 where

@@ -2,3 +2,4 @@ pub mod Net
 pub mod Part
 pub mod Packets
 pub mod Turns
+pub mod Each

@@ -13,7 +13,7 @@ use Rattle.nal.specs.Ran.{handing, RanOn, OutRan, layRun, layUnits}
 use Rattle.nal.specs.Said.{shapeSaid}
 use Rattle.nal.specs.Unpack.{unpack}
 use Rattle.nal.proofs.Running.{units-heard}
-use Rattle.nal.proofs.Unpacking.{fragment-long}
+use Rattle.nal.proofs.Shapes.{fragment-long}
 use Rattle.h264_packet.specs.Depacketize.{beside, gatheredOn, readBy, readPayload, runOf}
 use Rattle.h264_packet.proofs.Depacketizing.{gathered-run, length-run}
 use Rattle.h264_packet.proofs.read.read_payload.Statement.{statement}

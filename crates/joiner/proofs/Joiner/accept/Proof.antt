@@ -1,29 +1,29 @@
 -- Each arm says what the payload's fate makes of the record and of the answer.
-use mathlib.Core.Path.{_≡_, sym, ap, _∙_}
+use mathlib.Core.Path.{sym, ap, _∙_}
 use mathlib.Core.Bool.{false}
 use Prim.Native.Nat.{ℕ}
 use borrow.Author.Needs.{needs}
-use Rattle.joiner.specs.declared.Joiner.{Joiner}
-use Rattle.joiner.specs.declared.feed.Fed.{Fed}
-use Rattle.joiner.specs.Said.{fedSaid, acceptedJoiner, acceptedAnswer}
+use Rattle.nal.specs.declared.Ran.{Ran}
+use Rattle.nal.specs.Ran.{ranSaid}
+use Rattle.joiner.specs.Said.{acceptedJoiner, acceptedAnswer}
 use Rattle.joiner.proofs.Joiner.accept.Statement.{statement}
 use Rattle.joiner.proofs.Joiner.accept.Tie as tie
 
 returns : tie.Need-returns
 returns c =
     let a = c .before .before .before .before .args in
-    let told = c .before .before .fed .given .1 in (
-      ap (λ (n : ℕ). record { source = a .self .source; awaited = n; missed = a .missed; gathered = c .before .before .fed .given .0 .0; closed = false }) (c .after .ensures)
-          ∙ sym (ap (λ (f : Fed). acceptedJoiner (a .self) (a .number) (a .missed) (fedSaid f)) told),
-      sym (ap (λ (f : Fed). acceptedAnswer (a .self) (a .d) (fedSaid f)) told),
+    let told = c .before .before .ran .given .1 in (
+      ap (λ (n : ℕ). record { source = a .self .source; awaited = n; missed = a .missed; gathered = c .before .before .ran .given .0 .0; closed = false }) (c .after .ensures)
+          ∙ sym (ap (λ (r : Ran). acceptedJoiner (a .self) (a .number) (a .missed) (ranSaid r)) told),
+      sym (ap (λ (r : Ran). acceptedAnswer (a .self) (a .d) (ranSaid r)) told),
     )
 
 returns-2 : tie.Need-returns-2
 returns-2 c =
     let a = c .before .before .before .args in
-    let told = c .before .fed2 .given .1 in (
-      sym (ap (λ (f : Fed). acceptedJoiner (a .self) (a .number) (a .missed) (fedSaid f)) told),
-      sym (ap (λ (f : Fed). acceptedAnswer (a .self) (a .d) (fedSaid f)) told),
+    let told = c .before .ran2 .given .1 in (
+      sym (ap (λ (r : Ran). acceptedJoiner (a .self) (a .number) (a .missed) (ranSaid r)) told),
+      sym (ap (λ (r : Ran). acceptedAnswer (a .self) (a .d) (ranSaid r)) told),
     )
 
 pub accept-spec : {M : Type 1} → statement M

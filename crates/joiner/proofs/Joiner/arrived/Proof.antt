@@ -1,19 +1,17 @@
 -- The tests are those of `bySource` and `byDistance`; what follows is the payload's fate.
-use mathlib.Core.Path.{_≡_, refl, sym, ap, ap₂, _∙_}
-use mathlib.Core.Bool.{Bool, true, false, cond}
-use mathlib.Core.List.{List}
-use Prim.Native.Nat.{ℕ, _+_, _≤_, _<_}
+use mathlib.Core.Path.{_≡_, sym, ap, ap₂, _∙_}
+use mathlib.Core.Bool.{false}
+use Prim.Native.Nat.{ℕ, _+_}
 use native.Mathlib.Omega.{arith}
 use lib.Dec.{eqb}
-use lib.ListN.{length}
 use borrow.Author.Needs.{needs}
 use Rattle.error.specs.Said.{Said}
 use Rattle.sequence.specs.Number.{distanceOf}
-use Rattle.nal.specs.Fed.{Run, Laid}
+use Rattle.nal.specs.Fed.{Run}
+use Rattle.nal.specs.Ran.{layRun}
 use Rattle.joiner.specs.declared.Joiner.{Joiner}
 use Rattle.joiner.specs.Codec.{feed}
-use Rattle.joiner.specs.Join.{Answer, Stepped, runOf, runAt}
-use Rattle.joiner.specs.Said.{RanOn, layRun}
+use Rattle.joiner.specs.Join.{Answer, runOf, runAt}
 use Rattle.joiner.proofs.Joining.{steppedWith, run-held, held-le, source-other, source-own, distance-late, distance-full, distance-fed}
 use Rattle.joiner.proofs.Joiner.arrived.Statement.{statement}
 use Rattle.joiner.proofs.Joiner.arrived.Tie as tie
@@ -65,8 +63,8 @@ returns-4 c =
     ap₂ (λ (x : Joiner) (y : Said Answer). record { joiner = x; answer = y; gather = c .before .before .before .before .before .feed .last .1 .1 .0; out = c .before .before .before .before .before .feed .last .1 .1 .1 .0 })
     (c .accept .ensures .0) (c .accept .ensures .1)
     ∙ ap (steppedWith j (a .number) (c .before .before .before .before .before .before .before .before .before .before .wide .result) (dist .result)) (c .before .before .before .before .before .feed .ensures)
-    ∙ ap₂ (λ (k e : ℕ). steppedWith j (a .number) k e (layRun g o (feed (runOf (c .before .before .before .before .before .before .before .before .held .result) g) s))) total d
-    ∙ ap (λ (r : Run). steppedWith j (a .number) (j .missed + n) n (layRun g o (feed r s))) run
+    ∙ ap₂ (λ (k e : ℕ). steppedWith j (a .number) k e (layRun false g o (feed (runOf (c .before .before .before .before .before .before .before .before .held .result) g) s))) total d
+    ∙ ap (λ (r : Run). steppedWith j (a .number) (j .missed + n) n (layRun false g o (feed r s))) run
     ∙ sym
     (source-own j (a .number) s g o (a .source) (c .before .before .before .before .before .before .before .before .before .before .before .before .before .if1 .left)
     ∙ distance-fed j (a .number) s g o n (omega (arith, d, c .before .before .before .before .before .before .before .before .before .before .before .if2 .left)) (omega (arith, total, c .before .before .before .before .before .before .before .before .before .if3 .left)))

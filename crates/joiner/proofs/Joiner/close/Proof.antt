@@ -1,13 +1,13 @@
 -- The tests are those of `closeStep`, in the same order.
-use mathlib.Core.Path.{_≡_, refl, sym, ap, ap₂, _∙_}
-use mathlib.Core.Bool.{Bool, true, false, cond}
+use mathlib.Core.Path.{_≡_, sym, ap, _∙_}
+use mathlib.Core.Bool.{true}
 use Prim.Native.Nat.{ℕ, _+_}
 use native.Mathlib.Omega.{arith}
 use borrow.Author.Needs.{needs}
 use Rattle.error.specs.Said.{says}
 use Rattle.sequence.specs.Number.{distanceOf}
 use Rattle.joiner.specs.declared.Joiner.{Joiner}
-use Rattle.joiner.specs.Join.{closeBy, closeStep, Accepted, ClosingStepped}
+use Rattle.joiner.specs.Join.{ClosingStepped}
 use Rattle.joiner.proofs.Joining.{close-closed, close-outside, close-open, close-far, close-full, close-shut}
 use Rattle.joiner.proofs.Joiner.close.Statement.{statement}
 use Rattle.joiner.proofs.Joiner.close.Tie as tie

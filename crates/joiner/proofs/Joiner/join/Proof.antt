@@ -1,5 +1,5 @@
 -- The tests are those of `joinStep`; a packet that was read goes on by its source and number.
-use mathlib.Core.Path.{_≡_, refl, sym, ap, subst⁻¹, _∙_}
+use mathlib.Core.Path.{_≡_, sym, ap, subst⁻¹, _∙_}
 use mathlib.Core.Logic.{inl, inr}
 use mathlib.Core.List.{List}
 use Prim.Native.Nat.{ℕ, _+_, _-_, _≤_}
@@ -10,7 +10,7 @@ use borrow.Author.Needs.{needs}
 use Rattle.error.specs.Said.{says}
 use Rattle.packet.specs.Read.{readPacket}
 use Rattle.joiner.specs.Join.{bySource}
-use Rattle.joiner.specs.Said.{Arrived, arrivalSaid, arrivalOf}
+use Rattle.joiner.specs.Said.{arrivalSaid, arrivalOf}
 use Rattle.joiner.proofs.Joining.{join-closed, join-outside, join-reads, by-arrival, by-refusal, arrived-inside, arrived-short}
 use Rattle.joiner.proofs.Joiner.join.Statement.{statement}
 use Rattle.joiner.proofs.Joiner.join.Tie as tie

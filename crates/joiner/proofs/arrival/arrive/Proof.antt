@@ -7,7 +7,6 @@ use borrow.Author.Needs.{needs}
 use Rattle.error.specs.Said.{says}
 use Rattle.wire.specs.Net.{u16At, u32At}
 use Rattle.header.specs.Read.{countOf, fixedLength}
-use Rattle.joiner.specs.Said.{Arrived}
 use Rattle.joiner.proofs.Joining.{arrival-plain}
 use Rattle.joiner.proofs.arrival.arrive.Statement.{statement}
 use Rattle.joiner.proofs.arrival.arrive.Tie as tie

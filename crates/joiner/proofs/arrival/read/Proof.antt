@@ -1,9 +1,9 @@
 -- The reader's answer, shrunk to what is needed: `shrunk-is`.
-use mathlib.Core.Path.{_≡_, sym, ap, _∙_}
+use mathlib.Core.Path.{sym, ap, _∙_}
 use borrow.Author.Needs.{needs}
 use Rattle.packet.specs.declared.PacketRead.{PacketRead}
 use Rattle.packet.specs.Read.{readPacket}
-use Rattle.packet.specs.Said.{Heard, saidRead}
+use Rattle.packet.specs.Said.{saidRead}
 use Rattle.joiner.proofs.Joining.{shrunk, shrunk-is}
 use Rattle.joiner.proofs.arrival.read.Statement.{statement}
 use Rattle.joiner.proofs.arrival.read.Tie as tie

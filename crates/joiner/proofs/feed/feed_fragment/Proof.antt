@@ -1,19 +1,19 @@
 -- Each way is one of the four ways of `fragmented`.
-use mathlib.Core.Path.{_≡_, refl, sym, ap, ap₂, _∙_}
-use mathlib.Core.Bool.{Bool, true, false, cond}
+use mathlib.Core.Path.{_≡_, sym, ap, ap₂, _∙_}
+use mathlib.Core.Bool.{Bool, false}
 use mathlib.Core.List.{List, _++_}
 use Prim.Native.Nat.{ℕ, _+_, _-_}
-use native.Mathlib.Omega.{arith}
 use lib.ListN.{length, take, drop, length-drop}
 use borrow.Author.Needs.{needs}
 use borrow.Author.Tests.{eq-eqb, ne-eqb}
-use Rattle.error.specs.Said.{Said, says}
-use Rattle.nal.specs.Fed.{Run, none, gathering, GatherLaid, layGather, Laid, layFed, ongoing, finished}
+use Rattle.error.specs.Said.{says}
+use Rattle.nal.specs.Fed.{Run, none, gathering}
+use Rattle.nal.specs.Ran.{layRun}
 use Rattle.nal.proofs.Handing.{length-gathered}
+use Rattle.nal.proofs.Running.{ongoing-heard, finished-heard}
 use Rattle.joiner.specs.Codec.{fragmented, continued}
 use Rattle.joiner.specs.Join.{runOf}
-use Rattle.joiner.specs.Said.{RanOn, withRun, layRun}
-use Rattle.joiner.proofs.Joining.{run-idle, run-ongoing}
+use Rattle.joiner.proofs.Joining.{run-idle}
 use Rattle.joiner.proofs.feed.feed_fragment.Statement.{statement}
 use Rattle.joiner.proofs.feed.feed_fragment.Tie as tie
 
@@ -21,20 +21,8 @@ returns : tie.Need-returns
 returns c =
     let a = c .before .before .before .before .before .args in
     sym
-    (ap₂ (λ (f l : Bool). layRun (a .gather .now) (a .out .now) (fragmented (runOf (a .run) (a .gather .now)) f l (a .head) (drop 2 (a .payload .now))))
+    (ap₂ (λ (f l : Bool). layRun false (a .gather .now) (a .out .now) (fragmented (runOf (a .run) (a .gather .now)) f l (a .head) (drop 2 (a .payload .now))))
     (c .before .if1 .taken) (c .if2 .taken))
-
--- a run that goes on, from what `gather_on` and `with_run` say
-ongoing-heard : (g o bytes : List ℕ) (n : ℕ) (answer : Said RanOn) (handed : Said ℕ) (g′ : List ℕ) →
-    answer ≡ withRun n handed →
-    _≡_ {A = GatherLaid} (record { answer = handed; gather = g′ }) (layGather g bytes) →
-    n ≡ length bytes →
-    _≡_ {A = Laid RanOn} (record { answer = answer; gather = g′; out = o }) (layRun g o (says (ongoing bytes)))
-ongoing-heard g o bytes n answer handed g′ e l k =
-    ap (λ (x : Said RanOn). record { answer = x; gather = g′; out = o }) e
-    ∙ ap (λ (x : GatherLaid). record { answer = withRun n (x .answer); gather = x .gather; out = o }) l
-    ∙ ap (λ (m : ℕ). record { answer = withRun m (layGather g bytes .answer); gather = layGather g bytes .gather; out = o }) k
-    ∙ sym (run-ongoing g o bytes)
 
 returns-2 : tie.Need-returns-2
 returns-2 c =
@@ -42,15 +30,15 @@ returns-2 c =
     let g = a .gather .now in
     let o = a .out .now in
     let p = a .payload .now in
-    ongoing-heard g o (drop 2 p) (length p - 2) _ _ _ (c .with-run .ensures) (c .before .before .before .gather-on .ensures) (sym (length-drop 2 p))
+    ongoing-heard false g o (drop 2 p) (length p - 2) _ _ _ (c .with-run .ensures) (c .before .before .before .gather-on .ensures) (sym (length-drop 2 p))
     ∙ sym
-    (ap₂ (λ (f l : Bool). layRun g o (fragmented (runOf (a .run) g) f l (a .head) (drop 2 p))) (c .before .before .before .before .before .before .if1 .taken) (c .before .before .before .before .before .if2 .left))
+    (ap₂ (λ (f l : Bool). layRun false g o (fragmented (runOf (a .run) g) f l (a .head) (drop 2 p))) (c .before .before .before .before .before .before .if1 .taken) (c .before .before .before .before .before .if2 .left))
 
 -- not the first fragment: the run decides
 later : (g o p : List ℕ) (run : ℕ) (first last : Bool) (head : ℕ) (r : Run) → first ≡ false → runOf run g ≡ r →
-    layRun g o (fragmented (runOf run g) first last head (drop 2 p)) ≡ layRun g o (says (continued r last head (drop 2 p)))
+    layRun false g o (fragmented (runOf run g) first last head (drop 2 p)) ≡ layRun false g o (says (continued r last head (drop 2 p)))
 later g o p run first last head r e k =
-    ap₂ (λ (f : Bool) (x : Run). layRun g o (fragmented x f last head (drop 2 p))) e k
+    ap₂ (λ (f : Bool) (x : Run). layRun false g o (fragmented x f last head (drop 2 p))) e k
 
 returns-3 : tie.Need-returns-3
 returns-3 c =
@@ -59,25 +47,16 @@ returns-3 c =
     (later (a .gather .now) (a .out .now) (a .payload .now) (a .run) (a .first) (a .last) (a .head) none (c .before .if1 .left) (rw (eq-eqb _ 0 (c .if3 .taken)))
     ∙ run-idle (a .gather .now) (a .out .now))
 
--- a run that ends, from what `finish` and `with_run` say
-finished-heard : (g o : List ℕ) (head : ℕ) (bytes : List ℕ) (answer : Said RanOn) (handed : Said ℕ) (g′ o′ : List ℕ) →
-    answer ≡ withRun 0 handed →
-    _≡_ {A = Laid ℕ} (record { answer = handed; gather = g′; out = o′ }) (layFed false g o (finished head bytes)) →
-    _≡_ {A = Laid RanOn} (record { answer = answer; gather = g′; out = o′ }) (layRun g o (says (finished head bytes)))
-finished-heard g o head bytes answer handed g′ o′ e l =
-    ap (λ (x : Said RanOn). record { answer = x; gather = g′; out = o′ }) e
-    ∙ ap (λ (x : Laid ℕ). record { answer = withRun 0 (x .answer); gather = x .gather; out = x .out }) l
-
 returns-4 : tie.Need-returns-4
 returns-4 c =
     let a = c .before .before .before .before .before .before .before .before .before .before .before .before .before .before .args in
     let g = a .gather .now in
     let o = a .out .now in
     let p = a .payload .now in
-    finished-heard g o (a .head) (take (a .run) g ++ drop 2 p) _ _ _ _ (c .with-run2 .ensures) (c .before .before .before .before .before .finish .ensures)
+    finished-heard false g o (a .head) (take (a .run) g ++ drop 2 p) _ _ _ _ (c .with-run2 .ensures) (c .before .before .before .before .before .finish .ensures)
     ∙ sym
     (later g o p (a .run) (a .first) (a .last) (a .head) (gathering (take (a .run) g)) (c .before .before .before .before .before .before .before .before .before .before .if1 .left) (rw (ne-eqb _ 0 (c .before .before .before .before .before .before .before .before .before .if3 .left)))
-    ∙ ap (λ (l : Bool). layRun g o (says (continued (gathering (take (a .run) g)) l (a .head) (drop 2 p)))) (c .before .before .before .before .before .before .before .before .if4 .taken))
+    ∙ ap (λ (l : Bool). layRun false g o (says (continued (gathering (take (a .run) g)) l (a .head) (drop 2 p)))) (c .before .before .before .before .before .before .before .before .if4 .taken))
 
 returns-5 : tie.Need-returns-5
 returns-5 c =
@@ -85,10 +64,10 @@ returns-5 c =
     let g = a .gather .now in
     let o = a .out .now in
     let p = a .payload .now in
-    ongoing-heard g o (take (a .run) g ++ drop 2 p) (a .run + (length p - 2)) _ _ _ (c .with-run3 .ensures) (c .before .before .before .gather-on2 .ensures) (sym (length-gathered g p (a .run) (search needs)))
+    ongoing-heard false g o (take (a .run) g ++ drop 2 p) (a .run + (length p - 2)) _ _ _ (c .with-run3 .ensures) (c .before .before .before .gather-on2 .ensures) (sym (length-gathered g p (a .run) (search needs)))
     ∙ sym
     (later g o p (a .run) (a .first) (a .last) (a .head) (gathering (take (a .run) g)) (c .before .before .before .before .before .before .before .if1 .left) (rw (ne-eqb _ 0 (c .before .before .before .before .before .before .if3 .left)))
-    ∙ ap (λ (l : Bool). layRun g o (says (continued (gathering (take (a .run) g)) l (a .head) (drop 2 p)))) (c .before .before .before .before .before .if4 .left))
+    ∙ ap (λ (l : Bool). layRun false g o (says (continued (gathering (take (a .run) g)) l (a .head) (drop 2 p)))) (c .before .before .before .before .before .if4 .left))
 
 pub feed-fragment-spec : {M : Type 1} → statement M
 feed-fragment-spec =

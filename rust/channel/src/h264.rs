@@ -1,0 +1,78 @@
+//! An H.264 payload, and what it does to the open run.
+
+use crate::{refuse, refuse_with, Refusal};
+
+/// What a payload does.
+#[derive(Debug, PartialEq)]
+pub struct Fate {
+    /// the run that is open afterwards
+    pub run: Option<Vec<u8>>,
+    /// what was gathered of a unit, its last fragment included
+    pub gathered: Vec<u8>,
+    /// the units handed out
+    pub units: Vec<Vec<u8>>,
+}
+
+/// "H.264 reading: 4, 19, 17 or 18 at the first place", "with 21 before 17".
+pub fn feed(run: Option<Vec<u8>>, payload: &[u8]) -> Result<Fate, Refusal> {
+    let kind = payload.first().map_or(0, |first| first & 0x1F);
+    match payload.len() {
+        0 | 1 => return refuse(4),
+        2 if kind != 9 => return refuse(4),
+        _ => {}
+    }
+    match kind {
+        1..=23 => Ok(handed_out(vec![payload.to_vec()])),
+        24 => Ok(handed_out(units_of(&payload[1..])?)),
+        28 => fragment(run, payload),
+        _ => refuse_with(19, &[usize::from(kind)]),
+    }
+}
+
+/// "Plain units and STAP-A drop the run and are handed out".
+fn handed_out(units: Vec<Vec<u8>>) -> Fate {
+    Fate { run: None, gathered: vec![], units }
+}
+
+/// The units of a STAP-A behind its first byte.
+fn units_of(mut rest: &[u8]) -> Result<Vec<Vec<u8>>, Refusal> {
+    let mut units = vec![];
+    while !rest.is_empty() {
+        if rest.len() == 1 {
+            return refuse(18);
+        }
+        let size = usize::from(rest[0]) * 256 + usize::from(rest[1]);
+        rest = &rest[2..];
+        if size > rest.len() {
+            return refuse_with(17, &[size, rest.len()]);
+        }
+        units.push(rest[..size].to_vec());
+        rest = &rest[size..];
+    }
+    Ok(units)
+}
+
+/// "A start fragment replaces the run; a continuation without a run yields nothing; the end bit hands the unit out, its first byte
+/// being NRI and type".
+fn fragment(run: Option<Vec<u8>>, payload: &[u8]) -> Result<Fate, Refusal> {
+    let (start, end) = (payload[1] & 0x80 != 0, payload[1] & 0x40 != 0);
+    if start && end {
+        return refuse(21);
+    }
+    let before = if start { Some(vec![]) } else { run };
+    let Some(before) = before else {
+        return Ok(handed_out(vec![]));
+    };
+    let gathered = [&before[..], &payload[2..]].concat();
+    if !end {
+        return Ok(Fate { run: Some(gathered.clone()), gathered, units: vec![] });
+    }
+    let first = (payload[0] & 0x60) | (payload[1] & 0x1F);
+    let unit = [&[first], &gathered[..]].concat();
+    Ok(Fate { run: None, gathered, units: vec![unit] })
+}
+
+/// "Each unit follows 00 00 00 01".
+pub fn annex_b(units: &[Vec<u8>]) -> Vec<u8> {
+    units.iter().flat_map(|unit| [&[0, 0, 0, 1], &unit[..]].concat()).collect()
+}

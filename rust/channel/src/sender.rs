@@ -1,0 +1,148 @@
+//! What is sent: groups of payloads, and packets around them.
+
+use crate::h264::annex_b;
+use crate::joiner::number;
+use crate::random::Random;
+
+/// "A group is one STAP-A, one plain unit, or all fragments of one unit (handed out with its top bit clear)."
+#[derive(Clone)]
+pub struct Group {
+    pub payloads: Vec<Vec<u8>>,
+    /// what it is handed out as
+    pub handed: Vec<u8>,
+    /// how many bytes are gathered of it
+    pub gathered: usize,
+}
+
+impl Group {
+    pub fn alone(unit: Vec<u8>) -> Self {
+        Group { handed: annex_b(&[unit.clone()]), payloads: vec![unit], gathered: 0 }
+    }
+
+    pub fn aggregated(units: &[Vec<u8>]) -> Self {
+        let sized = |unit: &Vec<u8>| [&(unit.len() as u16).to_be_bytes(), &unit[..]].concat();
+        let payload = [vec![0x78], units.iter().flat_map(sized).collect()].concat();
+        Group { payloads: vec![payload], handed: annex_b(units), gathered: 0 }
+    }
+
+    /// A unit by its first byte and the parts of what follows it, of which there are two at least.
+    pub fn fragmented(head: u8, parts: &[Vec<u8>]) -> Self {
+        let bits = |i: usize| match i {
+            0 => START,
+            _ if i + 1 == parts.len() => END,
+            _ => 0,
+        };
+        let fragments = parts.iter().enumerate().map(|(i, part)| fragment(head, bits(i), part));
+        let unit = [vec![head & 0x7F], parts.concat()].concat();
+        Group { payloads: fragments.collect(), gathered: unit.len() - 1, handed: annex_b(&[unit]) }
+    }
+}
+
+pub const START: u8 = 0x80;
+pub const END: u8 = 0x40;
+
+/// An FU-A.
+pub fn fragment(head: u8, bits: u8, part: &[u8]) -> Vec<u8> {
+    [&[(head & 0x60) | 28, bits | (head & 0x1F)], part].concat()
+}
+
+/// The first byte of a unit that may be sent.
+pub fn head(random: &mut Random) -> u8 {
+    let top = if random.one_in(8) { 0x80 } else { 0 };
+    let kind = random.pick(&[1, 1, 5, 5, 6, 2, 3, 10, 19, 23]);
+    top | (random.below(4) as u8) << 5 | kind
+}
+
+pub fn unit(random: &mut Random) -> Vec<u8> {
+    [vec![head(random)], random.bytes(2..=5)].concat()
+}
+
+pub fn group(random: &mut Random) -> Group {
+    match random.below(6) {
+        0 => {
+            let units: Vec<Vec<u8>> = (0..random.within(1..=3)).map(|_| unit(random)).collect();
+            Group::aggregated(&units)
+        }
+        1 | 2 => Group::alone(unit(random)),
+        _ => {
+            let head = head(random);
+            let parts: Vec<Vec<u8>> =
+                (0..random.within(2..=4)).map(|_| random.bytes(1..=4)).collect();
+            Group::fragmented(head, &parts)
+        }
+    }
+}
+
+/// A packet of version 2 with no padding, extensions or CSRCs.
+pub fn packet(random: &mut Random, source: u32, number: u16, payload: &[u8]) -> Vec<u8> {
+    let kind = 96 + 128 * random.below(2) as u8;
+    let fixed =
+        [&[0x80, kind], &number.to_be_bytes()[..], &random.bytes(4..=4), &source.to_be_bytes()];
+    [&fixed.concat()[..], payload].concat()
+}
+
+/// The same, at times with CSRCs, an extension or padding.
+pub fn dressed(random: &mut Random, source: u32, number: u16, payload: &[u8]) -> Vec<u8> {
+    let mut bytes = packet(random, source, number, payload);
+    match random.below(24) {
+        0 => {
+            bytes[0] |= 1;
+            bytes.splice(12..12, random.bytes(4..=4));
+        }
+        1 => {
+            bytes[0] |= 0x10;
+            bytes.splice(12..12, [0xBE, 0xDE, 0, 1, 0x10, 0xAA, 0, 0]);
+        }
+        2 => {
+            bytes[0] |= 0x20;
+            bytes.extend([0, 2]);
+        }
+        _ => {}
+    }
+    bytes
+}
+
+/// What a sender sends: packet i bears (first + i) mod 65,536.
+pub struct Show {
+    pub source: u32,
+    pub first: u16,
+    pub groups: Vec<Group>,
+    pub packets: Vec<Vec<u8>>,
+}
+
+impl Show {
+    pub fn new(random: &mut Random, groups: usize) -> Self {
+        let source = random.pick(&[3, 0, u32::MAX, 0x1234_5678, 0x0001_0000]);
+        let first = first_number(random);
+        let groups: Vec<Group> = (0..groups).map(|_| group(random)).collect();
+        let payloads = groups.iter().flat_map(|group| group.payloads.clone()).enumerate();
+        let packets =
+            payloads.map(|(i, payload)| dressed(random, source, number(first, i), &payload));
+        Show { source, first, packets: packets.collect(), groups }
+    }
+
+    /// "Closing takes the number after the last sent".
+    pub fn end(&self) -> u16 {
+        number(self.first, self.packets.len())
+    }
+
+    /// "gather for the longest unit less one byte".
+    pub fn longest(&self) -> usize {
+        self.groups.iter().map(|group| group.gathered).max().unwrap_or(0)
+    }
+
+    /// "output for the largest group as handed out, prefixes included".
+    pub fn largest(&self) -> usize {
+        self.groups.iter().map(|group| group.handed.len()).max().unwrap_or(0)
+    }
+}
+
+/// Often one before a wrap, or before the half of the numbers.
+pub fn first_number(random: &mut Random) -> u16 {
+    match random.below(4) {
+        0 => u16::MAX - random.below(5) as u16,
+        1 => 32_764 + random.below(8) as u16,
+        2 => random.below(4) as u16,
+        _ => random.below(65_536) as u16,
+    }
+}
