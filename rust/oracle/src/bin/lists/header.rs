@@ -96,10 +96,13 @@ fn every_call(list: &mut List, header: &Header) {
     list.ask(format!("header.ids {record}"));
 }
 
+/// With a buffer that is too small as well: "8 first".
 fn edges(list: &mut List) {
     for header in records::edges() {
-        every_call(list, &header);
-        every_call(list, &off(&header));
+        for header in [off(&header), header] {
+            every_call(list, &header);
+            list.ask(format!("header.write {} 11 7", text(&header)));
+        }
     }
 }
 

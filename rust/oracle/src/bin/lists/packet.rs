@@ -147,7 +147,9 @@ fn edges(list: &mut List) {
         for header in [off(&header), header] {
             let (record, len) = (text(&header), size(&header, &[1, 2, 3]).min(1_300));
             list.ask(format!("packet.size {record} 010203"));
-            list.ask(format!("packet.write {record} 010203 {len} 90"));
+            for len in [0, 11, 15, len] {
+                list.ask(format!("packet.write {record} 010203 {len} 90"));
+            }
         }
     }
 }
