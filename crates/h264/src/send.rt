@@ -25,6 +25,7 @@ use crate::search::unit_at;
 use error::Error;
 
 // A parameter set that waits to be sent.
+#[repr(C)]
 pub struct ParameterSet {
     // its bytes, zeros behind them
     pub bytes: [u8; 1024],
@@ -56,6 +57,7 @@ impl ParameterSet {
     }
 }
 
+#[repr(C)]
 pub struct H264Payloader {
     // the sequence parameter set that waits for a picture parameter set or for a unit to be sent before
     pub sps: ParameterSet,

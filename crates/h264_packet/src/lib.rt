@@ -10,6 +10,7 @@ pub use partition::is_partition_tail;
 pub use view::body;
 
 // The state of a reader.
+#[repr(C)]
 pub struct H264Packet {
     // units are handed out behind a 4-byte length, and not behind a start code
     pub is_avc: bool,

@@ -27,6 +27,7 @@ pub const EXTENSION_PROFILE_TWO_BYTE: u16 = 0x1000;
 pub const EXTENSION_ID_RESERVED: u8 = 0xF;
 
 // The extension elements, in order.
+#[repr(C)]
 pub struct Extensions {
     // how many there are: 0 to 32
     pub count: usize,
@@ -38,6 +39,7 @@ pub struct Extensions {
     pub bytes: [u8; 1024],
 }
 
+#[repr(C)]
 pub struct Header {
     // 0 to 3; 2 for RTP
     pub version: u8,

@@ -10,6 +10,7 @@ pub use place::join_by_value;
 pub use place::join_in_place;
 
 // The state of a joiner, which a host keeps for the whole show.
+#[repr(C)]
 pub struct Joiner {
     // the sender's SSRC
     pub source: u32,

@@ -8,6 +8,7 @@ ghost use Rattle.vp8.specs.Partition.{partitionHead, saidHead};
 use error::Error;
 
 // The fields of the descriptors read so far: a field that a packet does not have keeps its value.
+#[repr(C)]
 pub struct Vp8Packet {
     // X: 1 where the extension octet is there
     pub x: u8,

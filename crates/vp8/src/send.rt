@@ -9,6 +9,7 @@ ghost use Rattle.vp8.specs.SendAnswer.{refusedBy, sentBy, sending};
 ghost use Rattle.vp8.specs.Written.{InDomain, ToWrite, Written};
 use error::Error;
 
+#[repr(C)]
 pub struct Vp8Payloader {
     // whether each payload shows the picture id
     pub enable_picture_id: bool,

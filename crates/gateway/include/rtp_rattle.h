@@ -1,0 +1,291 @@
+/* RTP headers and packets, H.264 and VP8 payloads, and a joiner of H.264 units: the proved calls of crates/gateway.
+ *
+ * A slice is a pointer and a count of elements: `const uint8_t *packet, size_t packet_len`. The pointer is not read where the count
+ * is 0. What is written (`uint8_t *`, `size_t *`, a joiner) overlaps nothing else that is passed in the same call.
+ * A `bool` is true or false, in a record too: a record that was never set is no argument. Any other value in a record is; what lies
+ * outside the limits is refused with 8.
+ *
+ * Each answer begins with `refused`. Its number is 0 where the call answers. Else nothing is changed: no buffer, no state; every
+ * other value is 0 and the state comes back as it was. One call differs: rtp_vp8_depacketize keeps the fields read so far
+ * beside refusal 4 of a payload of 4 bytes or more.
+ *
+ * For 64-bit machines: size_t has 64 bits. */
+#ifndef RTP_RATTLE_H
+#define RTP_RATTLE_H
+
+#include <stdbool.h>
+#include <stddef.h>
+#include <stdint.h>
+
+#ifdef __cplusplus
+extern "C" {
+#endif
+
+/* ---- refusals */
+
+enum rtp_refusal {
+    RTP_HEADER_SIZE_INSUFFICIENT = 1,               /* under 4 bytes, or under 12 + 4 x CC */
+    RTP_HEADER_SIZE_INSUFFICIENT_FOR_EXTENSION = 2, /* extension header or block longer than the packet */
+    RTP_ELEMENT_PAST_PACKET = 3,                    /* an element's byte lies past the packet */
+    RTP_SHORT_PACKET = 4,                           /* the packet is too short */
+    RTP_BUFFER_TOO_SMALL = 5,                       /* output buffer, or table of packet ends, too small */
+    RTP_GATHER_TOO_SMALL = 6,                       /* gather buffer too small, or the run over 16,777,215 bytes */
+    RTP_OVER_LIMITS = 7,                            /* over 32 elements or 1,024 data bytes; an SPS or PPS over 1,024 */
+    RTP_OUTSIDE_DOMAIN = 8,                         /* any other input outside the limits */
+    RTP_EXTENSION_NOT_WORDS = 9,                    /* other profile, element bytes not a multiple of 4 */
+    RTP_RFC3550_HEADER_ID_RANGE = 10,               /* other profile: set with id not 0; write with element count not 1 */
+    RTP_RFC8285_ONE_BYTE_ID_RANGE = 11,             /* set, one-byte: id not 1..14 */
+    RTP_RFC8285_ONE_BYTE_SIZE = 12,                 /* set, one-byte: size over 16 */
+    RTP_RFC8285_TWO_BYTE_ID_RANGE = 13,             /* set, two-byte: id 0 */
+    RTP_RFC8285_TWO_BYTE_SIZE = 14,                 /* set, two-byte: size over 255 */
+    RTP_EXTENSION_NOT_FOUND = 15,                   /* delete: id absent */
+    RTP_EXTENSIONS_NOT_ENABLED = 16,                /* delete: extensions off */
+    RTP_STAP_A_SIZE_LARGER_THAN_BUFFER = 17,        /* STAP-A size past the packet: carries the size and the bytes left */
+    RTP_STAP_A_SIZE_CUT = 18,                       /* one byte left where STAP-A needs a two-byte size */
+    RTP_NALU_TYPE_IS_NOT_HANDLED = 19,              /* NAL type 0, 25..27, 29..31: carries the type */
+    RTP_OTHER_SOURCE = 20,                          /* joiner: other SSRC */
+    RTP_START_AND_END = 21,                         /* joiner: FU-A with start and end both set */
+    RTP_ALREADY_CLOSED = 22,                        /* joiner already closed */
+    RTP_CLOSING_TOO_FAR = 23,                       /* closing number 32,768 or more ahead of the awaited one */
+    RTP_MISSED_TOTAL_FULL = 24                      /* missed total would pass 4,294,967,295 */
+};
+
+struct rtp_refused {
+    uint8_t number;    /* 0 where the call answers; else one of enum rtp_refusal */
+    size_t carried[2]; /* 17: the size and the bytes left; 19: the NAL type and a zero; else zeros */
+};
+
+struct rtp_test {
+    struct rtp_refused refused;
+    bool holds; /* false beside a refusal */
+};
+
+/* ---- the header */
+
+struct rtp_extensions {
+    size_t count;        /* how many elements there are: 0 to 32 */
+    uint8_t ids[32];     /* the id of each */
+    uint16_t lens[32];   /* how many data bytes each has: 1,024 in all at most */
+    uint8_t bytes[1024]; /* the data of all of them, packed in order */
+};
+
+struct rtp_header {
+    uint8_t version;      /* 0 to 3; 2 for RTP */
+    bool padding;         /* the packet ends in padding */
+    bool extension;       /* the header has an extension block */
+    bool marker;
+    uint8_t payload_type; /* 0 to 127 */
+    uint16_t sequence_number;
+    uint32_t timestamp;
+    uint32_t ssrc;
+    size_t csrc_count;    /* how many contributing sources there are: 0 to 15 */
+    uint32_t csrc[15];
+    uint16_t extension_profile; /* 0xBEDE: one-byte elements; 0x1000: two-byte elements; any other: one element of whole words */
+    struct rtp_extensions extensions;
+    size_t extensions_padding;  /* zeros of the block: as many as were read, or as the size is to count: 0 to 262,140 */
+};
+
+struct rtp_header_read {
+    struct rtp_refused refused;
+    size_t at;                /* the payload's place in the packet */
+    struct rtp_header header; /* all zeros beside a refusal */
+};
+
+struct rtp_length {
+    struct rtp_refused refused;
+    size_t bytes;
+};
+
+struct rtp_header_changed {
+    struct rtp_refused refused;
+    struct rtp_header header;
+};
+
+struct rtp_element {
+    struct rtp_refused refused;
+    bool present; /* false where the header has none of that id */
+    size_t at;    /* the data: `len` bytes of the header's `extensions.bytes` from `at` on */
+    size_t len;
+};
+
+struct rtp_ids {
+    struct rtp_refused refused;
+    size_t count;
+    uint8_t ids[32]; /* in order, then zeros */
+};
+
+/* All zeros. */
+struct rtp_header rtp_header_default(void);
+
+struct rtp_header_read rtp_header_unmarshal(const uint8_t *packet, size_t packet_len);
+
+struct rtp_length rtp_header_marshal_size(struct rtp_header header);
+
+/* How many bytes were written; the rest of the buffer stays. */
+struct rtp_length rtp_header_marshal_to(struct rtp_header header, uint8_t *buf, size_t buf_len);
+
+struct rtp_header_changed rtp_header_set_extension(struct rtp_header header, uint8_t id, const uint8_t *payload, size_t payload_len);
+
+struct rtp_header_changed rtp_header_del_extension(struct rtp_header header, uint8_t id);
+
+struct rtp_element rtp_header_get_extension(struct rtp_header header, uint8_t id);
+
+struct rtp_ids rtp_header_get_extension_ids(struct rtp_header header);
+
+struct rtp_length rtp_header_get_extension_payload_len(struct rtp_header header);
+
+/* ---- the packet */
+
+struct rtp_packet_read {
+    struct rtp_refused refused;
+    size_t at; /* the payload: `len` bytes of the packet from `at` on */
+    size_t len;
+    struct rtp_header header; /* all zeros beside a refusal */
+};
+
+struct rtp_packet_read rtp_packet_unmarshal(const uint8_t *packet, size_t packet_len);
+
+struct rtp_length rtp_packet_marshal_size(struct rtp_header header, const uint8_t *payload, size_t payload_len);
+
+/* How many bytes were written; the rest of the buffer stays. */
+struct rtp_length rtp_packet_marshal_to(struct rtp_header header, const uint8_t *payload, size_t payload_len, uint8_t *buf, size_t buf_len);
+
+/* ---- H.264 */
+
+struct rtp_parameter_set {
+    uint8_t bytes[1024]; /* its bytes, zeros behind them */
+    size_t len;          /* how many they are, 0 to 1,024; 0 for none */
+};
+
+struct rtp_h264_payloader {
+    struct rtp_parameter_set sps; /* waits for a picture parameter set, or for a unit to be sent before */
+    struct rtp_parameter_set pps;
+};
+
+struct rtp_h264_sent {
+    struct rtp_refused refused;
+    size_t packets; /* how many packets were written */
+    size_t bytes;   /* how many bytes they have together */
+    struct rtp_h264_payloader sender;
+};
+
+struct rtp_h264_packet {
+    bool is_avc;     /* units are handed out behind a 4-byte length, and not behind a start code */
+    size_t gathered; /* how many bytes of fragments stand in front of the gather buffer; 0 for none: 0 to 16,777,215 */
+};
+
+struct rtp_body {
+    uint8_t lies_in; /* 0: nowhere; 1: in the payload; 2: in the gather buffer */
+    size_t at;       /* `len` bytes from `at` on */
+    size_t len;
+};
+
+struct rtp_h264_read {
+    struct rtp_refused refused;
+    size_t bytes;         /* how many bytes were handed out */
+    struct rtp_body body; /* all after the first byte of the unit that the payload completed */
+    struct rtp_h264_packet packet;
+};
+
+/* A sender with nothing saved. */
+struct rtp_h264_payloader rtp_h264_payloader_new(void);
+
+/* The payloads of a frame, each of at most mtu bytes, one behind the other in out; ends says where each ends. */
+struct rtp_h264_sent rtp_h264_payload(struct rtp_h264_payloader sender, size_t mtu, const uint8_t *frame, size_t frame_len, uint8_t *out,
+                                      size_t out_len, size_t *ends, size_t ends_len);
+
+/* Reads a payload: fragments are gathered in gather, which is left alone between calls; whole units are handed out in out. */
+struct rtp_h264_read rtp_h264_depacketize(struct rtp_h264_packet packet, const uint8_t *payload, size_t payload_len, uint8_t *gather,
+                                          size_t gather_len, uint8_t *out, size_t out_len);
+
+struct rtp_test rtp_h264_is_partition_head(const uint8_t *payload, size_t payload_len);
+
+bool rtp_h264_is_partition_tail(bool marker);
+
+/* ---- VP8 */
+
+struct rtp_vp8_payloader {
+    bool enable_picture_id; /* whether each payload shows the picture id */
+    uint16_t picture_id;    /* the next frame's id, 0 to 32,767 */
+};
+
+struct rtp_vp8_sent {
+    struct rtp_refused refused;
+    size_t packets; /* how many packets were written */
+    size_t bytes;   /* how many bytes they have together */
+    struct rtp_vp8_payloader payloader;
+};
+
+/* The fields of the descriptors read so far: a field that a packet does not have keeps its value. */
+struct rtp_vp8_packet {
+    uint8_t x;           /* 1 where the extension octet is there */
+    uint8_t n;           /* 1 where the frame can be discarded */
+    uint8_t s;           /* 1 at the start of a VP8 partition */
+    uint8_t pid;         /* the partition's index, 0 to 7 */
+    uint8_t i;           /* 1 where the picture id is there; any other number counts as 0, here and in l, t, k */
+    uint8_t l;           /* 1 where tl0_pic_idx is there */
+    uint8_t t;           /* 1 where tid and y are there */
+    uint8_t k;           /* 1 where key_idx is there */
+    uint16_t picture_id; /* 7 or 15 bits: 0 to 32,767 */
+    uint8_t tl0_pic_idx; /* index of the temporal base layer, 0 to 255 */
+    uint8_t tid;         /* temporal layer, 0 to 3 */
+    uint8_t y;           /* layer sync bit */
+    uint8_t key_idx;     /* index of the temporal key frame, 0 to 31 */
+};
+
+struct rtp_vp8_read {
+    struct rtp_refused refused;
+    size_t at; /* where the VP8 payload begins: it is all from there on */
+    struct rtp_vp8_packet packet;
+};
+
+/* The payloads of a frame, each of at most mtu bytes, one behind the other in out; ends says where each ends. */
+struct rtp_vp8_sent rtp_vp8_payload(struct rtp_vp8_payloader payloader, size_t mtu, const uint8_t *frame, size_t frame_len, uint8_t *out,
+                                    size_t out_len, size_t *ends, size_t ends_len);
+
+struct rtp_vp8_read rtp_vp8_depacketize(struct rtp_vp8_packet packet, const uint8_t *payload, size_t payload_len);
+
+struct rtp_test rtp_vp8_is_partition_head(const uint8_t *payload, size_t payload_len);
+
+bool rtp_vp8_is_partition_tail(bool marker);
+
+/* ---- the joiner of H.264 units */
+
+struct rtp_joiner {
+    uint32_t source;  /* the sender's SSRC */
+    uint16_t awaited; /* the sequence number of the next packet */
+    uint32_t missed;  /* how many packets were passed over */
+    size_t gathered;  /* how many bytes of the open run stand in front of the gather buffer; 0 where no run is open */
+    bool closed;
+};
+
+struct rtp_joined {
+    struct rtp_refused refused;
+    bool late;      /* its number is 32,768 or more ahead: nothing was done with it, and the rest is 0 */
+    uint16_t first; /* the first of the numbers that were passed over before it */
+    uint16_t count; /* how many they are */
+    size_t bytes;   /* how many bytes were handed out */
+};
+
+struct rtp_closed {
+    struct rtp_refused refused;
+    uint16_t first; /* the first of the numbers that never came */
+    uint16_t count; /* how many they are */
+    struct rtp_joiner joiner;
+};
+
+struct rtp_joiner rtp_joiner_open(uint32_t ssrc, uint16_t first);
+
+/* Brings the joiner up to date by a packet. The gather buffer is left alone between calls; units are handed out in out, each behind
+ * 00 00 00 01. */
+struct rtp_joined rtp_joiner_join(struct rtp_joiner *joiner, const uint8_t *packet, size_t packet_len, uint8_t *gather, size_t gather_len,
+                                  uint8_t *out, size_t out_len);
+
+/* Closes it with the number after the last sent. */
+struct rtp_closed rtp_joiner_close(struct rtp_joiner joiner, uint16_t number);
+
+#ifdef __cplusplus
+}
+#endif
+
+#endif

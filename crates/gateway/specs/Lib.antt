@@ -1,0 +1,6 @@
+pub mod Refused
+pub mod HeaderAnswers
+pub mod PacketAnswers
+pub mod H264Answers
+pub mod Vp8Answers
+pub mod JoinerAnswers

@@ -1,0 +1,146 @@
+/* Some of the paper's worked packets, each call of rtp_rattle.h at least once. Exits with 1 at the first that goes otherwise. */
+#include <stdio.h>
+#include <stdlib.h>
+#include <string.h>
+
+#include "rtp_rattle.h"
+
+_Static_assert(sizeof(struct rtp_refused) == 24, "rtp_refused");
+_Static_assert(sizeof(struct rtp_header) == 1224, "rtp_header");
+_Static_assert(sizeof(struct rtp_h264_payloader) == 2064, "rtp_h264_payloader");
+_Static_assert(sizeof(struct rtp_h264_packet) == 16, "rtp_h264_packet");
+_Static_assert(sizeof(struct rtp_vp8_packet) == 14, "rtp_vp8_packet");
+_Static_assert(sizeof(struct rtp_vp8_payloader) == 4, "rtp_vp8_payloader");
+_Static_assert(sizeof(struct rtp_joiner) == 32, "rtp_joiner");
+
+#define CHECK(c)                                                     \
+    do {                                                             \
+        if (!(c)) {                                                  \
+            fprintf(stderr, "%s:%d: %s\n", __FILE__, __LINE__, #c);  \
+            exit(1);                                                 \
+        }                                                            \
+    } while (0)
+
+#define SAME(bytes, literal) (memcmp(bytes, literal, sizeof literal - 1) == 0)
+
+static const uint8_t H[12] = {0x80, 0x60, 0, 1, 0, 0, 0, 2, 0, 0, 0, 3};
+
+static void headers(void) {
+    struct rtp_header_read read = rtp_header_unmarshal(H, 12);
+    CHECK(read.refused.number == 0 && read.at == 12);
+    CHECK(read.header.version == 2 && read.header.payload_type == 96 && read.header.sequence_number == 1);
+    CHECK(read.header.timestamp == 2 && read.header.ssrc == 3 && !read.header.padding);
+    CHECK(rtp_header_unmarshal(H, 11).refused.number == RTP_HEADER_SIZE_INSUFFICIENT);
+    CHECK(rtp_header_unmarshal(NULL, 0).refused.number == RTP_HEADER_SIZE_INSUFFICIENT);
+
+    uint8_t buf[13];
+    memset(buf, 0xEE, sizeof buf);
+    CHECK(rtp_header_marshal_size(read.header).bytes == 12);
+    CHECK(rtp_header_marshal_to(read.header, buf, 11).refused.number == RTP_BUFFER_TOO_SMALL && buf[0] == 0xEE);
+    CHECK(rtp_header_marshal_to(read.header, buf, 13).bytes == 12 && memcmp(buf, H, 12) == 0 && buf[12] == 0xEE);
+}
+
+static void extensions(void) {
+    struct rtp_header h = rtp_header_default();
+    CHECK(rtp_header_del_extension(h, 1).refused.number == RTP_EXTENSIONS_NOT_ENABLED);
+    struct rtp_header_changed changed = rtp_header_set_extension(h, 1, (const uint8_t *)"\xAA\xBB", 2);
+    CHECK(changed.refused.number == 0 && changed.header.extensions_padding == 1);
+    h = changed.header;
+    struct rtp_element e = rtp_header_get_extension(h, 1);
+    CHECK(e.present && e.len == 2 && SAME(h.extensions.bytes + e.at, "\xAA\xBB"));
+    CHECK(!rtp_header_get_extension(h, 2).present);
+    struct rtp_ids ids = rtp_header_get_extension_ids(h);
+    CHECK(ids.count == 1 && ids.ids[0] == 1 && ids.ids[1] == 0);
+    CHECK(rtp_header_get_extension_payload_len(h).bytes == 3);
+    changed = rtp_header_del_extension(h, 1);
+    CHECK(changed.refused.number == 0 && changed.header.extensions.count == 0);
+    h.csrc_count = SIZE_MAX;
+    CHECK(rtp_header_marshal_size(h).refused.number == RTP_OUTSIDE_DOMAIN);
+}
+
+static void packets(void) {
+    uint8_t padded[13];
+    memcpy(padded, H, 12);
+    padded[0] = 0xA0;
+    CHECK(rtp_packet_unmarshal(padded, 12).refused.number == RTP_SHORT_PACKET);
+    padded[12] = 0;
+    struct rtp_packet_read read = rtp_packet_unmarshal(padded, 13);
+    CHECK(read.refused.number == 0 && read.at == 12 && read.len == 1 && read.header.padding);
+    uint8_t buf[20];
+    CHECK(rtp_packet_marshal_size(read.header, (const uint8_t *)"\1\2\3\4", 4).bytes == 20);
+    CHECK(rtp_packet_marshal_to(read.header, (const uint8_t *)"\1\2\3\4", 4, buf, 20).bytes == 20);
+    CHECK(memcmp(buf, padded, 12) == 0 && SAME(buf + 12, "\1\2\3\4\0\0\0\4"));
+}
+
+static void h264(void) {
+    static const uint8_t frame[] = {0, 0, 1, 0x65, 1, 2, 3, 4, 5};
+    uint8_t out[32], gather[5], units[10];
+    size_t ends[4];
+    struct rtp_h264_sent sent = rtp_h264_payload(rtp_h264_payloader_new(), 4, frame, sizeof frame, out, sizeof out, ends, 4);
+    CHECK(sent.refused.number == 0 && sent.packets == 3 && sent.bytes == 11);
+    CHECK(ends[0] == 4 && ends[1] == 8 && ends[2] == 11 && SAME(out, "\x7C\x85\1\2\x7C\5\3\4\x7C\x45\5"));
+    CHECK(sent.sender.sps.len == 0 && sent.sender.pps.len == 0);
+
+    struct rtp_h264_packet reader = {.is_avc = false, .gathered = 0};
+    struct rtp_h264_read read;
+    for (size_t i = 0, at = 0; i < 3; at = ends[i], i++) {
+        read = rtp_h264_depacketize(reader, out + at, ends[i] - at, gather, sizeof gather, units, sizeof units);
+        CHECK(read.refused.number == 0);
+        reader = read.packet;
+    }
+    CHECK(read.bytes == 10 && SAME(units, "\0\0\0\1\x65\1\2\3\4\5"));
+    CHECK(read.body.lies_in == 2 && read.body.at == 0 && read.body.len == 5 && SAME(gather, "\1\2\3\4\5"));
+    read = rtp_h264_depacketize(reader, (const uint8_t *)"\x18\0\x09\x41\5", 5, gather, 5, units, 10);
+    CHECK(read.refused.number == RTP_STAP_A_SIZE_LARGER_THAN_BUFFER && read.refused.carried[0] == 9 && read.refused.carried[1] == 2);
+    CHECK(rtp_h264_is_partition_head(out, 4).holds && !rtp_h264_is_partition_head(out + 4, 4).holds);
+    CHECK(rtp_h264_is_partition_tail(true) && !rtp_h264_is_partition_tail(false));
+}
+
+static void vp8(void) {
+    struct rtp_vp8_payloader payloader = {.enable_picture_id = true, .picture_id = 127};
+    uint8_t out[16];
+    size_t ends[4];
+    struct rtp_vp8_sent sent = rtp_vp8_payload(payloader, 4, (const uint8_t *)"\xAA\xBB", 2, out, sizeof out, ends, 4);
+    CHECK(sent.packets == 2 && sent.bytes == 8 && SAME(out, "\x90\x80\x7F\xAA\x80\x80\x7F\xBB") && sent.payloader.picture_id == 128);
+
+    struct rtp_vp8_read read = rtp_vp8_depacketize((struct rtp_vp8_packet){0}, (const uint8_t *)"\x90\x80\5\xAA", 4);
+    CHECK(read.refused.number == 0 && read.at == 3 && read.packet.picture_id == 5);
+    read = rtp_vp8_depacketize(read.packet, (const uint8_t *)"\x10\7\xAA\xBB", 4);
+    CHECK(read.refused.number == 0 && read.at == 2 && read.packet.picture_id == 7 && read.packet.x == 0 && read.packet.i == 1);
+    CHECK(rtp_vp8_is_partition_head(out, 4).holds && rtp_vp8_is_partition_tail(true));
+}
+
+static void joining(void) {
+    static const struct {
+        uint16_t number;
+        const char *payload;
+        size_t len;
+    } sent[3] = {{65535, "\x7C\x85\1\2", 4}, {0, "\x7C\5\3\4", 4}, {1, "\x7C\x45\5", 3}};
+    struct rtp_joiner joiner = rtp_joiner_open(3, 65535);
+    uint8_t gather[5], out[10];
+    struct rtp_joined joined;
+    for (size_t i = 0; i < 3; i++) {
+        uint8_t packet[16];
+        memcpy(packet, H, 12);
+        packet[2] = (uint8_t)(sent[i].number >> 8);
+        packet[3] = (uint8_t)sent[i].number;
+        memcpy(packet + 12, sent[i].payload, sent[i].len);
+        joined = rtp_joiner_join(&joiner, packet, 12 + sent[i].len, gather, sizeof gather, out, sizeof out);
+        CHECK(joined.refused.number == 0 && !joined.late && joined.first == sent[i].number && joined.count == 0);
+    }
+    CHECK(joined.bytes == 10 && SAME(out, "\0\0\0\1\x65\1\2\3\4\5"));
+    CHECK(joiner.awaited == 2 && joiner.missed == 0 && joiner.gathered == 0);
+    struct rtp_closed closed = rtp_joiner_close(joiner, 4);
+    CHECK(closed.refused.number == 0 && closed.first == 2 && closed.count == 2 && closed.joiner.closed && closed.joiner.missed == 2);
+    CHECK(rtp_joiner_close(closed.joiner, 4).refused.number == RTP_ALREADY_CLOSED);
+}
+
+int main(void) {
+    headers();
+    extensions();
+    packets();
+    h264();
+    vp8();
+    joining();
+    return 0;
+}
