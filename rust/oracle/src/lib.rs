@@ -12,10 +12,10 @@ pub mod packet;
 pub mod packetizer;
 pub mod vp8;
 
-mod limits;
+pub mod limits;
 mod questions;
 pub mod record;
-mod refusal;
+pub mod refusal;
 pub mod text;
 
 use std::panic::catch_unwind;

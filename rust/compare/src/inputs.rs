@@ -1,0 +1,172 @@
+//! Inputs with structure: well-formed, damaged a little, at the limits.
+
+use bytes::Bytes;
+use oracle::header::{Extension, Header};
+
+use crate::random::Random;
+use crate::{reading, records_asked};
+
+/// Strings to be read and records to be written, made once and picked from.
+pub struct Pool {
+    packets: Vec<Vec<u8>>,
+    records: Vec<Header>,
+}
+
+impl Pool {
+    pub fn new() -> Self {
+        use reading::*;
+        let packets = [
+            notable(),
+            lengths(),
+            blocks(),
+            heads(),
+            two_byte_lengths(),
+            block_lengths(),
+            limits(),
+        ];
+        let records = [records_asked::edges(), records_asked::full()];
+        Pool { packets: packets.concat(), records: records.concat() }
+    }
+
+    /// Bytes to be read as a header or a packet.
+    pub fn packet(&self, random: &mut Random) -> Bytes {
+        let good = match random.below(5) {
+            0 => self.packets[random.below(self.packets.len())].clone(),
+            1 => reading::random_block(random),
+            2 => crowded(random),
+            _ => reading::lawful(random),
+        };
+        let good = if random.one_in(4) && !good.is_empty() { reading::padded(good) } else { good };
+        Bytes::from(if random.one_in(2) { random.damaged(&good) } else { good })
+    }
+
+    pub fn record(&self, random: &mut Random) -> Header {
+        let record = match random.below(8) {
+            0 => self.records[random.below(self.records.len())].clone(),
+            _ => records_asked::any(random),
+        };
+        match random.below(8) {
+            0 => records_asked::off(&record),
+            1 | 2 => bent(random, record),
+            _ => record,
+        }
+    }
+}
+
+/// A block of about 32 small elements, or of about 1,024 data bytes.
+fn crowded(random: &mut Random) -> Vec<u8> {
+    let (count, len) = random.pick(&[(30, 0), (4, 255), (30, 32)]);
+    let (profile, head) = random.pick(&[(0x1000, 2), (0x1000, 2), (0xBEDE, 1)]);
+    let mut block = vec![];
+    for _ in 0..count + random.below(6) {
+        let id = 1 + random.below(14) as u8;
+        let len = if head == 1 { random.below(len.min(15) + 1) } else { len };
+        let lead = if head == 1 { vec![id << 4 | len as u8] } else { vec![id, len as u8] };
+        block.extend(lead);
+        block.extend(vec![id; len + 2 - head]);
+    }
+    block.resize(block.len().next_multiple_of(4), 0);
+    reading::extended(profile, block.len() / 4, &block)
+}
+
+/// A record with one thing at or past its limit.
+fn bent(random: &mut Random, mut record: Header) -> Header {
+    match random.below(8) {
+        0 => record.version = random.byte(),
+        1 => record.payload_type = random.byte(),
+        2 => record.csrc = (0..14 + random.below(4) as u32).collect(),
+        3 => record.extension_profile = random.pick(&[0, 0xBEDE, 0x1000, 0x1001, 0xABAC]),
+        4 => {
+            record.extensions_padding =
+                random.pick(&[262_137, 262_140, 262_141, 1 << 40, usize::MAX - 20, usize::MAX])
+        }
+        5 => record.extensions.extend((0..random.below(40)).map(|_| small(random))),
+        _ => {
+            let len = random.pick(&[0, 0, 1, 15, 16, 17, 254, 255, 256, 300, 1_023, 1_024, 1_025]);
+            let payload = Bytes::from(random.bytes(len));
+            record.extensions.push(Extension { id: random.byte(), payload });
+        }
+    }
+    record
+}
+
+fn small(random: &mut Random) -> Extension {
+    let len = random.pick(&[0, 1, 1, 2, 40]);
+    Extension { id: random.byte() & 15, payload: Bytes::from(random.bytes(len)) }
+}
+
+/// Data for `set_extension`.
+pub fn element_data(random: &mut Random) -> Bytes {
+    let len =
+        random.pick(&[0, 1, 2, 3, 4, 5, 8, 15, 16, 17, 18, 40, 255, 256, 1_000, 1_024, 1_025]);
+    Bytes::from(random.bytes(len))
+}
+
+/// A frame of H.264 units: start codes and zeros of all lengths, sets of all sizes, or no code at all.
+pub fn h264_frame(random: &mut Random) -> Bytes {
+    let mut frame = if random.one_in(4) { noise(random, 6) } else { vec![] };
+    for _ in 0..random.below(5) {
+        frame.extend(vec![0; 2 + random.below(4)]);
+        frame.push(1);
+        frame.push(unit_head(random));
+        let len = random.pick(&[0, 1, 2, 3, 5, 9, 30, 90]);
+        frame.extend(noise(random, len));
+    }
+    if random.one_in(30) {
+        frame.extend([0, 0, 1, random.pick(&[0x67, 0x68])]);
+        frame.extend(vec![0x5A; 1_022 + random.below(4)]);
+    }
+    Bytes::from(if random.one_in(4) { random.damaged(&frame) } else { frame })
+}
+
+fn unit_head(random: &mut Random) -> u8 {
+    let usual = [0x65, 0x41, 0x67, 0x68, 0x67, 0x68, 0x09, 0x0C, 0x18, 0x1C];
+    if random.one_in(5) {
+        random.byte()
+    } else {
+        random.pick(&usual)
+    }
+}
+
+/// Bytes of which many are zeros and ones.
+fn noise(random: &mut Random, below: usize) -> Vec<u8> {
+    (0..random.below(below + 1)).map(|_| random.pick(&[0, 0, 1, 2, 0xAB])).collect()
+}
+
+pub fn mtu(random: &mut Random) -> usize {
+    match random.below(20) {
+        0 => random.pick(&[0, 1, 65_535, 65_536, 1 << 40, usize::MAX]),
+        1..=3 => random.pick(&[100, 1_030, 1_200]),
+        _ => random.below(14),
+    }
+}
+
+/// A payload to be read as H.264: an aggregate, a fragment, any unit, or any bytes.
+pub fn h264_packet(random: &mut Random) -> Bytes {
+    let nri = random.pick(&[0x00, 0x20, 0x60, 0xE0]);
+    let mut packet = match random.below(5) {
+        0 => aggregate(random, nri),
+        1 | 2 => vec![nri | 28, random.pick(&[0x85, 0x05, 0x45, 0xC5, 0x05])],
+        3 => vec![random.byte()],
+        _ => vec![],
+    };
+    let len = random.below(7);
+    packet.extend(random.bytes(len));
+    Bytes::from(if random.one_in(3) { random.damaged(&packet) } else { packet })
+}
+
+fn aggregate(random: &mut Random, nri: u8) -> Vec<u8> {
+    let mut packet = vec![nri | 24];
+    for _ in 0..random.below(5) {
+        let len = random.pick(&[0, 1, 2, 3, 9]);
+        packet.extend([0, len as u8]);
+        packet.extend(random.bytes(len));
+    }
+    packet
+}
+
+/// A VP8 descriptor with a byte or two behind, or cut short.
+pub fn vp8_packet(random: &mut Random) -> Bytes {
+    let len = random.pick(&[0, 1, 2, 3, 4, 4, 5, 5, 6, 7, 9]);
+    Bytes::from(random.bytes(len))
+}
