@@ -10,6 +10,7 @@ pub mod packet;
 pub mod random;
 pub mod runs;
 pub mod sender;
+pub mod worked;
 
 /// How many runs a list has: as many as stay under 1 MB.
 pub const RUNS: usize = 2_400;

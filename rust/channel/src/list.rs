@@ -5,6 +5,7 @@ use std::collections::BTreeMap;
 use crate::joiner::{Joined, Joiner};
 use crate::random::Random;
 use crate::runs::{run, Call, Run, PLACES};
+use crate::worked;
 use crate::Refusal;
 
 /// What the lent buffers hold beforehand.
@@ -17,10 +18,11 @@ pub struct Row {
     pub notes: Vec<&'static str>,
 }
 
-/// The rows of so many runs.
+/// The rows of the worked cases, and of so many runs behind them.
 pub fn rows(seed: u64, runs: usize) -> Vec<Row> {
     let mut random = Random::new(seed);
-    (0..runs).flat_map(|_| played(&run(&mut random))).collect()
+    let seeded = (0..runs).map(|_| run(&mut random));
+    worked::runs().into_iter().chain(seeded).flat_map(|run| played(&run)).collect()
 }
 
 pub fn text(rows: &[Row]) -> String {
