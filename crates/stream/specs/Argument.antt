@@ -1,0 +1,30 @@
+-- Numbers among arguments. Assumes nothing.
+use mathlib.Core.List.{List, [], _∷_}
+use mathlib.Core.Bool.{Bool, true, false, cond, _&&_}
+use mathlib.Core.Path.{_≡_}
+use mathlib.Core.Logic.{_⊎_}
+use Prim.Native.Nat.{ℕ, _+_, _-_, _*_, _≤_}
+use lib.Dec.{eqb, leb}
+use lib.ListN.{length}
+use Rattle.stream.specs.declared.arguments.Number.{Number}
+
+abbrev pub none : Number
+none = record { ok = false; value = 0 }
+
+-- a decimal digit, behind a number that may have one digit more
+abbrev pub goesOn : ℕ → ℕ → Bool
+goesOn b n = leb 48 b && (leb b 57 && leb n 999999999)
+
+-- the number that digits say, where n stands before them
+abbrev pub numberFrom : List ℕ → ℕ → Number
+numberFrom [] n = record { ok = true; value = n }
+numberFrom (b ∷ s) n = cond (goesOn b n) (numberFrom s (n * 10 + (b - 48))) none
+
+-- decimal digits, at least one, up to 9,999,999,999
+unfoldable pub numberOf : List ℕ → Number
+numberOf s = cond (eqb (length s) 0) none (numberFrom s 0)
+
+-- a number from least to most, or none
+pub record Between (least most : ℕ) (r : Number) : Type 0 where
+  pub low : (least ≤ r .value) ⊎ (r .ok ≡ false)
+  pub high : r .value ≤ most
