@@ -1,4 +1,5 @@
--- Where the access units of an Annex B stream begin, by H.264, section 7.4.1.2.3. Assumes nothing.
+-- Where the access units of an Annex B stream begin, by H.264, section 7.4.1.2.3; a picture's first slice is told by its first
+-- macroblock. Assumes nothing.
 use mathlib.Core.List.{List}
 use mathlib.Core.Bool.{Bool, true, false, cond, _&&_, _||_}
 use Prim.Native.Nat.{ℕ, _+_, _%_, _≤_}

@@ -1,7 +1,9 @@
 // Where the access units of an Annex B stream begin, by H.264, section 7.4.1.2.3.
 //
 // Behind a coded slice a new access unit begins with a delimiter, a parameter set, supplemental information or a unit of type 14
-// to 18, and with a slice whose first macroblock is the picture's first.
+// to 18, and with the first slice of a picture. That slice is told by its first macroblock, the picture's first, and not by the
+// comparison of headers in section 7.4.1.2.4: in a stream with slices in arbitrary order the two differ, and with them marker and
+// time.
 ghost use mathlib.Core.Path.{_≡_};
 ghost use lib.ListN.{length};
 ghost use Rattle.send.specs.Access.{isSlice, isBefore, hasHeader, begins as beginsOf, codeFrom, edgeOf, Inside};
