@@ -7,7 +7,14 @@ use Prim.Native.Nat.{ℕ, _+_, _*_, _/_, _%_, _<_, _≤_}
 use native.Mathlib.Omega.{arith}
 use lib.Dec.{lit<, lit≤}
 use lib.ListN.{length}
-use Rattle.rfc7741.specs.Descriptor.{Required, PictureId, absent, short, long, Indices, Layers, neither, onlyT, onlyK, bothTK, Extension, flagI, flagL, flagT, flagK, firstOctet, extensionOctet, idOctets, tl0Octets, indicesOctet, layersOctets, optionalOctets, LawfulRequired, LawfulIndices, LawfulExtension}
+use Rattle.rfc7741.specs.Descriptor.{Required, PictureId, absent, short, long, Indices, Layers, neither, onlyT, onlyK, bothTK, Extension, flagI, flagL, flagT, flagK, firstOctet, extensionOctet, idOctets, tl0Octets, indicesOctet, layersOctets, optionalOctets, FormedRequired, FormedIndices, FormedExtension}
+
+-- the fields that the first octet says, and those of the octet of T and K
+abbrev pub requiredAt : ℕ → Required
+requiredAt b = record { r = b / 64 % 2; n = b / 32 % 2; s = b / 16 % 2; r2 = b / 8 % 2; pid = b % 8 }
+
+abbrev pub indicesAt : ℕ → Indices
+indicesAt b = record { tid = b / 64; y = b / 32 % 2; keyidx = b % 32 }
 
 -- the first octet says X and its fields
 pub record Firsts (extended : ℕ) (d : Required) (b : ℕ) : Type 0 where
@@ -18,7 +25,7 @@ pub record Firsts (extended : ℕ) (d : Required) (b : ℕ) : Type 0 where
   pub r2 : b / 8 % 2 ≡ d .r2
   pub pid : b % 8 ≡ d .pid
 
-pub firsts : (x : ℕ) (d : Required) → x < 2 → LawfulRequired d → Firsts x d (firstOctet x d)
+pub firsts : (x : ℕ) (d : Required) → x < 2 → FormedRequired d → Firsts x d (firstOctet x d)
 firsts x d hx h =
     record {
       x = omega (arith, h .r, h .n, h .s, h .r2, h .pid);
@@ -35,11 +42,11 @@ flagI< absent = lit< tt
 flagI< (short p) = lit< tt
 flagI< (long p) = lit< tt
 
-flagL< : (l : Option ℕ) → flagL l < 2
+pub flagL< : (l : Option ℕ) → flagL l < 2
 flagL< none = lit< tt
 flagL< (some index) = lit< tt
 
-flagT< : (l : Layers) → flagT l < 2
+pub flagT< : (l : Layers) → flagT l < 2
 flagT< neither = lit< tt
 flagT< (onlyT o) = lit< tt
 flagT< (onlyK o) = lit< tt
@@ -63,7 +70,7 @@ four : (i l t k rsv : ℕ) → i < 2 → l < 2 → t < 2 → k < 2 → rsv < 16 
     (b / 128 ≡ i) × (b / 64 % 2 ≡ l) × (b / 32 % 2 ≡ t) × (b / 16 % 2 ≡ k) × (b % 16 ≡ rsv)
 four i l t k rsv hi hl ht hk hr b e = (omega arith, omega arith, omega arith, omega arith, omega arith)
 
-pub flags : (e : Extension) → LawfulExtension e → Flags e (extensionOctet e)
+pub flags : (e : Extension) → FormedExtension e → Flags e (extensionOctet e)
 flags e h =
     let all =
     four (flagI (e .pictureId)) (flagL (e .tl0picidx)) (flagT (e .layers)) (flagK (e .layers)) (e .rsv) (flagI< (e .pictureId))
@@ -71,13 +78,13 @@ flags e h =
     record { i = all .0; l = all .1; t = all .2; k = all .3; rsv = all .4 }
 
 -- the octet of T and K says its three parts
-pub record Parts (o : Indices) (b : ℕ) : Type 0 where
+pub record IndexParts (o : Indices) (b : ℕ) : Type 0 where
   pub tid : b / 64 ≡ o .tid
   pub y : b / 32 % 2 ≡ o .y
   pub keyidx : b % 32 ≡ o .keyidx
 
-pub parts : (o : Indices) → LawfulIndices o → Parts o (indicesOctet o)
-parts o h =
+pub index-parts : (o : Indices) → FormedIndices o → IndexParts o (indicesOctet o)
+index-parts o h =
     record {
       tid = omega (arith, h .tid, h .y, h .keyidx);
       y = omega (arith, h .tid, h .y, h .keyidx);

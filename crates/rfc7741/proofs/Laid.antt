@@ -8,18 +8,14 @@ use native.Mathlib.Nat.{not-suc-le-zero}
 use native.Mathlib.Decide.{decLt}
 use native.Mathlib.Omega.{arith}
 use lib.ListN.{length}
-use Rattle.rfc7741.specs.Descriptor.{Required, PictureId, absent, short, long, Indices, Layers, neither, onlyT, onlyK, bothTK, flagI, flagL, flagT, flagK, firstOctet, idOctets, tl0Octets, indicesOctet, layersOctets, LawfulRequired, LawfulId, LawfulTl0, LawfulIndices, LawfulLayers}
+use Rattle.rfc7741.specs.Descriptor.{Octets, PictureId, absent, short, long, Layers, neither, onlyT, onlyK, bothTK, flagI, flagL, flagT, flagK, firstOctet, idOctets, tl0Octets, indicesOctet, layersOctets, FormedRequired, FormedId, FormedTl0, FormedIndices, FormedLayers}
+use Rattle.rfc7741.proofs.Fields.{requiredAt, indicesAt}
 
--- each is an octet
-abbrev pub Octets : List ℕ → Type 0
-Octets [] = Unit
-Octets (b ∷ s) = (b < 256) × Octets s
-
--- a field's plan at the front of s: lawful, with this flag, and octets behind it
+-- a field's plan at the front of s: formed, with this flag, and octets behind it
 pub record IdAt (flag : ℕ) (s : List ℕ) : Type 0 where
   pub plan : PictureId
   pub behind : List ℕ
-  pub lawful : LawfulId plan
+  pub formed : FormedId plan
   pub says : flagI plan ≡ flag
   pub laid : s ≡ idOctets plan ++ behind
   pub rest : Octets behind
@@ -27,7 +23,7 @@ pub record IdAt (flag : ℕ) (s : List ℕ) : Type 0 where
 pub record Tl0At (flag : ℕ) (s : List ℕ) : Type 0 where
   pub plan : Option ℕ
   pub behind : List ℕ
-  pub lawful : LawfulTl0 plan
+  pub formed : FormedTl0 plan
   pub says : flagL plan ≡ flag
   pub laid : s ≡ tl0Octets plan ++ behind
   pub rest : Octets behind
@@ -35,7 +31,7 @@ pub record Tl0At (flag : ℕ) (s : List ℕ) : Type 0 where
 pub record LayersAt (t k : ℕ) (s : List ℕ) : Type 0 where
   pub plan : Layers
   pub behind : List ℕ
-  pub lawful : LawfulLayers plan
+  pub formed : FormedLayers plan
   pub saysT : flagT plan ≡ t
   pub saysK : flagK plan ≡ k
   pub laid : s ≡ layersOctets plan ++ behind
@@ -50,10 +46,7 @@ bits b =
     sum b q16 q32 q64 q128 m16 m32 m64 r e16 e32 e64 e128 = omega arith
 
 -- the first octet, X set
-abbrev pub requiredAt : ℕ → Required
-requiredAt b = record { r = b / 64 % 2; n = b / 32 % 2; s = b / 16 % 2; r2 = b / 8 % 2; pid = b % 8 }
-
-pub required-laid : (b : ℕ) → 128 ≤ b → b < 256 → LawfulRequired (requiredAt b) × (b ≡ firstOctet 1 (requiredAt b))
+pub required-laid : (b : ℕ) → 128 ≤ b → b < 256 → FormedRequired (requiredAt b) × (b ≡ firstOctet 1 (requiredAt b))
 required-laid b x h =
     let one : b / 128 ≡ 1 = omega arith in
     let last : b % 16 ≡ b / 8 % 2 * 8 + b % 8 = omega arith in (
@@ -66,48 +59,45 @@ required-laid b x h =
     sum x r n s l r2 pid e f = omega arith
 
 pub id-laid : (flag : ℕ) (s : List ℕ) → flag < 2 → 2 ≤ length s → Octets s → IdAt flag s
-id-laid zero s f h o = record { plan = absent; behind = s; lawful = tt; says = refl; laid = refl; rest = o }
+id-laid zero s f h o = record { plan = absent; behind = s; formed = tt; says = refl; laid = refl; rest = o }
 id-laid (suc n) [] f h o = absurd (omega arith)
 id-laid (suc n) (b ∷ []) f h o = absurd (omega arith)
 id-laid (suc n) (b ∷ c ∷ s) f h o =
     let one : 1 ≡ suc n = omega arith in
     elim (decLt b 128) [
-      | yes m ↦ record { plan = short b; behind = c ∷ s; lawful = m; says = one; laid = refl; rest = o .1 }
+      | yes m ↦ record { plan = short b; behind = c ∷ s; formed = m; says = one; laid = refl; rest = o .1 }
       | no m ↦
           let v : ℕ = (b - 128) * 256 + c in
           let high : b ≡ 128 + v / 256 = omega (arith, o .1 .0) in
           let low : c ≡ v % 256 = omega (arith, o .1 .0) in
           let small : v < 32768 = omega (arith, o .0, o .1 .0) in
-          record { plan = long v; behind = s; lawful = small; says = one; laid = ap₂ (λ (x y : ℕ). x ∷ y ∷ s) high low; rest = o .1 .1 }
+          record { plan = long v; behind = s; formed = small; says = one; laid = ap₂ (λ (x y : ℕ). x ∷ y ∷ s) high low; rest = o .1 .1 }
     ]
 
 pub tl0-laid : (flag : ℕ) (s : List ℕ) → flag < 2 → 0 < length s → Octets s → Tl0At flag s
-tl0-laid zero s f h o = record { plan = none; behind = s; lawful = tt; says = refl; laid = refl; rest = o }
+tl0-laid zero s f h o = record { plan = none; behind = s; formed = tt; says = refl; laid = refl; rest = o }
 tl0-laid (suc n) [] f h o = absurd (not-suc-le-zero h)
 tl0-laid (suc n) (b ∷ s) f h o =
     let one : 1 ≡ suc n = omega arith in
-    record { plan = some b; behind = s; lawful = o .0; says = one; laid = refl; rest = o .1 }
+    record { plan = some b; behind = s; formed = o .0; says = one; laid = refl; rest = o .1 }
 
-abbrev indicesAt : ℕ → Indices
-indicesAt b = record { tid = b / 64; y = b / 32 % 2; keyidx = b % 32 }
-
-indices-laid : (b : ℕ) → b < 256 → LawfulIndices (indicesAt b) × (b ≡ indicesOctet (indicesAt b))
+indices-laid : (b : ℕ) → b < 256 → FormedIndices (indicesAt b) × (b ≡ indicesOctet (indicesAt b))
 indices-laid b h = (record { tid = omega arith; y = omega arith; keyidx = omega arith }, omega arith)
 
 pub layers-laid : (t k : ℕ) (s : List ℕ) → t < 2 → k < 2 → 0 < length s → Octets s → LayersAt t k s
 layers-laid t k [] ht hk h o = absurd (not-suc-le-zero h)
 layers-laid zero zero (b ∷ s) ht hk h o =
-    record { plan = neither; behind = b ∷ s; lawful = tt; saysT = refl; saysK = refl; laid = refl }
+    record { plan = neither; behind = b ∷ s; formed = tt; saysT = refl; saysK = refl; laid = refl }
 layers-laid (suc t) zero (b ∷ s) ht hk h o =
     let i = indices-laid b (o .0) in
     let one : 1 ≡ suc t = omega arith in
-    record { plan = onlyT (indicesAt b); behind = s; lawful = i .0; saysT = one; saysK = refl; laid = ap (λ (x : ℕ). x ∷ s) (i .1) }
+    record { plan = onlyT (indicesAt b); behind = s; formed = i .0; saysT = one; saysK = refl; laid = ap (λ (x : ℕ). x ∷ s) (i .1) }
 layers-laid zero (suc k) (b ∷ s) ht hk h o =
     let i = indices-laid b (o .0) in
     let one : 1 ≡ suc k = omega arith in
-    record { plan = onlyK (indicesAt b); behind = s; lawful = i .0; saysT = refl; saysK = one; laid = ap (λ (x : ℕ). x ∷ s) (i .1) }
+    record { plan = onlyK (indicesAt b); behind = s; formed = i .0; saysT = refl; saysK = one; laid = ap (λ (x : ℕ). x ∷ s) (i .1) }
 layers-laid (suc t) (suc k) (b ∷ s) ht hk h o =
     let i = indices-laid b (o .0) in
     let one : 1 ≡ suc t = omega arith in
     let one′ : 1 ≡ suc k = omega arith in
-    record { plan = bothTK (indicesAt b); behind = s; lawful = i .0; saysT = one; saysK = one′; laid = ap (λ (x : ℕ). x ∷ s) (i .1) }
+    record { plan = bothTK (indicesAt b); behind = s; formed = i .0; saysT = one; saysK = one′; laid = ap (λ (x : ℕ). x ∷ s) (i .1) }

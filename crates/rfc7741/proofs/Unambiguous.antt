@@ -1,4 +1,4 @@
--- UNAMBIGUOUS: two lawful descriptors with the same octets, whatever stands behind each, are the same descriptor, and the same stands
+-- UNAMBIGUOUS: two formed descriptors with the same octets, whatever stands behind each, are the same descriptor, and the same stands
 -- behind them. It holds because the octets can be read back, field by field, without knowing where they end. Assumes nothing.
 use mathlib.Core.Path.{_≡_, refl, sym, ap, _∙_}
 use mathlib.Core.Bool.{Bool, true, false, cond}
@@ -8,8 +8,8 @@ use Prim.Native.Nat.{ℕ, _+_, _-_, _*_, _/_, _%_, _<_}
 use native.Mathlib.Omega.{arith}
 use lib.Dec.{eqb, leb, lit<}
 use borrow.Author.Tests.{le-leb, lt-leb}
-use Rattle.rfc7741.specs.Descriptor.{Required, PictureId, absent, short, long, Indices, Layers, neither, onlyT, onlyK, bothTK, Extension, Descriptor, plain, extended, flagI, flagL, flagT, flagK, firstOctet, idOctets, tl0Octets, indicesOctet, layersOctets, optionalOctets, octets, LawfulRequired, LawfulId, LawfulIndices, LawfulLayers, LawfulExtension, Lawful}
-use Rattle.rfc7741.proofs.Fields.{firsts, flags, parts, apart}
+use Rattle.rfc7741.specs.Descriptor.{Required, PictureId, absent, short, long, Indices, Layers, neither, onlyT, onlyK, bothTK, Extension, Descriptor, plain, extended, flagI, flagL, flagT, flagK, firstOctet, idOctets, tl0Octets, indicesOctet, layersOctets, optionalOctets, octets, FormedRequired, FormedId, FormedIndices, FormedLayers, FormedExtension, Formed}
+use Rattle.rfc7741.proofs.Fields.{requiredAt, indicesAt, firsts, flags, index-parts, apart}
 
 -- ---- a decoder, one for each field: the field's flag and the octets, to the field and the octets behind it
 
@@ -26,16 +26,13 @@ decodeTl0 : ℕ → List ℕ → Option ℕ × List ℕ
 decodeTl0 flag [] = (none, [])
 decodeTl0 flag (b ∷ s) = cond (eqb flag 1) (some b, s) (none, b ∷ s)
 
-indicesOf : ℕ → Indices
-indicesOf b = record { tid = b / 64; y = b / 32 % 2; keyidx = b % 32 }
-
 decodeLayers : ℕ → ℕ → List ℕ → Layers × List ℕ
 decodeLayers t k [] = (neither, [])
 decodeLayers t k (b ∷ s) =
-    cond (eqb t 1) (cond (eqb k 1) (bothTK (indicesOf b), s) (onlyT (indicesOf b), s))
-    (cond (eqb k 1) (onlyK (indicesOf b), s) (neither, b ∷ s))
+    cond (eqb t 1) (cond (eqb k 1) (bothTK (indicesAt b), s) (onlyT (indicesAt b), s))
+    (cond (eqb k 1) (onlyK (indicesAt b), s) (neither, b ∷ s))
 
-id-back : (p : PictureId) (s : List ℕ) → LawfulId p → decodeId (flagI p) (idOctets p ++ s) ≡ (p, s)
+id-back : (p : PictureId) (s : List ℕ) → FormedId p → decodeId (flagI p) (idOctets p ++ s) ≡ (p, s)
 unfolding decodeId decodeM
 id-back absent [] h = refl
 id-back absent (b ∷ s) h = refl
@@ -51,11 +48,10 @@ tl0-back none [] = refl
 tl0-back none (b ∷ s) = refl
 tl0-back (some index) s = refl
 
-indices-back : (o : Indices) → LawfulIndices o → indicesOf (indicesOctet o) ≡ o
-unfolding indicesOf
-indices-back o h = let p = parts o h in λ i. record { tid = p .tid i; y = p .y i; keyidx = p .keyidx i }
+indices-back : (o : Indices) → FormedIndices o → indicesAt (indicesOctet o) ≡ o
+indices-back o h = let p = index-parts o h in λ i. record { tid = p .tid i; y = p .y i; keyidx = p .keyidx i }
 
-layers-back : (l : Layers) (s : List ℕ) → LawfulLayers l → decodeLayers (flagT l) (flagK l) (layersOctets l ++ s) ≡ (l, s)
+layers-back : (l : Layers) (s : List ℕ) → FormedLayers l → decodeLayers (flagT l) (flagK l) (layersOctets l ++ s) ≡ (l, s)
 unfolding decodeLayers
 layers-back neither [] h = refl
 layers-back neither (b ∷ s) h = refl
@@ -65,11 +61,7 @@ layers-back (bothTK o) s h = ap (λ (o′ : Indices). (bothTK o′, s)) (indices
 
 -- ---- the whole descriptor, read back
 
-requiredOf : ℕ → Required
-requiredOf b = record { r = b / 64 % 2; n = b / 32 % 2; s = b / 16 % 2; r2 = b / 8 % 2; pid = b % 8 }
-
-required-back : (x : ℕ) (d : Required) → x < 2 → LawfulRequired d → requiredOf (firstOctet x d) ≡ d
-unfolding requiredOf
+required-back : (x : ℕ) (d : Required) → x < 2 → FormedRequired d → requiredAt (firstOctet x d) ≡ d
 required-back x d hx h =
     let f = firsts x d hx h in
     λ i. record { r = f .r i; n = f .n i; s = f .s i; r2 = f .r2 i; pid = f .pid i }
@@ -82,7 +74,7 @@ decodeOptional i l t k rsv s =
     let layers = decodeLayers t k (tl0 .1) in
     (record { pictureId = id .0; tl0picidx = tl0 .0; layers = layers .0; rsv = rsv }, layers .1)
 
-optional-back : (e : Extension) (s : List ℕ) → LawfulExtension e →
+optional-back : (e : Extension) (s : List ℕ) → FormedExtension e →
     decodeOptional (flagI (e .pictureId)) (flagL (e .tl0picidx)) (flagT (e .layers)) (flagK (e .layers)) (e .rsv) (optionalOctets e ++ s)
     ≡ (e, s)
 unfolding decodeOptional
@@ -91,17 +83,17 @@ optional-back e s h =
     rw (apart e s, id-back (e .pictureId) (tl0Octets (e .tl0picidx) ++ behind) (h .pictureId), tl0-back (e .tl0picidx) behind, layers-back (e .layers) s (h .layers))
 
 decodeX : Bool → ℕ → List ℕ → Descriptor × List ℕ
-decodeX false b s = (plain (requiredOf b), s)
-decodeX true b [] = (plain (requiredOf b), [])
+decodeX false b s = (plain (requiredAt b), s)
+decodeX true b [] = (plain (requiredAt b), [])
 decodeX true b (c ∷ s) =
     let o = decodeOptional (c / 128) (c / 64 % 2) (c / 32 % 2) (c / 16 % 2) (c % 16) s in
-    (extended (requiredOf b) (o .0), o .1)
+    (extended (requiredAt b) (o .0), o .1)
 
 decode : List ℕ → Descriptor × List ℕ
-decode [] = (plain (requiredOf 0), [])
+decode [] = (plain (requiredAt 0), [])
 decode (b ∷ s) = decodeX (eqb (b / 128) 1) b s
 
-decode-octets : (d : Descriptor) (s : List ℕ) → Lawful d → decode (octets d ++ s) ≡ (d, s)
+decode-octets : (d : Descriptor) (s : List ℕ) → Formed d → decode (octets d ++ s) ≡ (d, s)
 unfolding decode decodeX
 decode-octets (plain d) s h =
     rw (firsts 0 d (lit< tt) h .x) (ap (λ (d′ : Required). (plain d′, s)) (required-back 0 d (lit< tt) h))
@@ -118,7 +110,7 @@ decode-octets (extended d e) s h =
     )
     (ap (λ (d′ : Required). (extended d′ e, s)) (required-back 1 d (lit< tt) (h .0)))
 
-pub unambiguous : (d e : Descriptor) (p q : List ℕ) → Lawful d → Lawful e → octets d ++ p ≡ octets e ++ q → (d ≡ e) × (p ≡ q)
+pub unambiguous : (d e : Descriptor) (p q : List ℕ) → Formed d → Formed e → octets d ++ p ≡ octets e ++ q → (d ≡ e) × (p ≡ q)
 unambiguous d e p q hd he same =
     let one : _≡_ {A = Descriptor × List ℕ} (d, p) (e, q) = sym (decode-octets d p hd) ∙ ap decode same ∙ decode-octets e q he in
     (ap (λ (x : Descriptor × List ℕ). x .0) one, ap (λ (x : Descriptor × List ℕ). x .1) one)

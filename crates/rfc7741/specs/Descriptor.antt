@@ -1,8 +1,14 @@
 -- RFC 7741, section 4.2: what a VP8 payload descriptor is. A plan says the fields; the octets are a function of the plan. It knows
 -- of no reader and no sender. Assumes nothing.
+use mathlib.Core.Path.{_≡_}
 use mathlib.Core.List.{List, [], _∷_, _++_}
 use mathlib.Core.Option.{Option, none, some}
-use Prim.Native.Nat.{ℕ, _+_, _*_, _/_, _%_, _<_}
+use Prim.Native.Nat.{ℕ, _+_, _*_, _/_, _%_, _<_, _≤_}
+
+-- each is an octet
+abbrev pub Octets : List ℕ → Type 0
+Octets [] = Unit
+Octets (b ∷ s) = (b < 256) × Octets s
 
 -- the first octet, which every descriptor has. R is a reserved bit: any value for a receiver, 0 for a sender
 pub record Required : Type 0 where
@@ -121,41 +127,69 @@ abbrev pub octets : Descriptor → List ℕ
 octets (plain d) = firstOctet 0 d ∷ []
 octets (extended d e) = firstOctet 1 d ∷ extensionOctet e ∷ optionalOctets e
 
--- ---- lawful plans: each field is within its bits
+-- ---- what is formed: each field is within its bits
 
-pub record LawfulRequired (d : Required) : Type 0 where
+pub record FormedRequired (d : Required) : Type 0 where
   pub r : d .r < 2
   pub n : d .n < 2
   pub s : d .s < 2
   pub r2 : d .r2 < 2
   pub pid : d .pid < 8
 
-abbrev pub LawfulId : PictureId → Type 0
-LawfulId absent = Unit
-LawfulId (short p) = p < 128
-LawfulId (long p) = p < 32768
+abbrev pub FormedId : PictureId → Type 0
+FormedId absent = Unit
+FormedId (short p) = p < 128
+FormedId (long p) = p < 32768
 
-abbrev pub LawfulTl0 : Option ℕ → Type 0
-LawfulTl0 none = Unit
-LawfulTl0 (some index) = index < 256
+abbrev pub FormedTl0 : Option ℕ → Type 0
+FormedTl0 none = Unit
+FormedTl0 (some index) = index < 256
 
-pub record LawfulIndices (o : Indices) : Type 0 where
+pub record FormedIndices (o : Indices) : Type 0 where
   pub tid : o .tid < 4
   pub y : o .y < 2
   pub keyidx : o .keyidx < 32
 
-abbrev pub LawfulLayers : Layers → Type 0
-LawfulLayers neither = Unit
-LawfulLayers (onlyT o) = LawfulIndices o
-LawfulLayers (onlyK o) = LawfulIndices o
-LawfulLayers (bothTK o) = LawfulIndices o
+abbrev pub FormedLayers : Layers → Type 0
+FormedLayers neither = Unit
+FormedLayers (onlyT o) = FormedIndices o
+FormedLayers (onlyK o) = FormedIndices o
+FormedLayers (bothTK o) = FormedIndices o
 
-pub record LawfulExtension (e : Extension) : Type 0 where
-  pub pictureId : LawfulId (e .pictureId)
-  pub tl0picidx : LawfulTl0 (e .tl0picidx)
-  pub layers : LawfulLayers (e .layers)
+pub record FormedExtension (e : Extension) : Type 0 where
+  pub pictureId : FormedId (e .pictureId)
+  pub tl0picidx : FormedTl0 (e .tl0picidx)
+  pub layers : FormedLayers (e .layers)
   pub rsv : e .rsv < 16
 
-abbrev pub Lawful : Descriptor → Type 0
-Lawful (plain d) = LawfulRequired d
-Lawful (extended d e) = LawfulRequired d × LawfulExtension e
+abbrev pub Formed : Descriptor → Type 0
+Formed (plain d) = FormedRequired d
+Formed (extended d e) = FormedRequired d × FormedExtension e
+
+-- ---- what is lawful: formed, and by the rule on the flags
+
+-- 4.2: where L is 1, T must be 1 too
+abbrev pub LWithT : Extension → Type 0
+LWithT e = flagL (e .tl0picidx) ≤ flagT (e .layers)
+
+abbrev pub Rules : Descriptor → Type 0
+Rules (plain d) = Unit
+Rules (extended d e) = LWithT e
+
+pub record Lawful (d : Descriptor) : Type 0 where
+  pub formed : Formed d
+  pub rules : Rules d
+
+-- ---- what strays: formed, but L is 1 and T is 0
+
+pub record LWithoutT (e : Extension) : Type 0 where
+  pub l : flagL (e .tl0picidx) ≡ 1
+  pub t : flagT (e .layers) ≡ 0
+
+abbrev pub Broken : Descriptor → Type 0
+Broken (plain d) = ⊥
+Broken (extended d e) = LWithoutT e
+
+pub record Strays (d : Descriptor) : Type 0 where
+  pub formed : Formed d
+  pub broken : Broken d

@@ -6,33 +6,33 @@ use mathlib.Core.List.{List, [], _∷_, _++_, map}
 use mathlib.Core.Option.{none}
 use Prim.Native.Nat.{ℕ, zero, suc, _+_, _-_, _/_, _%_, _≤_, _<_, min}
 use native.Mathlib.Omega.{arith}
-use lib.Dec.{ltb, lit<}
+use lib.Dec.{ltb, lit<, lit≤}
 use lib.ListN.{length, take, drop, length-append, length-take}
 use borrow.Author.Tests.{ltb-true}
 use Rattle.wire.specs.Net.{be16}
 use Rattle.wire.specs.Packets.{joined}
-use Rattle.rfc7741.specs.Descriptor.{Required, PictureId, absent, short, long, neither, Descriptor, plain, extended, octets, LawfulRequired, LawfulId}
+use Rattle.rfc7741.specs.Descriptor.{Required, PictureId, absent, short, long, neither, Extension, Descriptor, plain, extended, octets, FormedRequired, FormedId, FormedExtension}
 use Rattle.rfc7741.specs.Frame.{Piece, packetOf, Sends, AllSend, StartsOnce, parts}
 use Rattle.vp8.specs.declared.send.Vp8Payloader.{Vp8Payloader}
 use Rattle.vp8.specs.Send.{headerSize, startOctet, descriptorOf, partsBy, partsOf, headed, packetsOf}
-use Rattle.vp8.specs.Conform.{shownId, AtMost, SendsFrames}
+use Rattle.vp8.specs.Conform.{startFlag, shownId, AtMost, SendsFrames}
 use Rattle.vp8.proofs.Header.{length-descriptor}
 use Rattle.vp8.proofs.Parts.{joined-parts}
 use Rattle.vp8.proofs.Deliver.{packets-are}
 
 -- ---- the descriptor of a packet
 
-abbrev pub startFlag : Bool → ℕ
-startFlag true = 1
-startFlag false = 0
-
 abbrev pub requiredBy : Bool → Required
 requiredBy start = record { r = 0; n = 0; s = startFlag start; r2 = 0; pid = 0 }
 
+-- no optional field but the PictureID
+abbrev pub idAlone : PictureId → Extension
+idAlone i = record { pictureId = i; tl0picidx = none; layers = neither; rsv = 0 }
+
 unfoldable pub planBy : PictureId → Bool → Descriptor
 planBy absent start = plain (requiredBy start)
-planBy (short n) start = extended (requiredBy start) (record { pictureId = short n; tl0picidx = none; layers = neither; rsv = 0 })
-planBy (long n) start = extended (requiredBy start) (record { pictureId = long n; tl0picidx = none; layers = neither; rsv = 0 })
+planBy (short n) start = extended (requiredBy start) (idAlone (short n))
+planBy (long n) start = extended (requiredBy start) (idAlone (long n))
 
 -- the three forms of the header are the octets of three plans
 pub octets-of : (v : Vp8Payloader) (start : Bool) → v .«picture_id» ≤ 32767 → octets (planBy (shownId v) start) ≡ descriptorOf v start
@@ -60,49 +60,61 @@ octets-of v start h = by-cases (v .«enable_picture_id») (ltb (v .«picture_id�
     by-cases false false true = refl
     by-cases false false false = refl
 
--- and the plans are lawful
-pub lawful-id : (v : Vp8Payloader) → v .«picture_id» ≤ 32767 → LawfulId (shownId v)
+-- and the plans are formed
+pub formed-id : (v : Vp8Payloader) → v .«picture_id» ≤ 32767 → FormedId (shownId v)
 unfolding shownId
-lawful-id v h = by-cases (v .«enable_picture_id») (ltb (v .«picture_id») 128) refl
+formed-id v h = by-cases (v .«enable_picture_id») (ltb (v .«picture_id») 128) refl
   where
     by-cases : (shown seven : Bool) → ltb (v .«picture_id») 128 ≡ seven →
-        LawfulId (cond shown (cond seven (short (v .«picture_id»)) (long (v .«picture_id»))) absent)
+        FormedId (cond shown (cond seven (short (v .«picture_id»)) (long (v .«picture_id»))) absent)
     by-cases true true e = ltb-true (v .«picture_id») 128 e
     by-cases true false e = omega arith
     by-cases false true e = tt
     by-cases false false e = tt
 
-pub lawful-required : (start : Bool) → LawfulRequired (requiredBy start)
-lawful-required true = record { r = lit< tt; n = lit< tt; s = lit< tt; r2 = lit< tt; pid = lit< tt }
-lawful-required false = record { r = lit< tt; n = lit< tt; s = lit< tt; r2 = lit< tt; pid = lit< tt }
+pub formed-required : (start : Bool) → FormedRequired (requiredBy start)
+formed-required true = record { r = lit< tt; n = lit< tt; s = lit< tt; r2 = lit< tt; pid = lit< tt }
+formed-required false = record { r = lit< tt; n = lit< tt; s = lit< tt; r2 = lit< tt; pid = lit< tt }
+
+pub formed-alone : (i : PictureId) → FormedId i → FormedExtension (idAlone i)
+formed-alone i h = record { pictureId = h; tl0picidx = tt; layers = tt; rsv = lit< tt }
 
 abbrev pieceOf : PictureId → Bool → List ℕ → Piece
 pieceOf i start part = record { descriptor = planBy i start; part = part }
 
-sends : (i : PictureId) (start : Bool) (part : List ℕ) → LawfulId i → 0 < length part → Sends i (startFlag start) (pieceOf i start part)
+sends-id : (i : PictureId) (start : Bool) (part : List ℕ) → FormedId i → 0 < length part →
+    Sends i (startFlag start) (record { descriptor = extended (requiredBy start) (idAlone i); part = part })
+sends-id i start part h g =
+    record {
+      lawful = record { formed = (formed-required start, formed-alone i h); rules = lit≤ tt };
+      r = refl;
+      n = refl;
+      r2 = refl;
+      pid = refl;
+      layers = (refl, refl);
+      rsv = refl;
+      s = refl;
+      pictureId = refl;
+      some = g;
+    }
+
+sends : (i : PictureId) (start : Bool) (part : List ℕ) → FormedId i → 0 < length part → Sends i (startFlag start) (pieceOf i start part)
 unfolding planBy
 sends absent start part h g =
-    record { lawful = lawful-required start; r = refl; r2 = refl; rsv = refl; s = refl; pictureId = refl; some = g }
-sends (short n) start part h g =
     record {
-      lawful = (lawful-required start, record { pictureId = h; tl0picidx = tt; layers = tt; rsv = lit< tt });
+      lawful = record { formed = formed-required start; rules = tt };
       r = refl;
+      n = refl;
       r2 = refl;
+      pid = refl;
+      layers = tt;
       rsv = refl;
       s = refl;
       pictureId = refl;
       some = g;
     }
-sends (long n) start part h g =
-    record {
-      lawful = (lawful-required start, record { pictureId = h; tl0picidx = tt; layers = tt; rsv = lit< tt });
-      r = refl;
-      r2 = refl;
-      rsv = refl;
-      s = refl;
-      pictureId = refl;
-      some = g;
-    }
+sends (short m) start part h g = sends-id (short m) start part h g
+sends (long m) start part h g = sends-id (long m) start part h g
 
 -- ---- the parts
 
@@ -131,12 +143,12 @@ headed-are v start [] h = refl
 headed-are v start (p ∷ ps) h =
     ap₂ (λ (d : List ℕ) (rest : List (List ℕ)). (d ++ p) ∷ rest) (sym (octets-of v start h)) (headed-are v false ps h)
 
-all-send : (i : PictureId) (size : ℕ) (ps : List (List ℕ)) → LawfulId i → AllSized size ps → AllSend i (pieces i false ps)
+all-send : (i : PictureId) (size : ℕ) (ps : List (List ℕ)) → FormedId i → AllSized size ps → AllSend i (pieces i false ps)
 unfolding pieces
 all-send i size [] h z = tt
 all-send i size (p ∷ ps) h z = (sends i false p h (z .0 .0), all-send i size ps h (z .1))
 
-starts-once : (i : PictureId) (size : ℕ) (ps : List (List ℕ)) → LawfulId i → AllSized size ps → StartsOnce i (pieces i true ps)
+starts-once : (i : PictureId) (size : ℕ) (ps : List (List ℕ)) → FormedId i → AllSized size ps → StartsOnce i (pieces i true ps)
 unfolding pieces
 starts-once i size [] h z = tt
 starts-once i size (p ∷ ps) h z = (sends i true p h (z .0 .0), all-send i size ps h (z .1))
@@ -160,7 +172,7 @@ carried v mtu frame sendable =
     let above = sendable .above in
     let z : 0 < size = omega arith in
     let all = sized (length frame) size frame z in
-    let i = lawful-id v (sendable .id) in
+    let i = formed-id v (sendable .id) in
     let are = packets-are v mtu frame above in (
       record {
         pieces = pieces (shownId v) true (partsOf size frame);

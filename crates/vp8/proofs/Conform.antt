@@ -1,9 +1,8 @@
--- RFC 7741, section 4.2, and the reader and the sender of this crate: every lawful descriptor with X set is read as its fields and its
+-- RFC 7741, section 4.2, and the reader and the sender of this crate: every formed descriptor with X set is read as its fields and its
 -- payload; what is sent for a frame carries it. Assumes nothing.
 use mathlib.Core.Path.{_≡_, refl, sym, ap, subst, _∙_}
 use mathlib.Core.Bool.{Bool, true, false}
 use mathlib.Core.List.{List, [], _∷_, _++_, map}
-use mathlib.Core.Option.{none, some}
 use Prim.Native.Nat.{ℕ, _≤_, _<_}
 use native.Mathlib.Omega.{arith}
 use lib.Dec.{eqb, ltb, lit<, lit≤}
@@ -13,37 +12,38 @@ use borrow.Author.Tests.{le-ltb, ltb-true}
 use Rattle.error.specs.Refusal.{Refusal}
 use Rattle.error.specs.Said.{says, refused}
 use Rattle.wire.specs.Packets.{joined}
-use Rattle.rfc7741.specs.Descriptor.{Required, PictureId, absent, short, long, neither, Extension, Descriptor, plain, extended, octets, Lawful, LawfulId}
+use Rattle.rfc7741.specs.Descriptor.{Required, PictureId, absent, short, long, Extension, Descriptor, plain, extended, octets, Formed, FormedId, Lawful}
 use Rattle.rfc7741.specs.Frame.{Piece, packetOf, required, parts}
 use Rattle.rfc7741.proofs.Fields.{firsts}
 use Rattle.vp8.specs.declared.read.Vp8Packet.{Vp8Packet}
 use Rattle.vp8.specs.declared.send.Vp8Payloader.{Vp8Payloader}
-use Rattle.vp8.specs.Read.{Reading, depacketized}
+use Rattle.vp8.specs.Read.{blank, Reading, depacketized}
 use Rattle.vp8.specs.Send.{headerSize, descriptorOf, packetsOf, sentAll, payloaded}
 use Rattle.vp8.specs.Partition.{partitionHead}
-use Rattle.vp8.specs.Conform.{blank, TellsId, Tells, Readable, Complete, fields, shownId, SendsFrames}
+use Rattle.vp8.specs.Conform.{TellsId, Tells, Readable, Complete, fields, shownId, SendsFrames, Own}
 use Rattle.vp8.proofs.Stages.{four-or-more}
 use Rattle.vp8.proofs.Header.{length-descriptor, shown-length}
 use Rattle.vp8.proofs.Deliver.{in-domain, has-room}
 use Rattle.vp8.proofs.ReadBack.{Head, fields-head, fields-id, fields-tl0, fields-layers, reads}
-use Rattle.vp8.proofs.Carried.{startFlag, requiredBy, planBy, lawful-required, octets-of, carried}
+use Rattle.vp8.proofs.Carried.{requiredBy, idAlone, planBy, octets-of, formed-required, formed-alone, carried}
 
 -- ---- reading
 
 -- "every well-formed descriptor with X set, in a packet of 4 bytes or more with payload behind it, is read as its fields and payload":
 -- the fields are exactly the descriptor's, and the old ones where it leaves a field out
-pub exactly : (old : Vp8Packet) (d : Required) (e : Extension) (payload : List ℕ) → Readable old d e payload →
+pub exactly : (old : Vp8Packet) (d : Required) (e : Extension) (payload : List ℕ) → Readable Formed old d e payload →
     depacketized old (octets (extended d e) ++ payload)
     ≡ record { packet = fields d e old; said = says (length (octets (extended d e))) }
 exactly old d e payload h =
     four-or-more old (octets (extended d e) ++ payload) (h .most) (h .id) (h .least)
-    ∙ reads old d e (h .required) (h .extension) payload (h .some)
+    ∙ reads old d e (h .descriptor .0) (h .descriptor .1) payload (h .some)
 
 -- the payload is all from the place that is said
 pub behind : (d : Descriptor) (payload : List ℕ) → drop (length (octets d)) (octets d ++ payload) ≡ payload
 behind d payload = drop-append-seam (octets d) payload
 
-pub complete : Complete depacketized
+-- of all that are formed: of one with L and without T, too
+pub complete : Complete Formed depacketized
 complete old d e payload h =
     let all = exactly old d e payload h in
     let head = fields-head d e old in
@@ -63,21 +63,33 @@ complete old d e payload h =
     } in
     (subst (Tells d e) (sym (ap (λ (r : Reading). r .packet) all)) told, ap (λ (r : Reading). r .said) all)
 
+pub as-formed : {Such : Descriptor → Type 0} {old : Vp8Packet} {d : Required} {e : Extension} {payload : List ℕ} →
+    (Such (extended d e) → Formed (extended d e)) → Readable Such old d e payload → Readable Formed old d e payload
+as-formed formed h =
+    record { descriptor = formed (h .descriptor); some = h .some; least = h .least; most = h .most; id = h .id }
+
+-- and so every one that the RFC has
+pub complete-lawful : Complete Lawful depacketized
+complete-lawful old d e payload h = complete old d e payload (as-formed (λ l. l .formed) h)
+
 -- ---- readers that are not complete
 
 plainly : ℕ → Required
 plainly n = record { r = 0; n = n; s = 1; r2 = 0; pid = 0 }
 
-bare : Extension
-bare = record { pictureId = absent; tl0picidx = none; layers = neither; rsv = 0 }
+abbrev bare : Extension
+bare = idAlone absent
 
 -- two packets of four bytes, alike but for N
-sample : (n : ℕ) → n < 2 → Readable blank (plainly n) bare (170 ∷ 187 ∷ [])
-unfolding plainly bare
+sample : (n : ℕ) → n < 2 → Readable Lawful blank (plainly n) bare (170 ∷ 187 ∷ [])
+unfolding plainly
 sample n h =
     record {
-      required = record { r = lit< tt; n = h; s = lit< tt; r2 = lit< tt; pid = lit< tt };
-      extension = record { pictureId = tt; tl0picidx = tt; layers = tt; rsv = lit< tt };
+      descriptor =
+          record {
+            formed = (record { r = lit< tt; n = h; s = lit< tt; r2 = lit< tt; pid = lit< tt }, formed-alone absent tt);
+            rules = lit≤ tt;
+          };
       some = lit< tt;
       least = lit≤ tt;
       most = lit≤ tt;
@@ -89,7 +101,7 @@ says-not-refused at r e = let z : _≡_ {A = ℕ} 0 1 = cc in omega arith
 
 -- a reader that refuses everything
 pub no-refuser : (read : Vp8Packet → List ℕ → Reading) →
-    ((p : Vp8Packet) (s : List ℕ) → (r : Refusal) × (read p s .said ≡ refused r)) → Complete read → ⊥
+    ((p : Vp8Packet) (s : List ℕ) → (r : Refusal) × (read p s .said ≡ refused r)) → Complete Lawful read → ⊥
 no-refuser read always c =
     let told = c blank (plainly 0) bare (170 ∷ 187 ∷ []) (sample 0 (lit< tt)) .1 in
     let no′ = always blank (octets (extended (plainly 0) bare) ++ (170 ∷ 187 ∷ [])) in
@@ -97,7 +109,7 @@ no-refuser read always c =
 
 -- a reader with one fixed record
 pub no-fixed-record : (read : Vp8Packet → List ℕ → Reading) (q : Vp8Packet) →
-    ((p : Vp8Packet) (s : List ℕ) → read p s .packet ≡ q) → Complete read → ⊥
+    ((p : Vp8Packet) (s : List ℕ) → read p s .packet ≡ q) → Complete Lawful read → ⊥
 unfolding plainly
 no-fixed-record read q fixed c =
     let zero′ : q .n ≡ 0 =
@@ -131,25 +143,19 @@ pub sent : (v : Vp8Payloader) (mtu : ℕ) (frame out ends : List ℕ) → length
     payloaded v mtu frame out ends ≡ sentAll v (packetsOf v mtu frame) out ends
 sent v mtu frame out ends f m i o e = in-domain v mtu frame out ends f m i ∙ has-room v (packetsOf v mtu frame) out ends o e
 
--- what is sent with its id is read by this crate's own reader: the payload, the id and S
-abbrev pub Own : Vp8Payloader → Bool → Reading → Type 0
-Own v start r = (r .said ≡ says (headerSize v)) × (r .packet .«picture_id» ≡ v .«picture_id») × (r .packet .s ≡ startFlag start)
-
 module _ (v : Vp8Payloader) (start : Bool) (part : List ℕ) (old : Vp8Packet) (shown : v .«enable_picture_id» ≡ true)
     (id : v .«picture_id» ≤ 32767) (oldid : old .«picture_id» ≤ 32767) (there : 0 < length part)
     (most : length (descriptorOf v start ++ part) ≤ 65535) where
-  of-id : (i : PictureId) → octets (extended (requiredBy start) (record { pictureId = i; tl0picidx = none; layers = neither; rsv = 0 })) ≡ descriptorOf v start →
-      LawfulId i → ((x : ℕ) → TellsId i x → x ≡ v .«picture_id») → Own v start (depacketized old (descriptorOf v start ++ part))
+  of-id : (i : PictureId) → octets (extended (requiredBy start) (idAlone i)) ≡ descriptorOf v start →
+      FormedId i → ((x : ℕ) → TellsId i x → x ≡ v .«picture_id») → Own v start (depacketized old (descriptorOf v start ++ part))
   of-id i o h told =
-      let e : Extension = record { pictureId = i; tl0picidx = none; layers = neither; rsv = 0 } in
       let size : 3 ≤ length (descriptorOf v start) = shown-length v start shown in
-      let same : octets (extended (requiredBy start) e) ++ part ≡ descriptorOf v start ++ part = ap (λ (l : List ℕ). l ++ part) o in
+      let same : octets (extended (requiredBy start) (idAlone i)) ++ part ≡ descriptorOf v start ++ part = ap (λ (l : List ℕ). l ++ part) o in
       let least : 4 ≤ length (descriptorOf v start ++ part) = rw length-append (omega arith) in
       let c =
-      complete old (requiredBy start) e part
+      complete old (requiredBy start) (idAlone i) part
       (record {
-        required = lawful-required start;
-        extension = record { pictureId = h; tl0picidx = tt; layers = tt; rsv = lit< tt };
+        descriptor = (formed-required start, formed-alone i h);
         some = there;
         least = subst (λ (l : List ℕ). 4 ≤ length l) (sym same) least;
         most = subst (λ (l : List ℕ). length l ≤ 65535) (sym same) most;
@@ -175,7 +181,7 @@ module _ (v : Vp8Payloader) (start : Bool) (part : List ℕ) (old : Vp8Packet) (
 -- ---- partitions
 
 -- a packet's S is what `is_partition_head` says of it
-pub head-is-s : (d : Descriptor) (payload : List ℕ) → Lawful d → length (octets d ++ payload) ≤ 65535 →
+pub head-is-s : (d : Descriptor) (payload : List ℕ) → Formed d → length (octets d ++ payload) ≤ 65535 →
     partitionHead (octets d ++ payload) ≡ says (eqb (required d .s) 1)
 unfolding partitionHead
 head-is-s (plain d) payload h most = rw (le-ltb 65535 (length (octets (plain d) ++ payload)) most, firsts 0 d (lit< tt) h .s)

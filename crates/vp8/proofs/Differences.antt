@@ -4,6 +4,7 @@ use mathlib.Core.Path.{_≡_, refl, sym, ap, _∙_}
 use mathlib.Core.Bool.{true}
 use mathlib.Core.Logic.{_⊎_, ⊎-elim}
 use mathlib.Core.List.{List, [], _∷_, _++_, append-nil}
+use mathlib.Core.Option.{some}
 use Prim.Native.Nat.{ℕ, _+_, _/_, _%_, _≤_, _<_}
 use native.Mathlib.Omega.{arith}
 use lib.Dec.{lit<}
@@ -12,18 +13,18 @@ use borrow.Author.Tests.{lt-ltb, le-ltb}
 use Rattle.error.specs.Said.{says, refuse}
 use Rattle.wire.specs.Net.{u16At, be16}
 use Rattle.wire.specs.Packets.{joined}
-use Rattle.rfc7741.specs.Descriptor.{Required, short, long, Extension, plain, extended, firstOctet, extensionOctet, idOctets, tl0Octets, octets, LawfulRequired, LawfulExtension}
+use Rattle.rfc7741.specs.Descriptor.{Required, absent, short, long, neither, Extension, plain, extended, firstOctet, extensionOctet, idOctets, tl0Octets, octets, FormedRequired, FormedExtension, Formed, Strays}
 use Rattle.rfc7741.proofs.Fields.{firsts, id-size, tl0-size}
 use Rattle.vp8.specs.declared.read.Vp8Packet.{Vp8Packet}
 use Rattle.vp8.specs.declared.send.Vp8Payloader.{Vp8Payloader}
-use Rattle.vp8.specs.Read.{Stage, Reading, putRequired, putFlags, putPictureId, putTl0, putTid, putKey, setRequired, setFlags, setTid, setKey, withFlags, withPictureId, withTl0, withLayers, orShort, third, second, readOn, depacketized}
+use Rattle.vp8.specs.Read.{blank, Stage, Reading, putRequired, putFlags, putPictureId, putTl0, putTid, putKey, setRequired, setFlags, setTid, setKey, withFlags, withPictureId, withTl0, withLayers, orShort, third, second, readOn, depacketized}
 use Rattle.vp8.specs.Send.{headerSize, descriptorOf, partsBy, headed, packetsOf, advanced, Sending, delivered, payloaded}
-use Rattle.vp8.specs.Conform.{blank, Readable, fields, shownId, Sendable, fieldsId, fieldsTl0}
-use Rattle.vp8.specs.Differences.{flagsOctet, withoutX, further}
+use Rattle.vp8.specs.Conform.{Readable, Deviates, fields, shownId, Sendable, fieldsId, fieldsTl0}
+use Rattle.vp8.specs.Differences.{flagsOctet, withoutX, further, showing}
 use Rattle.vp8.proofs.Stages.{left-over, flags-no, id-no, tl0-no, layers-no, flags-yes, under-four, four-or-more, begun}
 use Rattle.vp8.proofs.Deliver.{in-domain, empty-frame, small-mtu, deliver-none, packets-count, some-packets}
 use Rattle.vp8.proofs.ReadBack.{cut-first, cut-second, reads-empty}
-use Rattle.vp8.proofs.Conform.{exactly, sent}
+use Rattle.vp8.proofs.Conform.{exactly, as-formed, sent}
 use Rattle.vp8.proofs.Stale.{along, on, onR, along-on, clear, clearR, along-clear}
 
 -- ---- X clear: the flags of an earlier packet count
@@ -85,7 +86,7 @@ unfolding depacketized putRequired putFlags withFlags withPictureId putPictureId
 stale-id = (refl, refl)
 
 -- where no old flag is 1, X clear is read as the RFC has it: no optional field, and the payload behind the first octet
-pub plain-fresh : (old : Vp8Packet) (d : Required) (payload : List ℕ) → LawfulRequired d → (old .i ≡ 1 → ⊥) → (old .l ≡ 1 → ⊥) →
+pub plain-fresh : (old : Vp8Packet) (d : Required) (payload : List ℕ) → FormedRequired d → (old .i ≡ 1 → ⊥) → (old .l ≡ 1 → ⊥) →
     (old .t ≡ 1 → ⊥) → (old .k ≡ 1 → ⊥) → old .«picture_id» ≤ 32767 → 4 ≤ length (octets (plain d) ++ payload) →
     length (octets (plain d) ++ payload) ≤ 65535 →
     depacketized old (octets (plain d) ++ payload) ≡ record { packet = putRequired 0 (d .n) (d .s) (d .pid) old; said = says 1 }
@@ -106,6 +107,39 @@ plain-fresh old d payload h ni nl nt nk id least most =
     ∙ left-over c (λ c′. record { packet = c′ .packet; said = says (c′ .at) }) there
     ∙ (λ i. record { packet = putRequired (f .x i) (f .n i) (f .s i) (f .pid i) old; said = says 1 })
 
+-- ---- L without T: read all the same
+
+pub l-without-t : (old : Vp8Packet) (d : Required) (e : Extension) (payload : List ℕ) → Readable Strays old d e payload →
+    depacketized old (octets (extended d e) ++ payload)
+    ≡ record { packet = fields d e old; said = says (length (octets (extended d e))) }
+l-without-t old d e payload h = exactly old d e payload (as-formed (λ w. w .formed) h)
+
+-- `804005AA`: TL0PICIDX 5, payload AA
+pub l-alone : Deviates (128 ∷ 64 ∷ 5 ∷ 170 ∷ []) 3
+    × (depacketized blank (128 ∷ 64 ∷ 5 ∷ 170 ∷ []) .said ≡ says 3)
+    × (depacketized blank (128 ∷ 64 ∷ 5 ∷ 170 ∷ []) .packet .«tl0_pic_idx» ≡ 5)
+unfolding depacketized putRequired putFlags withFlags withPictureId withTl0 putTl0 withLayers orShort readOn second third
+l-alone = (
+  record {
+    required = record { r = 0; n = 0; s = 0; r2 = 0; pid = 0 };
+    extension = record { pictureId = absent; tl0picidx = some 5; layers = neither; rsv = 0 };
+    payload = 170 ∷ [];
+    descriptor =
+        record {
+          formed = (
+            record { r = lit< tt; n = lit< tt; s = lit< tt; r2 = lit< tt; pid = lit< tt },
+            record { pictureId = tt; tl0picidx = lit< tt; layers = tt; rsv = lit< tt },
+          );
+          broken = record { l = refl; t = refl };
+        };
+    laid = refl;
+    some = lit< tt;
+    place = refl;
+  },
+  refl,
+  refl,
+)
+
 -- ---- under 4 bytes: refused, though 2 bytes are a packet by the RFC
 
 pub under-four-refused : (old : Vp8Packet) (s : List ℕ) → old .«picture_id» ≤ 32767 → length s < 4 →
@@ -121,7 +155,7 @@ own-short = refl
 -- ---- a descriptor that is cut, or has no payload behind it: refused, and the fields read so far are kept
 
 -- cut behind the picture id, the first of the three late refusals
-pub cut-behind-id : (old : Vp8Packet) (d : Required) (e : Extension) → LawfulRequired d → LawfulExtension e → old .«picture_id» ≤ 32767 →
+pub cut-behind-id : (old : Vp8Packet) (d : Required) (e : Extension) → FormedRequired d → FormedExtension e → old .«picture_id» ≤ 32767 →
     2 ≤ length (idOctets (e .pictureId)) →
     depacketized old (firstOctet 1 d ∷ extensionOctet e ∷ (idOctets (e .pictureId) ++ [])) ≡ record { packet = fieldsId d e old; said = refuse 4 }
 cut-behind-id old d e h h′ id least =
@@ -131,7 +165,7 @@ cut-behind-id old d e h h′ id least =
     four-or-more old _ (omega arith) id (omega arith) ∙ cut-first old d e h h′
 
 -- cut behind TL0PICIDX, the second
-pub cut-behind-tl0 : (old : Vp8Packet) (d : Required) (e : Extension) → LawfulRequired d → LawfulExtension e → old .«picture_id» ≤ 32767 →
+pub cut-behind-tl0 : (old : Vp8Packet) (d : Required) (e : Extension) → FormedRequired d → FormedExtension e → old .«picture_id» ≤ 32767 →
     0 < length (tl0Octets (e .tl0picidx)) → 0 < length (idOctets (e .pictureId)) →
     depacketized old (firstOctet 1 d ∷ extensionOctet e ∷ (idOctets (e .pictureId) ++ (tl0Octets (e .tl0picidx) ++ [])))
     ≡ record { packet = fieldsTl0 d e old; said = refuse 4 }
@@ -143,16 +177,16 @@ cut-behind-tl0 old d e h h′ id tl0 least =
     let m′ = tl0-size (e .tl0picidx) in
     four-or-more old _ (omega arith) id (omega arith) ∙ cut-second old d e h h′ tl0
 
--- `80C08102`: 4, with the id 258 and the old TL0PICIDX
-pub cut-kept : (depacketized blank (128 ∷ 192 ∷ 129 ∷ 2 ∷ []) .said ≡ refuse 4)
-    × (depacketized blank (128 ∷ 192 ∷ 129 ∷ 2 ∷ []) .packet .«picture_id» ≡ 258)
-    × (depacketized blank (128 ∷ 192 ∷ 129 ∷ 2 ∷ []) .packet .«tl0_pic_idx» ≡ 0)
+-- `80E08102`: 4, with the id 258 and the old TL0PICIDX
+pub cut-kept : (depacketized blank (128 ∷ 224 ∷ 129 ∷ 2 ∷ []) .said ≡ refuse 4)
+    × (depacketized blank (128 ∷ 224 ∷ 129 ∷ 2 ∷ []) .packet .«picture_id» ≡ 258)
+    × (depacketized blank (128 ∷ 224 ∷ 129 ∷ 2 ∷ []) .packet .«tl0_pic_idx» ≡ 0)
 unfolding depacketized putRequired putFlags withFlags withPictureId putPictureId withTl0 withLayers orShort readOn second third u16At
 cut-kept = (refl, refl, refl)
 
 -- no payload: the third
 
-pub empty-refused : (old : Vp8Packet) (d : Required) (e : Extension) → LawfulRequired d → LawfulExtension e → old .«picture_id» ≤ 32767 →
+pub empty-refused : (old : Vp8Packet) (d : Required) (e : Extension) → FormedRequired d → FormedExtension e → old .«picture_id» ≤ 32767 →
     4 ≤ length (octets (extended d e)) → length (octets (extended d e)) ≤ 65535 →
     depacketized old (octets (extended d e)) ≡ record { packet = fields d e old; said = refuse 4 }
 empty-refused old d e h h′ id least most =
@@ -169,24 +203,22 @@ empty-kept = (refl, refl, refl)
 
 -- ---- the reserved bits, and the parts of the octet of T and K whose flag is clear: ignored
 
-pub reserved-ignored : (old : Vp8Packet) (d : Required) (e : Extension) (payload : List ℕ) (r r2 rsv : ℕ) → Readable old d e payload →
+pub reserved-ignored : (old : Vp8Packet) (d : Required) (e : Extension) (payload : List ℕ) (r r2 rsv : ℕ) → Readable Formed old d e payload →
     r < 2 → r2 < 2 → rsv < 16 →
     depacketized old
     (octets (extended (record { r = r; n = d .n; s = d .s; r2 = r2; pid = d .pid })
     (record { pictureId = e .pictureId; tl0picidx = e .tl0picidx; layers = e .layers; rsv = rsv })) ++ payload)
     ≡ depacketized old (octets (extended d e) ++ payload)
 reserved-ignored old d e payload r r2 rsv h hr hr2 hrsv =
+    let f = h .descriptor .0 in
+    let g = h .descriptor .1 in
     exactly old (record { r = r; n = d .n; s = d .s; r2 = r2; pid = d .pid })
     (record { pictureId = e .pictureId; tl0picidx = e .tl0picidx; layers = e .layers; rsv = rsv }) payload
     (record {
-      required = record { r = hr; n = h .required .n; s = h .required .s; r2 = hr2; pid = h .required .pid };
-      extension =
-          record {
-            pictureId = h .extension .pictureId;
-            tl0picidx = h .extension .tl0picidx;
-            layers = h .extension .layers;
-            rsv = hrsv;
-          };
+      descriptor = (
+        record { r = hr; n = f .n; s = f .s; r2 = hr2; pid = f .pid },
+        record { pictureId = g .pictureId; tl0picidx = g .tl0picidx; layers = g .layers; rsv = hrsv },
+      );
       some = h .some;
       least = h .least;
       most = h .most;
@@ -203,9 +235,6 @@ seven v e h = rw (e, lt-ltb (v .«picture_id») 128 h)
 pub fifteen : (v : Vp8Payloader) → v .«enable_picture_id» ≡ true → 128 ≤ v .«picture_id» → shownId v ≡ long (v .«picture_id»)
 unfolding shownId
 fifteen v e h = rw (e, le-ltb (v .«picture_id») 128 h)
-
-abbrev pub showing : ℕ → Vp8Payloader
-showing id = record { «enable_picture_id» = true; «picture_id» = id }
 
 -- 127 in 7 bits and then 128 in 15; 32,767 in 15 bits and then 0 in 7
 pub width-changes : (shownId (showing 127) ≡ short 127)

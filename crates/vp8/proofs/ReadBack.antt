@@ -11,10 +11,10 @@ use lib.ListN.{length, length-append}
 use borrow.Author.Tests.{eq-eqb, ne-eqb}
 use Rattle.error.specs.Said.{says, refuse}
 use Rattle.wire.specs.Net.{u16At}
-use Rattle.rfc7741.specs.Descriptor.{Required, PictureId, absent, short, long, Indices, Layers, neither, onlyT, onlyK, bothTK, Extension, extended, flagI, flagL, flagT, flagK, firstOctet, extensionOctet, idOctets, tl0Octets, indicesOctet, layersOctets, optionalOctets, octets, LawfulRequired, LawfulId, LawfulLayers, LawfulExtension}
-use Rattle.rfc7741.proofs.Fields.{firsts, flags, parts, apart}
+use Rattle.rfc7741.specs.Descriptor.{Required, PictureId, absent, short, long, Indices, Layers, neither, onlyT, onlyK, bothTK, Extension, extended, flagI, flagL, flagT, flagK, firstOctet, extensionOctet, idOctets, tl0Octets, indicesOctet, layersOctets, octets, FormedRequired, FormedId, FormedLayers, FormedExtension}
+use Rattle.rfc7741.proofs.Fields.{firsts, flags, index-parts, apart}
 use Rattle.vp8.specs.declared.read.Vp8Packet.{Vp8Packet}
-use Rattle.vp8.specs.Read.{Stage, putRequired, putFlags, putPictureId, putTl0, putTid, putKey, setRequired, setFlags, setTid, setKey, withPictureId, withTl0, withLayers, third, second, readOn}
+use Rattle.vp8.specs.Read.{putRequired, putFlags, putPictureId, putTl0, putTid, putKey, setRequired, setFlags, setTid, setKey, withPictureId, withTl0, withLayers, third, second, readOn}
 use Rattle.vp8.specs.Conform.{TellsId, TellsTl0, TellsLayers, tellId, tellTl0, tellLayers, fieldsFlags, fieldsId, fieldsTl0, fields}
 use Rattle.vp8.proofs.Stages.{flags-yes, id-no, id-short, id-long, tl0-no, tl0-yes, layers-no, layers-t, layers-k, left-over, none-left, begun}
 
@@ -22,7 +22,7 @@ use Rattle.vp8.proofs.Stages.{flags-yes, id-no, id-short, id-long, tl0-
 flag-clear : {n : ℕ} → n ≡ 0 → n ≡ 1 → ⊥
 flag-clear a b = omega arith
 
-pub id-stage : (i : PictureId) (q : Vp8Packet) (at : ℕ) (r : List ℕ) → LawfulId i → q .i ≡ flagI i →
+pub id-stage : (i : PictureId) (q : Vp8Packet) (at : ℕ) (r : List ℕ) → FormedId i → q .i ≡ flagI i →
     withPictureId (record { packet = q; at = at; rest = idOctets i ++ r }) ≡ record { packet = tellId i q; at = at + length (idOctets i); rest = r }
 unfolding u16At
 id-stage absent q at r h f = id-no _ (flag-clear f) ∙ ap (λ (n : ℕ). record { packet = q; at = n; rest = r }) (sym (add-zero at))
@@ -55,24 +55,24 @@ key-kept : (b : ℕ) (q : Vp8Packet) → q .k ≡ 0 → setKey b q ≡ q
 unfolding setKey
 key-kept b q f = rw (ne-eqb (q .k) 1 (flag-clear f))
 
-pub layers-stage : (l : Layers) (q : Vp8Packet) (at : ℕ) (r : List ℕ) → LawfulLayers l → q .t ≡ flagT l → q .k ≡ flagK l →
+pub layers-stage : (l : Layers) (q : Vp8Packet) (at : ℕ) (r : List ℕ) → FormedLayers l → q .t ≡ flagT l → q .k ≡ flagK l →
     withLayers (record { packet = q; at = at; rest = layersOctets l ++ r })
     ≡ record { packet = tellLayers l q; at = at + length (layersOctets l); rest = r }
 unfolding putTid
 layers-stage neither q at r h t k =
     layers-no _ (flag-clear t) (flag-clear k) ∙ ap (λ (n : ℕ). record { packet = q; at = n; rest = r }) (sym (add-zero at))
 layers-stage (onlyT o) q at r h t k =
-    let p = parts o h in
+    let p = index-parts o h in
     layers-t _ t
     ∙ ap (λ (q′ : Vp8Packet). record { packet = q′; at = at + 1; rest = r })
     (ap (setKey (indicesOctet o)) (tid-set (indicesOctet o) q o t (p .tid) (p .y)) ∙ key-kept (indicesOctet o) (putTid (o .tid) (o .y) q) k)
 layers-stage (onlyK o) q at r h t k =
-    let p = parts o h in
+    let p = index-parts o h in
     layers-k _ k
     ∙ ap (λ (q′ : Vp8Packet). record { packet = q′; at = at + 1; rest = r })
     (ap (setKey (indicesOctet o)) (tid-kept (indicesOctet o) q t) ∙ key-set (indicesOctet o) q o k (p .keyidx))
 layers-stage (bothTK o) q at r h t k =
-    let p = parts o h in
+    let p = index-parts o h in
     layers-t _ t
     ∙ ap (λ (q′ : Vp8Packet). record { packet = q′; at = at + 1; rest = r })
     (ap (setKey (indicesOctet o)) (tid-set (indicesOctet o) q o t (p .tid) (p .y))
@@ -171,11 +171,11 @@ module _ (d : Required) (e : Extension) (old : Vp8Packet) where
 
 -- ---- a descriptor with X set, whatever stands behind it
 
-module _ (old : Vp8Packet) (d : Required) (e : Extension) (lawful : LawfulRequired d) (lawful′ : LawfulExtension e) where
+module _ (old : Vp8Packet) (d : Required) (e : Extension) (formed : FormedRequired d) (formed′ : FormedExtension e) where
   flags-read : setFlags (extensionOctet e) (setRequired (firstOctet 1 d) old) ≡ fieldsFlags d e old
   flags-read =
-      let f = firsts 1 d (lit< tt) lawful in
-      let g = flags e lawful′ in
+      let f = firsts 1 d (lit< tt) formed in
+      let g = flags e formed′ in
       λ i. putFlags (g .i i) (g .l i) (g .t i) (g .k i) (putRequired (f .x i) (f .n i) (f .s i) (f .pid i) old)
 
   -- up to the picture id
@@ -186,9 +186,9 @@ module _ (old : Vp8Packet) (d : Required) (e : Extension) (lawful : LawfulRequir
       let c = extensionOctet e in
       let rest = idOctets (e .pictureId) ++ r in
       ap withPictureId
-      (flags-yes (record { packet = setRequired (firstOctet 1 d) old; at = 1; rest = c ∷ rest }) (firsts 1 d (lit< tt) lawful .x)
+      (flags-yes (record { packet = setRequired (firstOctet 1 d) old; at = 1; rest = c ∷ rest }) (firsts 1 d (lit< tt) formed .x)
       ∙ ap (λ (q : Vp8Packet). record { packet = q; at = 2; rest = rest }) flags-read)
-      ∙ id-stage (e .pictureId) (fieldsFlags d e old) 2 r (lawful′ .pictureId) refl
+      ∙ id-stage (e .pictureId) (fieldsFlags d e old) 2 r (formed′ .pictureId) refl
 
   -- TL0PICIDX, and then the octet of T and K
   to-second : (at : ℕ) (r : List ℕ) → withTl0 (record { packet = fieldsId d e old; at = at; rest = tl0Octets (e .tl0picidx) ++ r })
@@ -203,7 +203,7 @@ module _ (old : Vp8Packet) (d : Required) (e : Extension) (lawful : LawfulRequir
   to-third at r =
       let same : headOf (fieldsTl0 d e old) ≡ headOf (fieldsFlags d e old) =
       tl0-head (e .tl0picidx) (fieldsId d e old) ∙ id-head (e .pictureId) (fieldsFlags d e old) in
-      layers-stage (e .layers) (fieldsTl0 d e old) at r (lawful′ .layers) (ap (λ (h : Head). h .t) same) (ap (λ (h : Head). h .k) same)
+      layers-stage (e .layers) (fieldsTl0 d e old) at r (formed′ .layers) (ap (λ (h : Head). h .t) same) (ap (λ (h : Head). h .k) same)
 
   begun-octets : (payload : List ℕ) → begun old (octets (extended d e) ++ payload)
       ≡ record {
@@ -255,7 +255,7 @@ module _ (old : Vp8Packet) (d : Required) (e : Extension) (lawful : LawfulRequir
 
 module _ (l : Option ℕ) (y : Layers) (q : Vp8Packet) (at : ℕ) (hl : q .l ≡ flagL l) (ht : q .t ≡ flagT y) (hk : q .k ≡ flagK y) where
   -- the third test fails
-  at-third : LawfulLayers y → 0 < length (layersOctets y ++ []) →
+  at-third : FormedLayers y → 0 < length (layersOctets y ++ []) →
       readOn (record { packet = q; at = at; rest = tl0Octets l ++ (layersOctets y ++ []) })
       ≡ record { packet = tellLayers y (tellTl0 l q); said = refuse 4 }
   unfolding readOn second third
@@ -269,7 +269,7 @@ module _ (l : Option ℕ) (y : Layers) (q : Vp8Packet) (at : ℕ) (hl : q .l ≡
       (layers-stage y (tellTl0 l q) (at + length (tl0Octets l)) [] h (ap (λ (h′ : Head). h′ .t) same ∙ ht) (ap (λ (h′ : Head). h′ .k) same ∙ hk))
       ∙ none-left _ _ (omega arith)
 
-cut-short : (l : Option ℕ) (y : Layers) (q : Vp8Packet) (at : ℕ) → q .l ≡ flagL l → q .t ≡ flagT y → q .k ≡ flagK y → LawfulLayers y →
+cut-short : (l : Option ℕ) (y : Layers) (q : Vp8Packet) (at : ℕ) → q .l ≡ flagL l → q .t ≡ flagT y → q .k ≡ flagK y → FormedLayers y →
     readOn (record { packet = q; at = at; rest = tl0Octets l ++ (layersOctets y ++ []) })
     ≡ record { packet = tellLayers y (tellTl0 l q); said = refuse 4 }
 unfolding readOn second
@@ -280,11 +280,11 @@ cut-short l (onlyT o) q at hl ht hk h = at-third l (onlyT o) q at hl ht hk h (om
 cut-short l (onlyK o) q at hl ht hk h = at-third l (onlyK o) q at hl ht hk h (omega arith)
 cut-short l (bothTK o) q at hl ht hk h = at-third l (bothTK o) q at hl ht hk h (omega arith)
 
-pub reads-empty : (old : Vp8Packet) (d : Required) (e : Extension) → LawfulRequired d → LawfulExtension e →
+pub reads-empty : (old : Vp8Packet) (d : Required) (e : Extension) → FormedRequired d → FormedExtension e →
     readOn (begun old (octets (extended d e) ++ [])) ≡ record { packet = fields d e old; said = refuse 4 }
 unfolding putFlags
-reads-empty old d e lawful lawful′ =
+reads-empty old d e formed formed′ =
     let same = id-head (e .pictureId) (fieldsFlags d e old) in
-    ap readOn (begun-octets old d e lawful lawful′ [])
+    ap readOn (begun-octets old d e formed formed′ [])
     ∙ cut-short (e .tl0picidx) (e .layers) (fieldsId d e old) _ (ap (λ (h : Head). h .l) same) (ap (λ (h : Head). h .t) same)
-    (ap (λ (h : Head). h .k) same) (lawful′ .layers)
+    (ap (λ (h : Head). h .k) same) (formed′ .layers)

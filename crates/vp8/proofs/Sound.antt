@@ -1,7 +1,9 @@
--- SOUND: whatever is accepted with X set is a lawful descriptor and a payload behind it, and that payload's place is what is said. Each
--- test that was passed left octets for the next field, so a plan can be told from them, field by field. Assumes nothing.
+-- SOUND: whatever is accepted with X set is a descriptor and a payload behind it, and that payload's place is what is said; the descriptor
+-- is lawful, or its L is 1 and its T is 0. Each test that was passed left octets for the next field, so a plan can be told from them, field
+-- by field. Assumes nothing.
 use mathlib.Core.Path.{_≡_, refl, sym, ap, subst, _∙_}
 use mathlib.Core.Bool.{Bool, true, false, cond}
+use mathlib.Core.Logic.{_⊎_, inl, inr, ⊎-elim}
 use mathlib.Core.List.{List, [], _∷_, _++_}
 use Prim.Native.Nat.{ℕ, _+_, _*_, _/_, _%_, _≤_, _<_}
 use native.Mathlib.Omega.{arith}
@@ -9,12 +11,13 @@ use lib.Dec.{ltb}
 use lib.ListN.{length, getD}
 use borrow.Author.Tests.{ltb-true, ltb-false}
 use Rattle.error.specs.Said.{Said, says, refuse}
-use Rattle.rfc7741.specs.Descriptor.{Extension, extended, extensionOctet, idOctets, tl0Octets, optionalOctets, octets, LawfulExtension}
-use Rattle.rfc7741.proofs.Fields.{apart}
-use Rattle.rfc7741.proofs.Laid.{Octets, bits, requiredAt, required-laid, IdAt, id-laid, Tl0At, tl0-laid, LayersAt, layers-laid}
+use Rattle.rfc7741.specs.Descriptor.{Octets, Extension, Descriptor, extended, extensionOctet, idOctets, tl0Octets, optionalOctets, octets, FormedExtension, Formed, Lawful, Strays}
+use Rattle.rfc7741.proofs.Fields.{requiredAt, apart}
+use Rattle.rfc7741.proofs.Straying.{lawful-or-strays, never-both}
+use Rattle.rfc7741.proofs.Laid.{bits, required-laid, IdAt, id-laid, Tl0At, tl0-laid, LayersAt, layers-laid}
 use Rattle.vp8.specs.declared.read.Vp8Packet.{Vp8Packet}
 use Rattle.vp8.specs.Read.{Stage, Reading, putRequired, putFlags, setRequired, setFlags, withPictureId, withTl0, withLayers, orShort, third, second, readOn, depacketized}
-use Rattle.vp8.specs.Conform.{Readable, Conforms, tellId, tellTl0}
+use Rattle.vp8.specs.Conform.{Readable, Bears, Conforms, Deviates, tellId, tellTl0}
 use Rattle.vp8.proofs.Stages.{begun, flags-yes}
 use Rattle.vp8.proofs.ReadBack.{Head, id-stage, tl0-stage, layers-stage, id-head, tl0-head}
 use Rattle.vp8.proofs.Conform.{exactly}
@@ -88,7 +91,7 @@ module _ (old : Vp8Packet) (b c : ℕ) (r : List ℕ) (at : ℕ) (x : 128 ≤ b)
   to-first =
       flagged
       ∙ ap (λ (l : List ℕ). withPictureId (record { packet = heading; at = 2; rest = l })) (id-at .laid)
-      ∙ id-stage (id-at .plan) heading 2 (id-at .behind) (id-at .lawful) (sym (id-at .says))
+      ∙ id-stage (id-at .plan) heading 2 (id-at .behind) (id-at .formed) (sym (id-at .says))
 
   passed-first : (0 < length (id-at .behind)) × (second (withTl0 first-stage) .said ≡ says at)
   unfolding readOn first-stage
@@ -126,7 +129,7 @@ module _ (old : Vp8Packet) (b c : ℕ) (r : List ℕ) (at : ℕ) (x : 128 ≤ b)
       let same = tl0-head (tl0-at .plan) with-id ∙ id-head (id-at .plan) heading in
       let to-third =
       ap (λ (l : List ℕ). withLayers (record { packet = with-tl0; at = second-stage .at; rest = l })) (layers-at .laid)
-      ∙ layers-stage (layers-at .plan) with-tl0 (second-stage .at) (layers-at .behind) (layers-at .lawful)
+      ∙ layers-stage (layers-at .plan) with-tl0 (second-stage .at) (layers-at .behind) (layers-at .formed)
       (ap (λ (h : Head). h .t) same ∙ sym (layers-at .saysT)) (ap (λ (h : Head). h .k) same ∙ sym (layers-at .saysK)) in
       took _ (λ c′. record { packet = c′ .packet; said = says (c′ .at) }) at
       (subst (λ (c′ : Stage). third c′ .said ≡ says at) to-third (passed-second .1)) .0
@@ -149,28 +152,28 @@ module _ (old : Vp8Packet) (b c : ℕ) (r : List ℕ) (at : ℕ) (x : 128 ≤ b)
       ∙ sym (apart extension (layers-at .behind)) in
       λ i. required-laid b x hb .1 i ∷ octet i ∷ rest i
 
-  lawful : LawfulExtension extension
+  formed : FormedExtension extension
   unfolding extension
-  lawful = record { pictureId = id-at .lawful; tl0picidx = tl0-at .lawful; layers = layers-at .lawful; rsv = omega arith }
+  formed = record { pictureId = id-at .formed; tl0picidx = tl0-at .formed; layers = layers-at .formed; rsv = omega arith }
 
-  readable : Readable old (requiredAt b) extension (layers-at .behind)
+  readable : Readable Formed old (requiredAt b) extension (layers-at .behind)
   readable =
       record {
-        required = required-laid b x hb .0;
-        extension = lawful;
+        descriptor = (required-laid b x hb .0, formed);
         some = passed-third;
         least = subst (λ (l : List ℕ). 4 ≤ length l) laid (w .least);
         most = subst (λ (l : List ℕ). length l ≤ 65535) laid (w .most);
         id = w .id;
       }
 
-  conforms : depacketized old (b ∷ c ∷ r) .said ≡ says at → Conforms (b ∷ c ∷ r) at
-  conforms h =
+  bears : (Such : Descriptor → Type 0) → Such (extended (requiredAt b) extension) → depacketized old (b ∷ c ∷ r) .said ≡ says at →
+      Bears Such (b ∷ c ∷ r) at
+  bears Such such h =
       record {
         required = requiredAt b;
         extension = extension;
         payload = layers-at .behind;
-        lawful = (required-laid b x hb .0, lawful);
+        descriptor = such;
         laid = laid;
         some = passed-third;
         place =
@@ -180,7 +183,20 @@ module _ (old : Vp8Packet) (b c : ℕ) (r : List ℕ) (at : ℕ) (x : 128 ≤ b)
             ∙ ap (λ (a : Reading). a .said) (exactly old (requiredAt b) extension (layers-at .behind) readable));
       }
 
-pub sound : (old : Vp8Packet) (s : List ℕ) (at : ℕ) → Octets s → 128 ≤ getD s 0 0 → depacketized old s .said ≡ says at → Conforms s at
+  either : depacketized old (b ∷ c ∷ r) .said ≡ says at → Conforms (b ∷ c ∷ r) at ⊎ Deviates (b ∷ c ∷ r) at
+  either h =
+      ⊎-elim (λ (l : Lawful (extended (requiredAt b) extension)). inl (bears Lawful l h))
+      (λ (w : Strays (extended (requiredAt b) extension)). inr (bears Strays w h))
+      (lawful-or-strays (extended (requiredAt b) extension) (required-laid b x hb .0, formed))
+
+pub sound : (old : Vp8Packet) (s : List ℕ) (at : ℕ) → Octets s → 128 ≤ getD s 0 0 → depacketized old s .said ≡ says at →
+    Conforms s at ⊎ Deviates s at
 sound old [] at o x h = absurd (omega arith)
 sound old (b ∷ []) at o x h = absurd (let l = within old (b ∷ []) at h .least in omega arith)
-sound old (b ∷ c ∷ r) at o x h = conforms old b c r at x (o .0) (o .1 .0) (o .1 .1) (within old (b ∷ c ∷ r) at h) h
+sound old (b ∷ c ∷ r) at o x h = either old b c r at x (o .0) (o .1 .0) (o .1 .1) (within old (b ∷ c ∷ r) at h) h
+
+-- and no packet is both
+pub not-both : (s : List ℕ) (at at′ : ℕ) → Conforms s at → Deviates s at′ → ⊥
+not-both s at at′ c d =
+    never-both (extended (c .required) (c .extension)) (extended (d .required) (d .extension)) (c .payload) (d .payload) (c .descriptor)
+    (d .descriptor) (sym (c .laid) ∙ d .laid)

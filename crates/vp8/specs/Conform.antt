@@ -1,13 +1,13 @@
 -- What RFC 7741 asks of a reader and of a sender, as properties that any reader and any sender may have or not. Assumes nothing.
 use mathlib.Core.Path.{_≡_}
-use mathlib.Core.Bool.{cond}
+use mathlib.Core.Bool.{Bool, true, false, cond}
 use mathlib.Core.List.{List, [], _∷_, _++_}
 use mathlib.Core.Option.{Option, none, some}
 use Prim.Native.Nat.{ℕ, _≤_, _<_}
 use lib.Dec.{ltb}
 use lib.ListN.{length}
 use Rattle.error.specs.Said.{says}
-use Rattle.rfc7741.specs.Descriptor.{Required, PictureId, absent, short, long, Layers, neither, onlyT, onlyK, bothTK, Extension, extended, flagI, flagL, flagT, flagK, octets, Lawful, LawfulRequired, LawfulExtension}
+use Rattle.rfc7741.specs.Descriptor.{Required, PictureId, absent, short, long, Layers, neither, onlyT, onlyK, bothTK, Extension, Descriptor, extended, flagI, flagL, flagT, flagK, octets, Lawful, Strays}
 use Rattle.rfc7741.specs.Frame.{Carries}
 use Rattle.vp8.specs.declared.read.Vp8Packet.{Vp8Packet}
 use Rattle.vp8.specs.declared.send.Vp8Payloader.{Vp8Payloader}
@@ -15,25 +15,6 @@ use Rattle.vp8.specs.Read.{putRequired, putFlags, putPictureId, putTl0, 
 use Rattle.vp8.specs.Send.{headerSize}
 
 -- ---- reading
-
--- a record of which nothing was read
-abbrev pub blank : Vp8Packet
-blank =
-    record {
-      x = 0;
-      n = 0;
-      s = 0;
-      pid = 0;
-      i = 0;
-      l = 0;
-      t = 0;
-      k = 0;
-      «picture_id» = 0;
-      «tl0_pic_idx» = 0;
-      tid = 0;
-      y = 0;
-      «key_idx» = 0;
-    }
 
 abbrev pub TellsId : PictureId → ℕ → Type 0
 TellsId absent id = Unit
@@ -64,31 +45,38 @@ pub record Tells (d : Required) (e : Extension) (p : Vp8Packet) : Type 0 where
   pub tl0 : TellsTl0 (e .tl0picidx) (p .«tl0_pic_idx»)
   pub layers : TellsLayers (e .layers) p
 
--- a packet that the paper has read: a lawful descriptor with X set, a payload behind it, 4 bytes or more, and within the limits
-pub record Readable (old : Vp8Packet) (d : Required) (e : Extension) (payload : List ℕ) : Type 0 where
-  pub required : LawfulRequired d
-  pub extension : LawfulExtension e
+-- a packet that the paper has read: such a descriptor with X set, a payload behind it, 4 bytes or more, and within the limits
+pub record Readable (Such : Descriptor → Type 0) (old : Vp8Packet) (d : Required) (e : Extension) (payload : List ℕ) : Type 0 where
+  pub descriptor : Such (extended d e)
   pub some : 0 < length payload
   pub least : 4 ≤ length (octets (extended d e) ++ payload)
   pub most : length (octets (extended d e) ++ payload) ≤ 65535
   pub id : old .«picture_id» ≤ 32767
 
--- COMPLETE: each is read as its fields and its payload, whatever the old fields were
-abbrev pub Complete : (Vp8Packet → List ℕ → Reading) → Type 0
-Complete read =
-    (old : Vp8Packet) (d : Required) (e : Extension) (payload : List ℕ) → Readable old d e payload →
+-- COMPLETE: each packet with such a descriptor is read as its fields and its payload, whatever the old fields were. The RFC asks it of
+-- `Lawful` ones; of all `Formed` ones it is more
+abbrev pub Complete : (Descriptor → Type 0) → (Vp8Packet → List ℕ → Reading) → Type 0
+Complete Such read =
+    (old : Vp8Packet) (d : Required) (e : Extension) (payload : List ℕ) → Readable Such old d e payload →
     Tells d e (read old (octets (extended d e) ++ payload) .packet)
     × (read old (octets (extended d e) ++ payload) .said ≡ says (length (octets (extended d e))))
 
--- the packet is a lawful descriptor with X set and a payload behind it, which begins at this place
-pub record Conforms (s : List ℕ) (at : ℕ) : Type 0 where
+-- the packet is such a descriptor with X set and a payload behind it, which begins at this place
+pub record Bears (Such : Descriptor → Type 0) (s : List ℕ) (at : ℕ) : Type 0 where
   pub required : Required
   pub extension : Extension
   pub payload : List ℕ
-  pub lawful : Lawful (extended required extension)
+  pub descriptor : Such (extended required extension)
   pub laid : s ≡ octets (extended required extension) ++ payload
   pub some : 0 < length payload
   pub place : at ≡ length (octets (extended required extension))
+
+abbrev pub Conforms : List ℕ → ℕ → Type 0
+Conforms = Bears Lawful
+
+-- the one deviation that is accepted with X set: L is 1 and T is 0
+abbrev pub Deviates : List ℕ → ℕ → Type 0
+Deviates = Bears Strays
 
 -- ---- the fields exactly: those of the descriptor, and the old ones where it leaves a field out
 
@@ -123,6 +111,10 @@ fields d e old = tellLayers (e .layers) (fieldsTl0 d e old)
 
 -- ---- sending
 
+abbrev pub startFlag : Bool → ℕ
+startFlag true = 1
+startFlag false = 0
+
 -- the PictureID of a frame's packets: 7 bits while they hold it, else 15
 unfoldable pub shownId : Vp8Payloader → PictureId
 shownId v = cond (v .«enable_picture_id») (cond (ltb (v .«picture_id») 128) (short (v .«picture_id»)) (long (v .«picture_id»))) absent
@@ -142,3 +134,7 @@ abbrev pub SendsFrames : (Vp8Payloader → ℕ → List ℕ → List (List ℕ))
 SendsFrames send =
     (v : Vp8Payloader) (mtu : ℕ) (frame : List ℕ) → Sendable v mtu frame →
     Carries (shownId v) frame (send v mtu frame) × AtMost mtu (send v mtu frame)
+
+-- what is sent with its id is read by this crate's own reader: the payload, the id and S
+abbrev pub Own : Vp8Payloader → Bool → Reading → Type 0
+Own v start r = (r .said ≡ says (headerSize v)) × (r .packet .«picture_id» ≡ v .«picture_id») × (r .packet .s ≡ startFlag start)

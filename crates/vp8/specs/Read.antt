@@ -8,6 +8,25 @@ use Rattle.error.specs.Said.{Said, says, refuse}
 use Rattle.wire.specs.Net.{u16At}
 use Rattle.vp8.specs.declared.read.Vp8Packet.{Vp8Packet}
 
+-- a record of which nothing was read
+abbrev pub blank : Vp8Packet
+blank =
+    record {
+      x = 0;
+      n = 0;
+      s = 0;
+      pid = 0;
+      i = 0;
+      l = 0;
+      t = 0;
+      k = 0;
+      «picture_id» = 0;
+      «tl0_pic_idx» = 0;
+      tid = 0;
+      y = 0;
+      «key_idx» = 0;
+    }
+
 -- ---- fields set, all others kept
 
 -- the required ones

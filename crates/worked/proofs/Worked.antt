@@ -21,9 +21,9 @@ use Rattle.h264_packet.specs.Depacketize as h264
 use Rattle.vp8.specs.Read as reader
 use Rattle.joiner.specs.Codec.{feed}
 use Rattle.joiner.specs.Join.{bySource, joinStep, opened}
-use Rattle.worked.specs.Asked.{Question, Says, say, blankVp8}
+use Rattle.worked.specs.Asked.{Question, Says, say}
 use Rattle.worked.specs.Table.{Row, table}
 
 pub worked : map (λ (r : Row). say (r .asked)) table ≡ map (λ (r : Row). r .answer) table
-unfolding table u16At u32At be16 be32 whole splice padTo run elementsOf layElements fieldsOf layOut inDomain oneByte taken turn fieldsAt readExtension readFixed readHeader headerSize fixedFor octetsOf inWritingDomain stripped readPacket payloadOctets packetOctets packetSize writePacket units unitsAt keep stapA pairFor unitFor groupsFor fragment payloadOf shape unpackTurn unpack layBytes layFed h264.readPayload h264.depacketized blankVp8 reader.putRequired reader.putFlags reader.putPictureId reader.withFlags reader.withPictureId reader.withTl0 reader.withLayers reader.orShort reader.third reader.second reader.readOn reader.depacketized feed bySource joinStep opened
+unfolding table u16At u32At be16 be32 whole splice padTo run elementsOf layElements fieldsOf layOut inDomain oneByte taken turn fieldsAt readExtension readFixed readHeader headerSize fixedFor octetsOf inWritingDomain stripped readPacket payloadOctets packetOctets packetSize writePacket units unitsAt keep stapA pairFor unitFor groupsFor fragment payloadOf shape unpackTurn unpack layBytes layFed h264.readPayload h264.depacketized reader.putRequired reader.putFlags reader.putPictureId reader.withFlags reader.withPictureId reader.withTl0 reader.withLayers reader.orShort reader.third reader.second reader.readOn reader.depacketized feed bySource joinStep opened
 worked = refl

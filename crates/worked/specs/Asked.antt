@@ -96,24 +96,6 @@ readSays l = handed (l .answer)
     handed (says r) = bytes (take (r .bytes) (l .out))
     handed (refused r) = refusing r
 
-unfoldable pub blankVp8 : Vp8Packet
-blankVp8 =
-    record {
-      x = 0;
-      n = 0;
-      s = 0;
-      pid = 0;
-      i = 0;
-      l = 0;
-      t = 0;
-      k = 0;
-      «picture_id» = 0;
-      «tl0_pic_idx» = 0;
-      tid = 0;
-      y = 0;
-      «key_idx» = 0;
-    }
-
 abbrev pub pictureSays : List ℕ → reader.Reading → Says
 pictureSays s r = shown (r .said)
   where
@@ -138,5 +120,5 @@ say (packet s) = packetSays s (readPacket s)
 say (written h payload) = writtenSays payload (readHeader h)
 say (send mtu frame) = sentSays (payloadOf (sender.layOut nothingSaved) mtu frame (replicate 64 0) (replicate 8 0))
 say (depacketize s) = readSays (h264.depacketized false 0 s [] (replicate 64 0))
-say (vp8 payloads) = vp8Says blankVp8 payloads
+say (vp8 payloads) = vp8Says reader.blank payloads
 say (join source number s) = joinSays (joinStep (opened source number) s [] (replicate 64 0) .answer)
