@@ -13,11 +13,15 @@ use Rattle.header.specs.Read.{readHeader}
 use Rattle.header.specs.Size.{sizeAsked, lengthAsked}
 use Rattle.header.specs.Write.{writeHeader}
 use Rattle.header.specs.Extension.{setExtension, delExtension, getExtension, getExtensionIds}
-use Rattle.header.specs.Said.{Written, written, changeHeard, idsHeard}
-use Rattle.header.specs.Said.{readingHeard as headerHeard}
+use Rattle.header.specs.Said.{Written, written, changeHeard, idsHeard, readingHeard as headerHeard}
 use Rattle.packet.specs.Read.{readPacket}
 use Rattle.packet.specs.Write.{packetSizeAsked, writePacket}
 use Rattle.packet.specs.Said.{readingHeard as packetHeard}
+use Rattle.vp8.specs.declared.send.Vp8Payloader.{Vp8Payloader}
+use Rattle.vp8.specs.declared.read.Vp8Packet.{Vp8Packet}
+use Rattle.vp8.specs.Send.{Sending, payloaded}
+use Rattle.vp8.specs.Read.{depacketized}
+use Rattle.vp8.specs.Partition.{partitionHead}
 use Rattle.h264.specs.declared.send.H264Payloader.{H264Payloader}
 use Rattle.h264.specs.Groups.{nothingSaved}
 use Rattle.h264.specs.Payload.{Left, layOut, payloadOf}
@@ -25,11 +29,6 @@ use Rattle.h264_packet.specs.declared.H264Packet.{H264Packet}
 use Rattle.h264_packet.specs.Depacketize.{headTest}
 use Rattle.h264_packet.specs.Depacketize.{depacketized as depacketizedBy}
 use Rattle.h264_packet.specs.Said.{Heard, depacketizedHeard}
-use Rattle.vp8.specs.declared.send.Vp8Payloader.{Vp8Payloader}
-use Rattle.vp8.specs.declared.read.Vp8Packet.{Vp8Packet}
-use Rattle.vp8.specs.Send.{Sending, payloaded}
-use Rattle.vp8.specs.Read.{depacketized}
-use Rattle.vp8.specs.Partition.{partitionHead}
 use Rattle.joiner.specs.declared.Joiner.{Joiner}
 use Rattle.joiner.specs.Join.{Stepped, opened, joinStep, closeStep}
 use Rattle.gateway.specs.declared.refused.RtpTest.{RtpTest}

@@ -13,6 +13,7 @@ use Rattle.error.specs.declared.Error.{Error}
 use Rattle.error.specs.declared.Error.the-variants.{ErrHeaderSizeInsufficient, ErrHeaderSizeInsufficientForExtension, ElementPastPacket, ErrShortPacket, ErrBufferTooSmall, GatherTooSmall, OverLimits, OutsideDomain, HeaderExtensionPayloadNot32BitWords, ErrRfc3550headerIdrange, ErrRfc8285oneByteHeaderIdrange, ErrRfc8285oneByteHeaderSize, ErrRfc8285twoByteHeaderIdrange, ErrRfc8285twoByteHeaderSize, ErrHeaderExtensionNotFound, ErrHeaderExtensionsNotEnabled, StapASizeLargerThanBuffer, StapASizeCut, NaluTypeIsNotHandled, OtherSource, StartAndEnd, AlreadyClosed, ClosingTooFar, MissedTotalFull}
 use Rattle.error.specs.Refusal.{refusalOf}
 use Rattle.error.specs.Said.{refused}
+use Rattle.elements.specs.Named.{absent}
 use Rattle.header.specs.declared.Header.{Header}
 use Rattle.header.specs.declared.HeaderRead.{HeaderRead}
 use Rattle.header.specs.declared.HeaderRead.the-variants as head
@@ -24,11 +25,21 @@ use Rattle.header.specs.declared.Got.{Got}
 use Rattle.header.specs.declared.Got.the-variants as got
 use Rattle.header.specs.declared.IdCount.{IdCount}
 use Rattle.header.specs.declared.IdCount.the-variants as ids
-use Rattle.header.specs.Extension.{absent}
 use Rattle.header.specs.Said as header
 use Rattle.packet.specs.declared.PacketRead.{PacketRead}
 use Rattle.packet.specs.declared.PacketRead.the-variants as whole
 use Rattle.packet.specs.Said as packet
+use Rattle.vp8.specs.declared.send.Vp8Payloader.{Vp8Payloader}
+use Rattle.vp8.specs.declared.send.Vp8Answer.{Vp8Answer}
+use Rattle.vp8.specs.declared.send.Vp8Answer.the-variants as sent
+use Rattle.vp8.specs.declared.read.Vp8Packet.{Vp8Packet}
+use Rattle.vp8.specs.declared.read.Vp8Read.{Vp8Read}
+use Rattle.vp8.specs.declared.read.Vp8Read.the-variants as vp8
+use Rattle.vp8.specs.declared.read.Vp8PartitionHead.{Vp8PartitionHead}
+use Rattle.vp8.specs.declared.read.Vp8PartitionHead.the-variants as starts
+use Rattle.vp8.specs.SendAnswer.{saidSent}
+use Rattle.vp8.specs.ReadAnswer as fields
+use Rattle.vp8.specs.Partition.{saidHead}
 use Rattle.h264.specs.declared.send.H264Payloader.{H264Payloader}
 use Rattle.h264.specs.declared.send.Payloads.{Payloads}
 use Rattle.h264.specs.declared.send.Payloads.the-variants as payloads
@@ -36,21 +47,10 @@ use Rattle.h264.specs.Payload as h264
 use Rattle.h264_packet.specs.declared.H264Packet.{H264Packet}
 use Rattle.h264_packet.specs.declared.Depacketize.{Depacketize}
 use Rattle.h264_packet.specs.declared.Depacketize.the-variants as dep
-use Rattle.h264_packet.specs.Depacketize.{Showing, nowhere, in-packet, in-gather, bodyOf}
 use Rattle.h264_packet.specs.declared.Head.{Head}
 use Rattle.h264_packet.specs.declared.Head.the-variants as begins
+use Rattle.h264_packet.specs.Depacketize.{Showing, nowhere, in-packet, in-gather, bodyOf}
 use Rattle.h264_packet.specs.Said as reader
-use Rattle.vp8.specs.declared.send.Vp8Payloader.{Vp8Payloader}
-use Rattle.vp8.specs.declared.send.Vp8Answer.{Vp8Answer}
-use Rattle.vp8.specs.declared.send.Vp8Answer.the-variants as sent
-use Rattle.vp8.specs.SendAnswer.{saidSent}
-use Rattle.vp8.specs.declared.read.Vp8Packet.{Vp8Packet}
-use Rattle.vp8.specs.declared.read.Vp8Read.{Vp8Read}
-use Rattle.vp8.specs.declared.read.Vp8Read.the-variants as vp8
-use Rattle.vp8.specs.declared.read.Vp8PartitionHead.{Vp8PartitionHead}
-use Rattle.vp8.specs.declared.read.Vp8PartitionHead.the-variants as starts
-use Rattle.vp8.specs.ReadAnswer as fields
-use Rattle.vp8.specs.Partition.{saidHead}
 use Rattle.joiner.specs.declared.Joiner.{Joiner}
 use Rattle.joiner.specs.declared.Joined.{Joined}
 use Rattle.joiner.specs.declared.Joined.the-variants as joined

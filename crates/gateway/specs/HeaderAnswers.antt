@@ -2,7 +2,7 @@
 use mathlib.Core.Bool.{Bool, true, false, cond}
 use Prim.Native.Nat.{ℕ}
 use Rattle.error.specs.Said.{Said}
-use Rattle.header.specs.Extension.{Found, absent, at}
+use Rattle.elements.specs.Named.{Found, absent, at}
 use Rattle.header.specs.Said.{Heard, After, Listed}
 use Rattle.gateway.specs.declared.rtp_header.RtpHeaderRead.{RtpHeaderRead}
 use Rattle.gateway.specs.declared.rtp_header.RtpLength.{RtpLength}

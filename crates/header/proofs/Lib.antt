@@ -1,9 +1,7 @@
-pub mod Fields
 pub mod Reading
 pub mod Sizes
 pub mod Octets
 pub mod Writing
-pub mod Runs
 pub mod Changes
 pub mod ReadBack
 pub mod Only

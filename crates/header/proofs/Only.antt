@@ -14,7 +14,12 @@ use Rattle.error.proofs.Only.{by-value, by-view, spoken, Sayable, either, known
 use Rattle.wire.specs.Net.{u16At}
 use Rattle.wire.specs.Part.{padTo}
 use Rattle.wire.specs.Turns.{Turn, more, done, after, run}
-use Rattle.header.specs.declared.Extensions.{Extensions}
+use Rattle.elements.specs.declared.Extensions.{Extensions}
+use Rattle.elements.specs.Elements.{Element, dataOf, roomFor, layElements}
+use Rattle.elements.specs.Named.{Found, absent, find, replace, append}
+use Rattle.elements.specs.Named as named
+use Rattle.block.specs.Read.{Item, pad, stop, past, element, Block, skip, with-element, taken, turn, itemsBy, wholeBlock, readBlock, blockAt}
+use Rattle.block.specs.Form.{Form, one-byte, two-byte, other, formOf}
 use Rattle.header.specs.declared.Header.{Header}
 use Rattle.header.specs.declared.HeaderRead.{HeaderRead}
 use Rattle.header.specs.declared.HeaderRead.the-variants as read
@@ -29,12 +34,11 @@ use Rattle.header.specs.declared.Got.the-variants as got
 use Rattle.header.specs.declared.IdCount.{IdCount}
 use Rattle.header.specs.declared.IdCount.the-variants as ids
 use Rattle.header.specs.declared.Ids.{Ids}
-use Rattle.header.specs.Fields.{Element, dataOf, roomFor, layElements, fieldsOf, blank, inDomain}
-use Rattle.header.specs.Read.{Item, pad, stop, past, element, Block, skip, with-element, taken, turn, itemsBy, wholeBlock, Form, one-byte, two-byte, other, formOf, readBlock, Reading, bit, countOf, fixedLength, readingOf, blockAt, readExtension, readFixed, readHeader}
+use Rattle.header.specs.Fields.{fieldsOf, blank, inDomain}
+use Rattle.header.specs.Read.{Reading, bit, countOf, fixedLength, readingOf, readExtension, readFixed, readHeader}
 use Rattle.header.specs.Size.{payloadLength, headerSize, lengthAsked, sizeAsked}
 use Rattle.header.specs.Write.{octetsOf, inWritingDomain, judged, writeHeader}
-use Rattle.header.specs.Extension as extension
-use Rattle.header.specs.Extension.{Found, absent, find, replace, append, limited, idRefusal, setFound, setLater, setFirst, setExtension, delFound, delExtension, getExtension, getExtensionIds}
+use Rattle.header.specs.Extension.{limited, idRefusal, setFound, setLater, setFirst, setExtension, delFound, delExtension, getExtension, getExtensionIds}
 use Rattle.header.specs.Said.{saidRead, Heard, heard, readingHeard, saidLength, Written, heardWritten, written, saidChange, After, heardChange, changeHeard, saidGot, saidCount, Listed, heardIds, idsHeard}
 
 -- ---- lengths
@@ -254,7 +258,7 @@ id-sayable other id len next s = either {x = next} {y = refuse 10} (eqb id 0) s 
 
 found-sayable : (h : Header) (es : List Element) (id : ℕ) (bytes : List ℕ) (f : Found) → Sayable (setFound h es id bytes f)
 found-sayable h es id bytes absent = limited-sayable (append id bytes es) _
-found-sayable h es id bytes (extension.at place len) = limited-sayable (replace id bytes es) _
+found-sayable h es id bytes (named.at place len) = limited-sayable (replace id bytes es) _
 
 set-sayable : (h : Header) (id : ℕ) (bytes : List ℕ) → Sayable (setExtension h id bytes)
 unfolding setExtension setLater setFirst
@@ -273,7 +277,7 @@ set-extension-only h id bytes = change-only h (setExtension h id bytes) (set-say
 
 deleted-sayable : (h : Header) (es : List Element) (id : ℕ) (f : Found) → Sayable (delFound h es id f)
 deleted-sayable h es id absent = refl
-deleted-sayable h es id (extension.at place len) = refl
+deleted-sayable h es id (named.at place len) = refl
 
 del-sayable : (h : Header) (id : ℕ) → Sayable (delExtension h id)
 unfolding delExtension
@@ -289,7 +293,7 @@ del-extension-only h id = change-only h (delExtension h id) (del-sayable h id)
 
 abbrev gotOf : Said Found → Got
 gotOf (says absent) = got.Absent
-gotOf (says (extension.at place len)) = got.Data place len
+gotOf (says (named.at place len)) = got.Data place len
 gotOf (refused r) = got.Refused (errorOf r)
 
 gotOf-said : (a : Got) → gotOf (saidGot a) ≡ a
@@ -299,7 +303,7 @@ gotOf-said (got.Refused e) = ap got.Refused (errorOf-refusalOf e)
 
 said-gotOf : (x : Said Found) → saidGot (gotOf x) ≡ spoken x
 said-gotOf (says absent) = refl
-said-gotOf (says (extension.at place len)) = refl
+said-gotOf (says (named.at place len)) = refl
 said-gotOf (refused r) = refl
 
 pub get-extension-only : (h : Header) (id : ℕ) → Determined (λ (r : Got). saidGot r ≡ getExtension h id)

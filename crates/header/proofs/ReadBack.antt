@@ -2,8 +2,8 @@
 -- changes what is shown of another id, and both leave a record in the domain. Assumes nothing.
 use mathlib.Core.Path.{_≡_, refl, sym, ap, subst, _∙_}
 use mathlib.Core.Bool.{Bool, true, false, cond, _&&_}
-use mathlib.Core.Logic.{⊎-elim}
 use mathlib.Core.List.{List, [], _∷_, _++_, map, append-nil}
+use mathlib.Core.Logic.{⊎-elim}
 use Prim.Native.Nat.{ℕ, _+_, _-_, _%_, _<_, _≤_}
 use native.Mathlib.Omega.{arith}
 use lib.Dec.{ltb, leb, eqb}
@@ -13,16 +13,21 @@ use borrow.Author.Tests.{leb-true, le-leb, ltb-true, eq-eqb, ne-eqb}
 use Rattle.error.specs.Said.{Said, says, refuse}
 use Rattle.wire.specs.Part.{part, padTo}
 use Rattle.wire.proofs.Part.{length-padTo}
+use Rattle.elements.specs.Elements.{Element, dataOf, sizeOf, sum, elementsOf, layElements}
+use Rattle.elements.specs.Named.{Found, find, replace, remove, append, Absent, First}
+use Rattle.elements.specs.Runs.{Stands, element}
+use Rattle.elements.proofs.Elements.{dataOf-append, take-laid, elementsOf-layElements}
+use Rattle.elements.proofs.Packed.{PackedIn, length-elementsOf, length-dataOf}
+use Rattle.elements.proofs.Runs.{run-data}
+use Rattle.elements.proofs.Changes.{either, one, stands-one, find-first, find-absent, replace-first, remove-first}
+use Rattle.block.specs.Form.{Form, one-byte, two-byte, other, formOf, perElement}
+use Rattle.block.specs.Padding.{grown, shrunk, resized}
+use Rattle.block.proofs.Octets.{both}
 use Rattle.header.specs.declared.Header.{Header}
-use Rattle.header.specs.Fields.{Element, dataOf, sizeOf, sum, elementsOf, layElements, fieldsOf, inDomain}
-use Rattle.header.specs.Read.{Form, one-byte, two-byte, other, formOf}
-use Rattle.header.specs.Size.{perElement}
-use Rattle.header.specs.Extension.{Found, find, replace, remove, append, grown, shrunk, resized, changed, change, idRefusal, setFound, setLater, setFirst, setExtension, delFound, delExtension, getExtension, Absent, First, Held, nothing, holds, lookup, shows}
-use Rattle.header.specs.Runs.{Stands, element}
-use Rattle.header.proofs.Fields.{dataOf-append, take-laid, elementsOf-layElements}
-use Rattle.header.proofs.Sizes.{both, Arrays, PackedIn, packed, limits-of, length-elementsOf, length-dataOf}
-use Rattle.header.proofs.Runs.{run-data}
-use Rattle.header.proofs.Changes.{either, one, stands-one, find-first, find-absent, replace-first, remove-first, get-on}
+use Rattle.header.specs.Fields.{fieldsOf, inDomain}
+use Rattle.header.specs.Extension.{changed, change, idRefusal, setFound, setLater, setFirst, setExtension, delFound, delExtension, getExtension, Held, nothing, holds, lookup, shows}
+use Rattle.header.proofs.Sizes.{Arrays, packed, limits-of}
+use Rattle.header.proofs.Changes.{get-on}
 
 -- the elements of a record
 abbrev pub listed : Header → List Element

@@ -1,33 +1,28 @@
 -- What the arrays of a record in the domain say of its elements: how many there are, how long their data are, and so what a
 -- header's size is, counted from the record. Assumes nothing.
 use mathlib.Core.Path.{_≡_, refl, sym, ap, ap₂, _∙_}
-use mathlib.Core.Bool.{Bool, true, false, cond, _&&_, false≢true}
-use mathlib.Core.List.{List, [], _∷_}
-use Prim.Native.Nat.{ℕ, suc, _+_, _*_, _≤_}
-use native.Mathlib.Nat.{mul-le-mul}
+use mathlib.Core.Bool.{Bool, true, false, cond}
+use mathlib.Core.List.{List}
+use Prim.Native.Nat.{ℕ, _≤_}
 use native.Mathlib.Omega.{arith}
 use lib.Dec.{leb}
-use lib.ListN.{length, take, drop, length-append, length-drop}
+use lib.ListN.{length, take}
 use lib.Seq.{length-take-le}
-use borrow.Author.Tests.{leb-true, ne-eqb}
+use borrow.Author.Tests.{leb-true}
 use Rattle.error.specs.declared.Error.{Error}
 use Rattle.error.specs.Refusal.{Refusal}
 use Rattle.error.specs.Said.{says, refused, refuse}
-use Rattle.header.specs.declared.Extensions.{Extensions}
+use Rattle.elements.specs.Elements.{sum}
+use Rattle.elements.proofs.Packed.{PackedIn, length-elementsOf, length-dataOf}
+use Rattle.block.specs.Form.{lengthFor}
+use Rattle.block.proofs.Octets.{both}
+use Rattle.block.proofs.Form.{heads-few}
 use Rattle.header.specs.declared.Header.{Header}
 use Rattle.header.specs.declared.Length.{Length}
 use Rattle.header.specs.declared.Length.the-variants as len
-use Rattle.header.specs.Fields.{dataOf, unpack, elementsOf, fieldsOf, sum, inLimits, inDomain}
-use Rattle.header.specs.Read.{Form, one-byte, two-byte, other, formOf}
-use Rattle.header.specs.Size.{Packed, perElement, payloadLength, headerSize, lengthFor, sizeFor, lengthAsked, sizeAsked}
-use Rattle.header.specs.Write.{elementsIn}
+use Rattle.header.specs.Fields.{fieldsOf, inLimits, inDomain}
+use Rattle.header.specs.Size.{payloadLength, headerSize, sizeFor, lengthAsked, sizeAsked}
 use Rattle.header.specs.Said.{saidLength}
-
--- ---- the tests of the domain
-
-pub both : (a b : Bool) → (a && b) ≡ true → (a ≡ true) × (b ≡ true)
-both true b e = (refl, e)
-both false b e = absurd (false≢true e)
 
 pub record Limits (n count : ℕ) (lens : List ℕ) (pads : ℕ) : Type 0 where
   pub sources : n ≤ 15
@@ -46,68 +41,6 @@ limits n count lens pads e =
       bytes = leb-true (sum (take count lens)) 1024 (last .0);
       zeros = leb-true pads 262140 (last .1);
     }
-
--- ---- the forms of a profile
-
-pub form-one : {p : ℕ} → p ≡ 0xBEDE → formOf p ≡ one-byte
-form-one e = ap formOf e
-
-pub form-two : {p : ℕ} → p ≡ 0x1000 → formOf p ≡ two-byte
-form-two e = ap formOf e
-
-pub form-other : {p : ℕ} → (p ≡ 0xBEDE → ⊥) → (p ≡ 0x1000 → ⊥) → formOf p ≡ other
-form-other {p} n m = rw (ne-eqb p 0xBEDE n, ne-eqb p 0x1000 m)
-
--- ---- elements read off the arrays
-
-pub length-unpack : (ids lens bytes : List ℕ) → length ids ≡ length lens → length (unpack ids lens bytes) ≡ length ids
-length-unpack [] lens bytes e = refl
-length-unpack (i ∷ ids) [] bytes e = omega arith
-length-unpack (i ∷ ids) (l ∷ lens) bytes e = ap suc (length-unpack ids lens (drop l bytes) (omega arith))
-
-pub length-data : (ids lens bytes : List ℕ) → length ids ≡ length lens → sum lens ≤ length bytes →
-    length (dataOf (unpack ids lens bytes)) ≡ sum lens
-length-data [] [] bytes e h = refl
-length-data [] (l ∷ lens) bytes e h = omega arith
-length-data (i ∷ ids) [] bytes e h = omega arith
-length-data (i ∷ ids) (l ∷ lens) bytes e h =
-    length-append (take l bytes) (dataOf (unpack ids lens (drop l bytes)))
-    ∙ ap₂ (λ (m n : ℕ). m + n) (length-take-le l bytes (omega arith))
-    (length-data ids lens (drop l bytes) (omega arith) (rw length-drop (omega arith)))
-
-module _ (count : ℕ) (ids lens bytes : List ℕ) (p : Packed count ids lens bytes) where
-  many : length (take count ids) ≡ count
-  many = length-take-le count ids (p .places)
-
-  pub as-many : length (take count ids) ≡ length (take count lens)
-  as-many = many ∙ sym (length-take-le count lens (p .lengths))
-
-  pub length-elementsIn : length (elementsIn count ids lens bytes) ≡ count
-  length-elementsIn = length-unpack (take count ids) (take count lens) bytes as-many ∙ many
-
-  pub length-dataIn : length (dataOf (elementsIn count ids lens bytes)) ≡ sum (take count lens)
-  length-dataIn = length-data (take count ids) (take count lens) bytes as-many (p .packed)
-
-abbrev pub PackedIn : Extensions → Type 0
-PackedIn x = Packed (x .count) (x .ids) (x .lens) (x .bytes)
-
-pub length-elementsOf : (x : Extensions) → PackedIn x → length (elementsOf x) ≡ x .count
-unfolding elementsOf
-length-elementsOf x p = length-elementsIn (x .count) (x .ids) (x .lens) (x .bytes) p
-
-pub length-dataOf : (x : Extensions) → PackedIn x → length (dataOf (elementsOf x)) ≡ sum (take (x .count) (x .lens))
-unfolding elementsOf
-length-dataOf x p = length-dataIn (x .count) (x .ids) (x .lens) (x .bytes) p
-
--- ---- sizes counted from the record
-
-pub heads-few : (profile count : ℕ) → count ≤ 32 → count * perElement (formOf profile) ≤ 64
-heads-few profile count h = mul-le-mul h (few (formOf profile))
-  where
-    few : (form : Form) → perElement form ≤ 2
-    few one-byte = omega arith
-    few two-byte = omega arith
-    few other = omega arith
 
 abbrev pub lengthIn : Header → ℕ
 lengthIn h =

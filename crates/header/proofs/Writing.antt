@@ -1,11 +1,11 @@
 -- `writeHeader` counted from the record: its tests one after the other, and its octets part by part. Assumes nothing.
 use mathlib.Core.Path.{_≡_, refl, sym, ap, ap₂, _∙_}
 use mathlib.Core.Bool.{Bool, true, false, cond, _&&_}
-use mathlib.Core.List.{List, [], _∷_, _++_, append-nil}
+use mathlib.Core.List.{List, [], _++_, append-nil}
 use Prim.Native.Nat.{ℕ, _+_, _%_, _<_, _≤_}
 use native.Mathlib.Omega.{arith}
 use lib.Dec.{leb, eqb}
-use lib.ListN.{length, take, drop, length-append, length-drop}
+use lib.ListN.{length, take, length-append}
 use lib.Seq.{length-take-le}
 use borrow.Author.Tests.{lt-ltb, le-ltb, leb-true}
 use Rattle.error.specs.declared.Error.{Error}
@@ -14,31 +14,20 @@ use Rattle.error.specs.Said.{Said, says, refused, refuse}
 use Rattle.wire.specs.Net.{be16, be32}
 use Rattle.wire.specs.Part.{splice}
 use Rattle.wire.proofs.Part.{splice-behind}
+use Rattle.elements.specs.Elements.{elementsOf, elementsIn}
+use Rattle.elements.proofs.Packed.{PackedIn}
+use Rattle.block.specs.Form.{Form, one-byte, two-byte, other, formOf}
+use Rattle.block.specs.Write.{allFit, allWritable, extensionFor}
+use Rattle.block.proofs.Octets.{both, allWritable-fit}
 use Rattle.header.specs.declared.Header.{Header}
 use Rattle.header.specs.declared.Length.{Length}
 use Rattle.header.specs.declared.Length.the-variants as len
-use Rattle.header.specs.Fields.{unpack, elementsOf, fieldsOf, sum, inDomain}
-use Rattle.header.specs.Read.{Form, one-byte, two-byte, other, formOf}
-use Rattle.header.specs.Size.{Packed, payloadLength, headerSize}
-use Rattle.header.specs.Write.{fits, allFit, allWritable, elementsIn, extensionFor, csrcOctets, firstFor, secondFor, fixedFor, octetsOf, judged, inWritingDomain, writeHeader}
+use Rattle.header.specs.Fields.{fieldsOf, inDomain}
+use Rattle.header.specs.Size.{payloadLength, headerSize}
+use Rattle.header.specs.Write.{csrcOctets, firstFor, secondFor, fixedFor, octetsOf, judged, inWritingDomain, writeHeader}
 use Rattle.header.specs.Said.{Written, heardWritten, written}
-use Rattle.header.proofs.Sizes.{never, both, PackedIn, as-many, lengthIn, payload-length, Arrays, LimitsOf, limits-of, packed}
+use Rattle.header.proofs.Sizes.{never, lengthIn, payload-length, Arrays, LimitsOf, limits-of, packed}
 use Rattle.header.proofs.Octets.{length-fixed, octets-fit}
-
--- ---- the domain
-
-fit-unpack : (form : Form) (ids lens bytes : List ℕ) → length ids ≡ length lens → sum lens ≤ length bytes →
-    allWritable form (unpack ids lens bytes) ≡ allFit form ids lens
-fit-unpack form [] lens bytes e h = refl
-fit-unpack form (i ∷ ids) [] bytes e h = refl
-fit-unpack form (i ∷ ids) (l ∷ lens) bytes e h =
-    ap₂ (λ (n : ℕ) (b : Bool). fits form i n && b) (length-take-le l bytes (omega arith))
-    (fit-unpack form ids lens (drop l bytes) (omega arith) (rw length-drop (omega arith)))
-
-pub allWritable-fit : (form : Form) (count : ℕ) (ids lens bytes : List ℕ) → Packed count ids lens bytes →
-    allWritable form (elementsIn count ids lens bytes) ≡ allFit form (take count ids) (take count lens)
-allWritable-fit form count ids lens bytes p =
-    fit-unpack form (take count ids) (take count lens) bytes (as-many count ids lens bytes p) (p .packed)
 
 abbrev pub fitIn : Header → Bool
 fitIn h =

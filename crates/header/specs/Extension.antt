@@ -1,55 +1,19 @@
 -- Setting, getting and deleting an element: "Later sets replace the first element of that id or append. Delete keeps the others'
 -- order. Padding arithmetic is that of 000." Assumes nothing.
-use mathlib.Core.Path.{_≡_}
-use mathlib.Core.Bool.{Bool, true, false, cond, _&&_}
-use mathlib.Core.List.{List, [], _∷_, _++_, map}
-use Prim.Native.Nat.{ℕ, _+_, _-_, _%_}
-use lib.Dec.{ltb, leb, eqb}
+use mathlib.Core.Bool.{true, cond, _&&_}
+use mathlib.Core.List.{List, [], _∷_, map}
+use Prim.Native.Nat.{ℕ, _+_, _%_}
+use lib.Dec.{leb, eqb}
 use lib.ListN.{length}
 use Rattle.error.specs.Said.{Said, says, refused, refuse}
 use Rattle.wire.specs.Part.{part}
-use Rattle.header.specs.declared.Extensions.{Extensions}
+use Rattle.elements.specs.declared.Extensions.{Extensions}
+use Rattle.elements.specs.Elements.{Element, dataOf, layElements}
+use Rattle.elements.specs.Named.{Found, absent, at, find, replace, remove, append}
+use Rattle.block.specs.Form.{Form, one-byte, two-byte, other, formOf, perElement}
+use Rattle.block.specs.Padding.{grown, shrunk, resized}
 use Rattle.header.specs.declared.Header.{Header}
-use Rattle.header.specs.Fields.{Element, Fields, dataOf, fieldsOf, layElements, inDomain}
-use Rattle.header.specs.Read.{Form, one-byte, two-byte, other, formOf}
-use Rattle.header.specs.Size.{perElement}
-
--- ---- the first element of an id
-
--- no element, or one whose data begin at a place of the packed data
-pub data Found : Type 0 where
-  absent : Found
-  at : (place len : ℕ) → Found
-
--- the elements' data begin at `place`
-abbrev pub find : ℕ → ℕ → List Element → Found
-find id place [] = absent
-find id place (e ∷ es) = cond (eqb (e .id) id) (at place (length (e .bytes))) (find id (place + length (e .bytes)) es)
-
-abbrev pub replace : ℕ → List ℕ → List Element → List Element
-replace id bytes [] = []
-replace id bytes (e ∷ es) = cond (eqb (e .id) id) (record { id = id; bytes = bytes } ∷ es) (e ∷ replace id bytes es)
-
-abbrev pub remove : ℕ → List Element → List Element
-remove id [] = []
-remove id (e ∷ es) = cond (eqb (e .id) id) es (e ∷ remove id es)
-
-abbrev pub append : ℕ → List ℕ → List Element → List Element
-append id bytes es = es ++ (record { id = id; bytes = bytes } ∷ [])
-
--- ---- the padding arithmetic of 000
-
--- the block grew by n
-abbrev pub grown : ℕ → ℕ → ℕ
-grown pads n = cond (ltb pads (n % 4)) (pads + 4 - n % 4) (pads - n % 4)
-
--- the block shrank by n
-abbrev pub shrunk : ℕ → ℕ → ℕ
-shrunk pads n = (pads + n) % 4
-
--- data of `new` bytes in the place of `old` bytes
-abbrev pub resized : ℕ → ℕ → ℕ → ℕ
-resized pads old new = cond (ltb new old) (shrunk pads (old - new)) (grown pads (new - old))
+use Rattle.header.specs.Fields.{fieldsOf, inDomain}
 
 -- ---- the changes
 
@@ -114,6 +78,7 @@ setFirst h es id bytes =
     change h (firstProfile (h .«extension_profile») (length bytes)) (append id bytes es)
     (grown (h .«extensions_padding») (length bytes + firstHead (length bytes)))
 
+-- with extensions off a set is the first, with extensions on a later one
 unfoldable pub setExtension : Header → ℕ → List ℕ → Said Header
 setExtension h id bytes =
     cond (inDomain h)
@@ -128,6 +93,7 @@ delFound h es id (at place len) =
     (changed h (h .«extension_profile») (remove id es)
     (shrunk (h .«extensions_padding») ((len + perElement (formOf (h .«extension_profile»))) % 4)))
 
+-- 8, 16, 15 in this order
 unfoldable pub delExtension : Header → ℕ → Said Header
 delExtension h id =
     cond (inDomain h)
@@ -146,22 +112,6 @@ getExtensionIds h =
     cond (inDomain h)
     (says (cond (h .extension) (map (λ (e : Element). e .id) (fieldsOf h .elements)) []))
     (refuse 8)
-
--- ---- what the laws speak of
-
--- no element has the id
-abbrev pub Absent : ℕ → List Element → Type 0
-Absent id [] = Unit
-Absent id (e ∷ es) = (e .id ≡ id → ⊥) × Absent id es
-
--- the first element of an id, the others in front of it and the others behind it
-pub record First (id : ℕ) (es : List Element) : Type 0 where
-  pub front : List Element
-  pub held : Element
-  pub back : List Element
-  pub whole : es ≡ front ++ (held ∷ back)
-  pub others : Absent id front
-  pub named : held .id ≡ id
 
 -- the data held under an id
 pub data Held : Type 0 where

@@ -3,5 +3,4 @@ pub mod Read
 pub mod Size
 pub mod Write
 pub mod Extension
-pub mod Runs
 pub mod Said

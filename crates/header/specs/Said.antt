@@ -1,12 +1,13 @@
 -- What each answer says, in the paper's numbers and values, and the answer that each definition asks for. Assumes nothing.
-use mathlib.Core.Bool.{Bool}
 use mathlib.Core.List.{List, []}
-use Prim.Native.Nat.{ℕ, _-_, _/_, _%_}
+use Prim.Native.Nat.{ℕ, _/_, _%_}
 use lib.ListN.{length, getD}
-use Rattle.error.specs.Refusal.{refusalOf}
 use Rattle.error.specs.Said.{Said, says, refused}
+use Rattle.error.specs.Refusal.{refusalOf}
 use Rattle.wire.specs.Net.{u16At, u32At}
 use Rattle.wire.specs.Part.{padTo, splice}
+use Rattle.elements.specs.declared.Extensions.{Extensions}
+use Rattle.elements.specs.Named.{Found, absent, at}
 use Rattle.header.specs.declared.Header.{Header}
 use Rattle.header.specs.declared.HeaderRead.{HeaderRead}
 use Rattle.header.specs.declared.HeaderRead.the-variants as read
@@ -21,13 +22,8 @@ use Rattle.header.specs.declared.Got.the-variants as got
 use Rattle.header.specs.declared.IdCount.{IdCount}
 use Rattle.header.specs.declared.IdCount.the-variants as ids
 use Rattle.header.specs.declared.Ids.{Ids}
-use Rattle.header.specs.declared.Extensions.{Extensions}
-use Rattle.header.specs.declared.read.Next.{Next}
-use Rattle.header.specs.declared.read.Next.the-variants as next
-use Rattle.header.specs.declared.read.BlockRead.{BlockRead}
-use Rattle.header.specs.Fields.{Fields, layOut, layElements, blank}
-use Rattle.header.specs.Read.{Reading, Item, pad, stop, past, element, Block, bit, csrcsAt}
-use Rattle.header.specs.Extension.{Found, absent, at}
+use Rattle.header.specs.Fields.{layOut, blank}
+use Rattle.header.specs.Read.{Reading, bit, csrcsAt}
 
 -- ---- reading
 
@@ -47,28 +43,6 @@ heard u = record { answer = saidRead (u .read); header = u .header }
 abbrev pub readingHeard : Said Reading → Heard
 readingHeard (says r) = record { answer = says (r .place); header = layOut (r .fields) }
 readingHeard (refused r) = record { answer = refused r; header = blank }
-
--- ---- inside the reader
-
-abbrev pub itemOf : Next → Item
-itemOf next.Pad = pad
-itemOf next.Stop = stop
-itemOf next.Past = past
-itemOf (next.Element head id len) = element head id len
-
-pub record BlockHeard : Type 0 where
-  pub answer : Said ℕ
-  pub list : Extensions
-  pub pads : ℕ
-
-abbrev pub heardBlock : BlockRead → BlockHeard
-heardBlock b = record { answer = saidRead (b .read); list = b .list; pads = b .padding }
-
--- the payload's place in a packet of `n` bytes
-abbrev pub blockHeard : ℕ → Said Block → BlockHeard
-blockHeard n (says b) =
-    record { answer = says (n - length (b .rest)); list = layElements (b .elements); pads = b .pads }
-blockHeard n (refused r) = record { answer = refused r; list = layElements []; pads = 0 }
 
 -- the header in front of a packet's bytes, with extensions that were read already
 unfoldable pub headerAt : List ℕ → ℕ → ℕ → Extensions → ℕ → Header
@@ -126,6 +100,11 @@ heardChange c = record { answer = saidChange (c .change); header = c .header }
 abbrev pub changeHeard : Header → Said Header → After
 changeHeard h (says h′) = record { answer = says tt; header = h′ }
 changeHeard h (refused r) = record { answer = refused r; header = h }
+
+-- what a check says before what follows it
+abbrev pub unless : Said Unit → Said Header → Said Header
+unless (says u) next = next
+unless (refused r) next = refused r
 
 -- ---- looking
 

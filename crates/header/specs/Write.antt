@@ -1,49 +1,21 @@
 -- Writing a header: "The written block leaves extensions_padding out, so fewer bytes than the size may be written; the rest of the
 -- buffer stays." Assumes nothing.
 use mathlib.Core.Bool.{Bool, true, false, cond, _&&_}
-use mathlib.Core.Path.{_≡_}
 use mathlib.Core.List.{List, [], _∷_, _++_}
-use Prim.Native.Nat.{ℕ, _+_, _-_, _*_, _%_}
+use Prim.Native.Nat.{ℕ, _+_, _*_, _%_}
 use lib.Dec.{ltb, leb, eqb}
-use lib.ListN.{length, take, replicate}
+use lib.ListN.{length}
 use Rattle.error.specs.Said.{Said, says, refuse}
 use Rattle.wire.specs.Net.{be16, be32}
-use Rattle.wire.specs.Part.{splice}
+use Rattle.block.specs.Form.{Form, one-byte, two-byte, other, formOf}
+use Rattle.block.specs.Write.{extensionFor, allWritable}
 use Rattle.header.specs.declared.Header.{Header}
-use Rattle.header.specs.Fields.{Element, Fields, unpack, fieldsOf, inDomain}
-use Rattle.header.specs.Read.{Form, one-byte, two-byte, other, formOf}
-use Rattle.header.specs.Size.{payloadLength, wordsFor, headerSize}
-
--- ---- the octets
-
--- what every inner function that writes promises: octets were put at `at` into `buf`, which is now `exit`, and r is the place behind them
-pub record Put (buf : List ℕ) (at : ℕ) (octets : List ℕ) (r : ℕ) (exit : List ℕ) : Type 0 where
-  pub next : r ≡ at + length octets
-  pub buffer : exit ≡ splice buf at octets
+use Rattle.header.specs.Fields.{Fields, fieldsOf, inDomain}
+use Rattle.header.specs.Size.{payloadLength, headerSize}
 
 abbrev pub flag : Bool → ℕ → ℕ
 flag true n = n
 flag false n = 0
-
--- RFC 8285's one-byte element: id and length less one in one byte; its two-byte element: id, length
-abbrev pub elementOctets : Form → Element → List ℕ
-elementOctets one-byte e = (e .id * 16 + (length (e .bytes) - 1)) ∷ e .bytes
-elementOctets two-byte e = e .id ∷ length (e .bytes) ∷ e .bytes
-elementOctets other e = e .bytes
-
-abbrev pub blockOctets : Form → List Element → List ℕ
-blockOctets form [] = []
-blockOctets form (e ∷ es) = elementOctets form e ++ blockOctets form es
-
--- the first `count` elements of the arrays of a record
-abbrev pub elementsIn : ℕ → List ℕ → List ℕ → List ℕ → List Element
-elementsIn count ids lens bytes = unpack (take count ids) (take count lens) bytes
-
--- profile, length in words, elements of `len` bytes with their heads, zeros up to a whole word
-unfoldable pub extensionFor : ℕ → ℕ → List Element → List ℕ
-extensionFor profile len es =
-    be16 profile
-    ++ (be16 (wordsFor len) ++ (blockOctets (formOf profile) es ++ replicate (4 * wordsFor len - len) 0))
 
 abbrev pub extensionOctets : Fields → List ℕ
 extensionOctets f = extensionFor (f .profile) (payloadLength f) (f .elements)
@@ -73,29 +45,9 @@ fixedFor first second number time source csrcs =
 abbrev pub fixedOctets : Fields → List ℕ
 fixedOctets f = fixedFor (firstOctet f) (secondOctet f) (f .number) (f .time) (f .source) (f .csrcs)
 
+-- all that is written for a header
 unfoldable pub octetsOf : Fields → List ℕ
 octetsOf f = fixedOctets f ++ cond (f .extension) (extensionOctets f) []
-
--- ---- the call
-
--- "in the one-byte profile ids 0 to 15 and lengths 1 to 16, in the two-byte profile lengths 0 to 255"
-abbrev pub fits : Form → ℕ → ℕ → Bool
-fits one-byte id len = leb id 15 && (leb 1 len && leb len 16)
-fits two-byte id len = leb len 255
-fits other id len = true
-
-abbrev pub writable : Form → Element → Bool
-writable form e = fits form (e .id) (length (e .bytes))
-
-abbrev pub allWritable : Form → List Element → Bool
-allWritable form [] = true
-allWritable form (e ∷ es) = writable form e && allWritable form es
-
--- the same of elements with these ids and lengths
-abbrev pub allFit : Form → List ℕ → List ℕ → Bool
-allFit form [] lens = true
-allFit form (i ∷ ids) [] = true
-allFit form (i ∷ ids) (l ∷ lens) = fits form i l && allFit form ids lens
 
 -- "A record to be written has version 0 to 3, payload type 0 to 127", by the record's profile whether extensions are on or off
 unfoldable pub inWritingDomain : Header → Bool

@@ -1,182 +1,34 @@
 // Setting, getting and deleting an extension element.
 ghost use mathlib.Core.Path.{_≡_};
 ghost use mathlib.Core.Bool.{true};
-ghost use mathlib.Core.List.{List, [], _∷_};
-ghost use Prim.Native.Nat.{_+_, _-_, _<_, _≤_};
-ghost use lib.ListN.{length, take};
+ghost use mathlib.Core.List.{[], _∷_};
+ghost use lib.ListN.{length};
 ghost use Rattle.error.specs.Refusal.{refusalOf};
 ghost use Rattle.error.specs.Said.{Said, refused};
+ghost use Rattle.elements.specs.Elements.{elementsOf};
+ghost use Rattle.elements.specs.Runs.{Holds, element, replacedAt};
+ghost use Rattle.block.specs.Form.{formOf};
 ghost use Rattle.header.specs.declared.Header.{Header};
-ghost use Rattle.header.specs.Fields.{Element, elementsOf, layElements, sum, inDomain};
-ghost use Rattle.header.specs.Read.{formOf};
-ghost use Rattle.header.specs.Extension.{grown, resized, extended, change, idRefusal, setLater, setFirst, setExtension, find, delExtension, getExtension, getExtensionIds};
-ghost use Rattle.header.specs.Runs.{Shown, Holds, behind, kept, runOf, element, replacedAt, unless};
-ghost use Rattle.header.specs.Said.{saidChange, heardChange, changeHeard, saidGot, heardIds, idsHeard};
+ghost use Rattle.header.specs.Fields.{inDomain};
+ghost use Rattle.header.specs.Extension.{extended, change, idRefusal, setLater, setFirst, setExtension, delExtension, getExtension, getExtensionIds};
+ghost use Rattle.header.specs.Said.{saidChange, heardChange, changeHeard, saidGot, heardIds, idsHeard, unless};
 use crate::Change;
 use crate::Changed;
-use crate::EXTENSION_PROFILE_ONE_BYTE;
-use crate::EXTENSION_PROFILE_TWO_BYTE;
-use crate::Extensions;
 use crate::Got;
 use crate::Header;
 use crate::IdCount;
 use crate::Ids;
-use crate::list::in_limits;
-use crate::list::total;
-use crate::list::wide;
-use crate::size::per_element;
+use crate::limits::in_limits;
+use block::EXTENSION_PROFILE_ONE_BYTE;
+use block::EXTENSION_PROFILE_TWO_BYTE;
+use block::grow;
+use block::per_element;
+use block::resize;
+use elements::Extensions;
+use elements::Run;
+use elements::find;
+use elements::total;
 use error::Error;
-
-// Elements that follow each other: `count` of them from the index `first` on, and their data, `len` bytes from `at` on.
-struct Run {
-    first: usize,
-    count: usize,
-    at: usize,
-    len: usize,
-}
-
-impl Run {
-    // All elements behind these, of `count` in all with `total` data bytes.
-    fn behind(self, count: usize, total: usize) -> Self
-        requires { ⌜ self .first + self .count ≤ count ⌝ }
-        requires { ⌜ count ≤ 32 ⌝ }
-        requires { ⌜ self .at + self .len ≤ total ⌝ }
-        requires { ⌜ total ≤ 1024 ⌝ }
-        ensures { λ r. ⌜ r ≡ behind self count total ⌝ }
-    {
-        let first = self.first + self.count;
-        let at = self.at + self.len;
-        Run {
-            first,
-            count: count - first,
-            at,
-            len: total - at,
-        }
-    }
-}
-
-// The first element of an id; where there is none, no element at the list's end.
-fn find<'a>(id: u8, count: usize, ids: &'a [u8; 32], lens: &'a [u16; 32]) -> Run
-    requires { ⌜ count ≤ 32 ⌝ }
-    ensures { λ r. ⌜ ((es : List Element) → Shown es count (now (ids .entry)) (now (lens .entry)) → r ≡ runOf id 0 0 es) ⌝ }
-{
-    let mut at = 0;
-    let mut i = 0;
-    while i < count {
-        let len = wide(lens[i]);
-        if ids[i] == id {
-            return Run {
-                first: i,
-                count: 1,
-                at,
-                len,
-            };
-        }
-        at += len;
-        i += 1;
-    }
-    Run {
-        first: i,
-        count: 0,
-        at,
-        len: 0,
-    }
-}
-
-impl Extensions {
-    // The run's elements of `old`, behind those of `self` with their `used` data bytes.
-    fn keep(self, used: usize, old: Extensions, run: Run) -> Self
-        requires { ⌜ self .count + run .count ≤ 32 ⌝ }
-        requires { ⌜ used + run .len ≤ 1024 ⌝ }
-        requires { ⌜ run .first + run .count ≤ 32 ⌝ }
-        requires { ⌜ run .at + run .len ≤ 1024 ⌝ }
-        ensures { λ r. ⌜ r ≡ kept self used old run ⌝ }
-    {
-        let old_ids = old.ids;
-        let old_lens = old.lens;
-        let old_bytes = old.bytes;
-        let first = run.first;
-        let more = run.count;
-        let at = run.at;
-        let end = at + run.len;
-        let count = self.count;
-        let mut ids = self.ids;
-        let mut lens = self.lens;
-        let mut bytes = self.bytes;
-        let mut i = 0;
-        while i < more {
-            ids[count + i] = old_ids[first + i];
-            lens[count + i] = old_lens[first + i];
-            i += 1;
-        }
-        wire::copy_at(&old_bytes[at..end], &mut bytes, used);
-        Extensions {
-            count: count + more,
-            ids,
-            lens,
-            bytes,
-        }
-    }
-
-    // The elements in front of the run alone.
-    fn front(self, run: Run) -> Self
-        requires { ⌜ Holds self run ⌝ }
-        ensures { λ r. ⌜ r ≡ layElements (take (run .first) (elementsOf self)) ⌝ }
-    {
-        let before = Run {
-            first: 0,
-            count: run.first,
-            at: 0,
-            len: run.at,
-        };
-        Extensions::new().keep(0, self, before)
-    }
-
-    // One element of `id` with the data in the place of the run.
-    fn replaced(self, run: Run, id: u8, data: &[u8]) -> Self
-        requires { ⌜ Holds self run ⌝ }
-        requires { ⌜ self .count - run .count < 32 ⌝ }
-        requires { ⌜ sum (take (self .count) (self .lens)) - run .len + length (now «data») ≤ 1024 ⌝ }
-        ensures { λ r. ⌜ r ≡ layElements (replacedAt run (element id (now («data» .entry)) ∷ []) (elementsOf self)) ⌝ }
-    {
-        let behind = run.behind(self.count, total(self.count, &self.lens));
-        let put = self.front(run).push(run.at, id, data);
-        put.keep(run.at + data.len(), self, behind)
-    }
-
-    // Nothing in the place of the run.
-    fn without(self, run: Run) -> Self
-        requires { ⌜ Holds self run ⌝ }
-        ensures { λ r. ⌜ r ≡ layElements (replacedAt run [] (elementsOf self)) ⌝ }
-    {
-        let behind = run.behind(self.count, total(self.count, &self.lens));
-        self.front(run).keep(run.at, self, behind)
-    }
-}
-
-// The padding arithmetic of header.rs: the block grew by n.
-fn grow(padding: usize, n: usize) -> usize
-    requires { ⌜ padding ≤ 262140 ⌝ }
-    ensures { λ r. ⌜ r ≡ grown padding n ⌝ }
-{
-    let rest = n % 4;
-    if padding < rest {
-        return padding + 4 - rest;
-    }
-    padding - rest
-}
-
-// Data of `new` bytes came in the place of `old` bytes.
-fn resize(padding: usize, old: usize, new: usize) -> usize
-    requires { ⌜ padding ≤ 262140 ⌝ }
-    requires { ⌜ old ≤ 1024 ⌝ }
-    ensures { λ r. ⌜ r ≡ resized padding old new ⌝ }
-{
-    if new < old {
-        return (padding + (old - new)) % 4;
-    }
-    grow(padding, new - old)
-}
 
 // Whether a later set takes the id and the length.
 fn allowed(profile: u16, id: u8, len: usize) -> Change

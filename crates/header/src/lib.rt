@@ -15,29 +15,15 @@
 use error::Error;
 
 mod extension;
-mod list;
+mod limits;
 mod read;
 mod size;
 mod write;
 
-pub const EXTENSION_PROFILE_ONE_BYTE: u16 = 0xBEDE;
-
-pub const EXTENSION_PROFILE_TWO_BYTE: u16 = 0x1000;
-
-pub const EXTENSION_ID_RESERVED: u8 = 0xF;
-
-// The extension elements, in order.
-#[repr(C)]
-pub struct Extensions {
-    // how many there are: 0 to 32
-    pub count: usize,
-    // the id of each
-    pub ids: [u8; 32],
-    // how many data bytes each has: 1,024 in all at most
-    pub lens: [u16; 32],
-    // the data of all of them, packed in order
-    pub bytes: [u8; 1024],
-}
+pub use block::EXTENSION_ID_RESERVED;
+pub use block::EXTENSION_PROFILE_ONE_BYTE;
+pub use block::EXTENSION_PROFILE_TWO_BYTE;
+pub use elements::Extensions;
 
 #[repr(C)]
 pub struct Header {
@@ -47,17 +33,23 @@ pub struct Header {
     pub padding: bool,
     // the header has an extension block
     pub extension: bool,
+    // M: its meaning is the payload type's
     pub marker: bool,
     // 0 to 127
     pub payload_type: u8,
+    // one more for each packet, modulo 65,536
     pub sequence_number: u16,
+    // when the payload was sampled
     pub timestamp: u32,
+    // the source
     pub ssrc: u32,
     // how many contributing sources there are: 0 to 15
     pub csrc_count: usize,
+    // the contributing sources, then zeros
     pub csrc: [u32; 15],
     // 0xBEDE: one-byte elements; 0x1000: two-byte elements; any other: one element of whole words
     pub extension_profile: u16,
+    // the elements, in order
     pub extensions: Extensions,
     // zeros of the block: as many as were read, or as the size is to count: 0 to 262,140
     pub extensions_padding: usize,

@@ -1,38 +1,13 @@
 // The size of a header.
 ghost use mathlib.Core.Path.{_≡_};
-ghost use Prim.Native.Nat.{_+_, _*_, _≤_};
-ghost use lib.ListN.{take};
-ghost use Rattle.header.specs.Fields.{sum};
-ghost use Rattle.header.specs.Read.{formOf};
-ghost use Rattle.header.specs.Size.{perElement, lengthFor, sizeFor, lengthAsked, sizeAsked};
+ghost use Prim.Native.Nat.{_≤_};
+ghost use Rattle.header.specs.Size.{sizeFor, lengthAsked, sizeAsked};
 ghost use Rattle.header.specs.Said.{saidLength};
-use crate::EXTENSION_PROFILE_ONE_BYTE;
-use crate::EXTENSION_PROFILE_TWO_BYTE;
 use crate::Header;
 use crate::Length;
-use crate::list::in_limits;
-use crate::list::total;
+use crate::limits::in_limits;
+use block::payload_len;
 use error::Error;
-
-// How many bytes an element's head takes.
-pub(crate) fn per_element(profile: u16) -> usize
-    ensures { λ r. ⌜ (r ≡ perElement (formOf profile)) × (r ≤ 2) ⌝ }
-{
-    match profile {
-        EXTENSION_PROFILE_ONE_BYTE => 1,
-        EXTENSION_PROFILE_TWO_BYTE => 2,
-        _ => 0,
-    }
-}
-
-// How many bytes the elements of a record in the domain take with their heads.
-pub(crate) fn payload_len(profile: u16, count: usize, lens: &[u16; 32]) -> usize
-    requires { ⌜ count ≤ 32 ⌝ }
-    requires { ⌜ sum (take count (now lens)) ≤ 1024 ⌝ }
-    ensures { λ r. ⌜ (r ≡ lengthFor profile count (sum (take count (now (lens .entry))))) × (r ≤ 1088) ⌝ }
-{
-    total(count, lens) + count * per_element(profile)
-}
 
 // The size of a record in the domain whose elements take `len` bytes with their heads.
 pub(crate) fn size_of(csrc_count: usize, extension: bool, len: usize, padding: usize) -> usize

@@ -11,15 +11,18 @@ use lib.ListN.{length, take, length-append}
 use lib.Seq.{take-at, drop-at}
 use borrow.Author.Tests.{ne-eqb}
 use Rattle.error.specs.Said.{says, refuse}
-use Rattle.header.specs.Fields.{Element}
-use Rattle.header.specs.Read.{Block, formOf, readBlock, itemsBy, wholeBlock, readHeader}
-use Rattle.header.specs.Read as paper
-use Rattle.header.proofs.Fields.{room, no-room}
-use Rattle.header.proofs.Reading.{block-path}
 use Rattle.rfc3550.specs.Rfc3550.{Fixed, LawfulFixed, Extension, LawfulExtension}
 use Rattle.rfc3550.specs.Rfc3550 as rtp
-use Rattle.rfc3550.proofs.Places.{plain-octets}
 use Rattle.rfc3550.specs.Rfc8285.{Form, one-byte, two-byte, profileOf, Item, Content, laid, other, Plan, Lawful, octets, blockOctets, extensionOf, extensionWith}
+use Rattle.rfc3550.proofs.Places.{plain-octets}
+use Rattle.elements.specs.Elements.{Element}
+use Rattle.elements.proofs.Elements.{room, no-room}
+use Rattle.block.specs.Read.{Block, readBlock, itemsBy, wholeBlock}
+use Rattle.block.specs.Form.{formOf}
+use Rattle.block.specs.Form as forms
+use Rattle.block.specs.Read as paper
+use Rattle.block.proofs.Reading.{block-path}
+use Rattle.header.specs.Read.{readHeader}
 use Rattle.header_rfc.specs.Says.{elementsOf, padsOf, wholeElement, elementsIn, readingOf, Within, Over, PlainForm, Plain, Fits, Complete}
 use Rattle.header_rfc.specs.Taken.{AllTaken}
 use Rattle.header_rfc.proofs.Items.{isTwo, all-taken, now, read-items, read-items-over}
@@ -32,7 +35,7 @@ form-known one-byte p b = refl
 form-known (two-byte appbits) p b = ap (λ (a : ℕ). readBlock (formOf (0x1000 + a)) b) p
 
 -- a profile that the reader takes for neither
-pub form-other : (profile : ℕ) → (profile ≡ 0xBEDE → ⊥) → (profile ≡ 0x1000 → ⊥) → formOf profile ≡ paper.other
+pub form-other : (profile : ℕ) → (profile ≡ 0xBEDE → ⊥) → (profile ≡ 0x1000 → ⊥) → formOf profile ≡ forms.other
 form-other profile a b = rw (ne-eqb profile 0xBEDE a, ne-eqb profile 0x1000 b)
 
 -- ---- a block that is one element
@@ -94,19 +97,19 @@ module _ (f : Fixed) (l : LawfulFixed f) (payload : List ℕ) where
         (form-known form plain (now (blockOctets form is ++ payload) (length (blockOctets form is)) [] 0) ∙ read-items-over form is payload taken o)
 
   -- words of a profile that the reader takes for neither form
-  module _ (profile : ℕ) (words : List ℕ) (unknown : formOf profile ≡ paper.other) (k : LawfulExtension (extensionWith profile words))
+  module _ (profile : ℕ) (words : List ℕ) (unknown : formOf profile ≡ forms.other) (k : LawfulExtension (extensionWith profile words))
       (fits : length (rtp.octets (extended f (extensionWith profile words)) ++ payload) ≤ 65535) where
     pub other-within : Within (wholeElement words ∷ []) →
         readHeader (rtp.octets (extended f (extensionWith profile words)) ++ payload)
         ≡ says (readingAt f true profile (wholeElement words ∷ []) 0 (length (rtp.octets (extended f (extensionWith profile words)))))
     other-within w =
         says-all (extensionWith profile words) k fits (wholeElement words ∷ []) 0
-        (ap (λ (g : paper.Form). readBlock g (now (words ++ payload) (length words) [] 0)) unknown ∙ read-whole words payload w)
+        (ap (λ (g : forms.Form). readBlock g (now (words ++ payload) (length words) [] 0)) unknown ∙ read-whole words payload w)
 
     pub other-over : Over (wholeElement words ∷ []) → readHeader (rtp.octets (extended f (extensionWith profile words)) ++ payload) ≡ refuse 7
     other-over o =
         read-content f l (extensionWith profile words) k payload fits (refuse 7)
-        (ap (λ (g : paper.Form). readBlock g (now (words ++ payload) (length words) [] 0)) unknown ∙ read-whole-over words payload o)
+        (ap (λ (g : forms.Form). readBlock g (now (words ++ payload) (length words) [] 0)) unknown ∙ read-whole-over words payload o)
 
 -- ---- COMPLETE
 

@@ -14,14 +14,15 @@ use borrow.Author.Tests.{eq-eqb, ne-eqb}
 use Rattle.error.specs.Said.{Said, says, refuse}
 use Rattle.wire.specs.Net.{be16}
 use Rattle.wire.proofs.Turns.{run-more, run-done}
-use Rattle.header.specs.Fields.{Element, dataOf, roomFor}
-use Rattle.header.specs.Read.{Block, oneByte, twoByte, itemsBy, taken, turn, readHeader}
-use Rattle.header.specs.Read as paper
-use Rattle.header.proofs.Fields.{dataOf-append}
 use Rattle.rfc3550.specs.Rfc3550.{Fixed, LawfulFixed, Extension, LawfulExtension, fixedOctets, extensionOctets}
 use Rattle.rfc3550.specs.Rfc3550 as rtp
 use Rattle.rfc3550.specs.Rfc8285.{Form, one-byte, two-byte, profileOf, Item, element, headOctets, blockOctets, AllLawful, LawfulElement, extensionWith, Stray, reserved, zero-id, leaves, alone, strayOctets, laid, Plan, Lawful, octets}
 use Rattle.rfc3550.proofs.Places.{extended-octets}
+use Rattle.elements.specs.Elements.{Element, dataOf, roomFor}
+use Rattle.elements.proofs.Elements.{dataOf-append}
+use Rattle.block.specs.Read.{Block, oneByte, twoByte, itemsBy, taken, turn}
+use Rattle.block.specs.Read as paper
+use Rattle.header.specs.Read.{readHeader}
 use Rattle.header_rfc.specs.Says.{elementsOf, padsOf, elementsIn, wholeElement, fieldsWith, readingOf, Within, Over, PlainForm, Plain, AppBits, Fits}
 use Rattle.header_rfc.specs.Taken.{OneTaken, TakenElement, AllTaken, strayed, ReadAs}
 use Rattle.header_rfc.proofs.Items.{headSize, head-some, isTwo, all-taken, lawful-taken, now, reads, turn-seen, past-seen, after-element, full-element, fits-front, not-both, one-more, read-off, read-over, read-end}

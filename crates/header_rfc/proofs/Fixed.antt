@@ -12,13 +12,16 @@ use borrow.Author.Tests.{eq-eqb, ne-eqb}
 use Rattle.error.specs.Said.{Said, says, refused}
 use Rattle.wire.specs.Net.{u16At, u32At, be32}
 use Rattle.wire.proofs.Net.{u32At-drop, u32-of-be32, length-be32}
-use Rattle.header.specs.Fields.{Element, Fields}
-use Rattle.header.specs.Read.{Block, Reading, csrcsAt, countOf, fixedLength, fieldsAt, blockAt, readBlock, formOf, readExtension, readHeader}
-use Rattle.header.specs.Read as paper
-use Rattle.header.proofs.Reading.{block-whole, header-plain, header-extended}
 use Rattle.rfc3550.specs.Rfc3550.{AllBelow, Fixed, LawfulFixed, bit, csrcOctets, fixedOctets, Extension, LawfulExtension, extensionOctets}
 use Rattle.rfc3550.specs.Rfc3550 as rtp
 use Rattle.rfc3550.proofs.Places.{length-fixed, behind-fixed, version-at, padding-at, extension-at, count-at, marker-at, type-at, number-at, time-at, source-at, csrcs-at, length-extension, profile-at, words-at, content-at, extended-octets}
+use Rattle.elements.specs.Elements.{Element}
+use Rattle.block.specs.Read.{Block, blockAt, readBlock}
+use Rattle.block.specs.Form.{formOf}
+use Rattle.header.specs.Fields.{Fields}
+use Rattle.header.specs.Read.{Reading, csrcsAt, countOf, fixedLength, fieldsAt, readExtension, readHeader}
+use Rattle.header.specs.Read as paper
+use Rattle.header.proofs.Reading.{block-whole, header-plain, header-extended}
 use Rattle.header_rfc.specs.Says.{fieldsWith}
 use Rattle.header_rfc.proofs.Items.{now}
 

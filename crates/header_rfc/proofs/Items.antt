@@ -15,12 +15,12 @@ use borrow.Author.Tests.{ne-eqb, le-ltb, lt-ltb}
 use Rattle.error.specs.Said.{Said, says, refuse}
 use Rattle.wire.specs.Turns.{run, more, done}
 use Rattle.wire.proofs.Turns.{run-more, run-done}
-use Rattle.header.specs.Fields.{Element, dataOf, roomFor}
-use Rattle.header.specs.Read.{Block, within, oneByte, twoByte, itemsBy, taken, turn, with-element, skip}
-use Rattle.header.specs.Read as paper
-use Rattle.header.proofs.Fields.{dataOf-append, room, no-room}
-use Rattle.header.proofs.Reading.{block-path, zero-first}
 use Rattle.rfc3550.specs.Rfc8285.{Form, one-byte, two-byte, Item, padding, element, headOctets, blockOctets, LawfulElement, AllLawful}
+use Rattle.elements.specs.Elements.{Element, dataOf, roomFor}
+use Rattle.elements.proofs.Elements.{dataOf-append, room, no-room}
+use Rattle.block.specs.Read.{Block, within, oneByte, twoByte, itemsBy, taken, turn, with-element, skip}
+use Rattle.block.specs.Read as paper
+use Rattle.block.proofs.Reading.{block-path, zero-first}
 use Rattle.header_rfc.specs.Says.{elementsOf, padsOf, Within, Over}
 use Rattle.header_rfc.specs.Taken.{TakenElement, AllTaken}
 

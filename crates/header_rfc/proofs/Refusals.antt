@@ -12,14 +12,17 @@ use lib.ListN.{length, take, drop}
 use borrow.Author.Tests.{eq-eqb}
 use Rattle.error.specs.Said.{Said, says, refused, refuse}
 use Rattle.wire.specs.Turns.{Turn, more, done, after, run}
-use Rattle.header.specs.Fields.{roomFor}
-use Rattle.header.specs.Read.{Block, Reading, itemsBy, taken, turn, skip, padded, with-element, formOf, readBlock, wholeBlock, readHeader}
-use Rattle.header.specs.Read as paper
 use Rattle.rfc3550.specs.Rfc3550.{Octets, Fixed, Extension, LawfulPart, Begins, CutShort, fixed-cut, csrcs-cut, head-cut, content-cut}
 use Rattle.rfc3550.specs.Rfc3550 as rtp
 use Rattle.rfc3550.specs.Rfc8285.{Form, one-byte, two-byte}
 use Rattle.rfc3550.proofs.Places.{plain-octets}
 use Rattle.rfc3550.proofs.Parse.{begins-or-cut}
+use Rattle.elements.specs.Elements.{roomFor}
+use Rattle.block.specs.Read.{Block, itemsBy, taken, turn, skip, padded, with-element, readBlock, wholeBlock}
+use Rattle.block.specs.Form.{formOf}
+use Rattle.block.specs.Form as forms
+use Rattle.block.specs.Read as paper
+use Rattle.header.specs.Read.{Reading, readHeader}
 use Rattle.header_rfc.specs.Says.{Fits}
 use Rattle.header_rfc.proofs.Items.{isTwo, now, reads, turn-seen}
 use Rattle.header_rfc.proofs.Fixed.{readingAt, around, extended, read-plain, read-content}
@@ -88,10 +91,10 @@ in-whole b = room (roomFor (b .elements) (b .left)) refl
     room true r = inl (ap (λ (t : Bool). numberIn (cond t (says longer) (refuse 7))) r)
     room false r = inr (inr (ap (λ (t : Bool). numberIn (cond t (says longer) (refuse 7))) r))
 
-pub in-block : (g : paper.Form) (b : Block) → Block37 (readBlock g b)
-in-block paper.one-byte b = in-turns one-byte (b .left + 1) b
-in-block paper.two-byte b = in-turns (two-byte 0) (b .left + 1) b
-in-block paper.other b = in-whole b
+pub in-block : (g : forms.Form) (b : Block) → Block37 (readBlock g b)
+in-block forms.one-byte b = in-turns one-byte (b .left + 1) b
+in-block forms.two-byte b = in-turns (two-byte 0) (b .left + 1) b
+in-block forms.other b = in-whole b
 
 -- ---- the whole header
 

@@ -8,16 +8,18 @@ use Prim.Native.Nat.{ℕ, _+_, _-_, _*_, _/_, _<_, _≤_}
 use native.Mathlib.Omega.{arith}
 use lib.ListN.{length, getD, replicate, length-append, length-replicate}
 use Rattle.error.specs.Said.{says}
-use Rattle.header.specs.Fields.{Element, Fields}
-use Rattle.header.specs.Read.{formOf, readHeader}
-use Rattle.header.specs.Read as paper
-use Rattle.header.specs.Size.{wordsFor}
-use Rattle.header.specs.Write.{octetsOf}
-use Rattle.header.specs.Write as written
 use Rattle.rfc3550.specs.Rfc3550.{Fixed, Extension, LawfulExtension}
 use Rattle.rfc3550.specs.Rfc3550 as rtp
-use Rattle.rfc3550.proofs.Places.{version-at}
 use Rattle.rfc3550.specs.Rfc8285.{Form, one-byte, two-byte, profileOf, padding, element, AllLawful, itemOctets, blockOctets, Content, laid, other, extensionIn, extensionWith, Plan, Lawful, LawfulPart, octets, reserved}
+use Rattle.rfc3550.proofs.Places.{version-at}
+use Rattle.elements.specs.Elements.{Element}
+use Rattle.block.specs.Form.{formOf, wordsFor}
+use Rattle.block.specs.Form as forms
+use Rattle.block.specs.Write as blocks
+use Rattle.header.specs.Fields.{Fields}
+use Rattle.header.specs.Read.{readHeader}
+use Rattle.header.specs.Write.{octetsOf}
+use Rattle.header.specs.Write as written
 use Rattle.header_rfc.specs.Says.{elementsOf, padsOf, fieldsIn, fieldsWith, Within, PlainForm, Plain, Fits}
 use Rattle.header_rfc.specs.Taken.{AllTaken, strayed, ReadAs}
 use Rattle.header_rfc.specs.RoundTrip.{Writable, AllKept, readBack, Trailing, itemsFor, itemsWith}
@@ -52,44 +54,44 @@ written-again p l plain t = go (p .content) (l .content) (l .header .extension) 
         let es : List Element = u .0 in
         let z : ℕ = u .1 in
         let elements : elementsOf is ≡ es = ap elementsOf (u .2) ∙ elements-with es z in
-        let block : blockOctets form is ≡ written.blockOctets (inPaper form) es ++ replicate z 0 = ap (blockOctets form) (u .2) ∙ octets-with form es z in
+        let block : blockOctets form is ≡ blocks.blockOctets (inPaper form) es ++ replicate z 0 = ap (blockOctets form) (u .2) ∙ octets-with form es z in
         let long : length (blockOctets form is) ≡ packedLength (inPaper form) es + z =
-        ap length block ∙ length-append (written.blockOctets (inPaper form) es) (replicate z 0)
+        ap length block ∙ length-append (blocks.blockOctets (inPaper form) es) (replicate z 0)
         ∙ ap₂ _+_ (block-length (inPaper form) es) (length-replicate {A = ℕ} z 0) in
         let fill : z ≡ zerosFor (inPaper form) es =
         zeros-told (packedLength (inPaper form) es) z (length (blockOctets form is) / 4) (sym long ∙ k .content) (u .3) in
         octets-extended (fieldsIn (record { fixed = f; content = some (laid form is) })) (inPaper form) refl (form-again form q)
         ∙ ap (λ (s : List ℕ). rtp.octets (extended f (extensionWith (profileOf form) s)))
         (ap (filled (inPaper form)) elements
-        ∙ ap (λ (n : ℕ). written.blockOctets (inPaper form) es ++ replicate n 0) (sym fill)
+        ∙ ap (λ (n : ℕ). blocks.blockOctets (inPaper form) es ++ replicate n 0) (sym fill)
         ∙ sym block)
     go (some (other profile words)) m k q u =
-        octets-extended (fieldsIn (record { fixed = f; content = some (other profile words) })) paper.other refl
+        octets-extended (fieldsIn (record { fixed = f; content = some (other profile words) })) forms.other refl
         (form-other profile (m .0) (λ e. m .1 (omega arith)))
         ∙ ap (λ (s : List ℕ). rtp.octets (extended f (extensionWith profile s))) (filled-words words (omega (arith, k .content)))
 
 -- ---- id 15, written
 
-block-append : (g : paper.Form) (es fs : List Element) → written.blockOctets g (es ++ fs) ≡ written.blockOctets g es ++ written.blockOctets g fs
+block-append : (g : forms.Form) (es fs : List Element) → blocks.blockOctets g (es ++ fs) ≡ blocks.blockOctets g es ++ blocks.blockOctets g fs
 block-append g [] fs = refl
 block-append g (e ∷ es) fs =
-    ap (λ (s : List ℕ). written.elementOctets g e ++ s) (block-append g es fs)
-    ∙ sym (append-assoc (written.elementOctets g e) (written.blockOctets g es) (written.blockOctets g fs))
+    ap (λ (s : List ℕ). blocks.elementOctets g e ++ s) (block-append g es fs)
+    ∙ sym (append-assoc (blocks.elementOctets g e) (blocks.blockOctets g es) (blocks.blockOctets g fs))
 
 -- elements without padding behind them
 items-alone : (es : List Element) → itemsWith es 0 ≡ itemsFor es
 items-alone es = append-nil (itemsFor es)
 
-octets-alone : (form : Form) (es : List Element) → written.blockOctets (inPaper form) es ≡ blockOctets form (itemsFor es)
+octets-alone : (form : Form) (es : List Element) → blocks.blockOctets (inPaper form) es ≡ blockOctets form (itemsFor es)
 octets-alone form es =
-    sym (append-nil (written.blockOctets (inPaper form) es)) ∙ sym (octets-with form es 0) ∙ ap (blockOctets form) (items-alone es)
+    sym (append-nil (blocks.blockOctets (inPaper form) es)) ∙ sym (octets-with form es 0) ∙ ap (blockOctets form) (items-alone es)
 
 -- RFC 8285 4.2: an element of id 15 is written; the elements before it read back, and it is payload with all that was written behind it
 pub fifteen-written : (f : Fields) → Writable f → f .extension ≡ true → f .profile ≡ 0xBEDE → (es fs : List Element) (bytes : List ℕ) →
     f .elements ≡ es ++ (record { id = 15; bytes = bytes } ∷ fs) → AllKept 14 1 16 es → length bytes ≤ 16 →
     (payload : List ℕ) → Fits (octetsOf f ++ payload) →
     ReadAs (octetsOf f ++ payload) (fixedFor f) 0xBEDE es 0
-    (bytes ++ (written.blockOctets paper.one-byte fs ++ replicate (zerosFor paper.one-byte (f .elements)) 0) ++ payload)
+    (bytes ++ (blocks.blockOctets forms.one-byte fs ++ replicate (zerosFor forms.one-byte (f .elements)) 0) ++ payload)
 fifteen-written f w on p es fs bytes at k most payload fits =
     subst (λ (s : List ℕ). ReadAs (s ++ payload) (fixedFor f) 0xBEDE es 0 (rest ++ payload)) (sym same)
     (subst (λ (l : List Element). ReadAs (cut-octets ++ payload) (fixedFor f) 0xBEDE l 0 (rest ++ payload)) elements
@@ -97,15 +99,15 @@ fifteen-written f w on p es fs bytes at k most payload fits =
     (reserved-read (fixedFor f) (itemsFor es) (length bytes - 1) rest payload
     (subst (AllLawful one-byte) (items-alone es) (lawful-items one-byte es 0 k))
     (omega arith)
-    (record { fixed = fixed-lawful f w; extension = subst LawfulExtension lay (filled-lawful paper.one-byte (f .profile) (f .elements) (w .profile) (w .within)) })
+    (record { fixed = fixed-lawful f w; extension = subst LawfulExtension lay (filled-lawful forms.one-byte (f .profile) (f .elements) (w .profile) (w .within)) })
     (subst (λ (s : List ℕ). Fits (s ++ payload)) same fits)
     (subst Within (sym elements) (within-front es (record { id = 15; bytes = bytes } ∷ fs) (subst Within at (w .within)))))))
   where
     zeros : List ℕ
-    zeros = replicate (zerosFor paper.one-byte (f .elements)) 0
+    zeros = replicate (zerosFor forms.one-byte (f .elements)) 0
 
     rest : List ℕ
-    rest = bytes ++ (written.blockOctets paper.one-byte fs ++ zeros)
+    rest = bytes ++ (blocks.blockOctets forms.one-byte fs ++ zeros)
 
     cut-octets : List ℕ
     cut-octets = rtp.octets (strayed (fixedFor f) one-byte (itemsFor es) (reserved (length bytes - 1) rest))
@@ -116,24 +118,24 @@ fifteen-written f w on p es fs bytes at k most payload fits =
     pads : padsOf (itemsFor es) ≡ 0
     pads = ap padsOf (sym (items-alone es)) ∙ pads-with es 0
 
-    content : filled paper.one-byte (f .elements) ≡ blockOctets one-byte (itemsFor es) ++ ((15 * 16 + (length bytes - 1)) ∷ rest)
+    content : filled forms.one-byte (f .elements) ≡ blockOctets one-byte (itemsFor es) ++ ((15 * 16 + (length bytes - 1)) ∷ rest)
     content =
         ap (λ (s : List ℕ). s ++ zeros)
-        (ap (written.blockOctets paper.one-byte) at
-        ∙ block-append paper.one-byte es (record { id = 15; bytes = bytes } ∷ fs)
-        ∙ ap (λ (s : List ℕ). s ++ (((15 * 16 + (length bytes - 1)) ∷ bytes) ++ written.blockOctets paper.one-byte fs)) (octets-alone one-byte es))
+        (ap (blocks.blockOctets forms.one-byte) at
+        ∙ block-append forms.one-byte es (record { id = 15; bytes = bytes } ∷ fs)
+        ∙ ap (λ (s : List ℕ). s ++ (((15 * 16 + (length bytes - 1)) ∷ bytes) ++ blocks.blockOctets forms.one-byte fs)) (octets-alone one-byte es))
         ∙ regroup
       where
-        regroup : blockOctets one-byte (itemsFor es) ++ ((15 * 16 + (length bytes - 1)) ∷ (bytes ++ written.blockOctets paper.one-byte fs)) ++ zeros
+        regroup : blockOctets one-byte (itemsFor es) ++ ((15 * 16 + (length bytes - 1)) ∷ (bytes ++ blocks.blockOctets forms.one-byte fs)) ++ zeros
             ≡ blockOctets one-byte (itemsFor es) ++ ((15 * 16 + (length bytes - 1)) ∷ rest)
         regroup = simp append-assoc
 
-    lay : extensionWith (f .profile) (filled paper.one-byte (f .elements))
+    lay : extensionWith (f .profile) (filled forms.one-byte (f .elements))
         ≡ extensionWith 0xBEDE (blockOctets one-byte (itemsFor es) ++ ((15 * 16 + (length bytes - 1)) ∷ rest))
     lay = ap₂ extensionWith p content
 
     same : octetsOf f ≡ cut-octets
-    same = octets-extended f paper.one-byte on (ap formOf p) ∙ ap (λ (x : Extension). rtp.octets (extended (fixedFor f) x)) lay
+    same = octets-extended f forms.one-byte on (ap formOf p) ∙ ap (λ (x : Extension). rtp.octets (extended (fixedFor f) x)) lay
 
 -- ---- id 0, written
 
@@ -151,7 +153,7 @@ pub zero-reads-back : (f : Fields) → Writable f → f .extension ≡ true → 
     (payload : List ℕ) → Fits (octetsOf f ++ payload) →
     readHeader (octetsOf f ++ payload) ≡ says (record { fields = readBack f; place = length (octetsOf f) })
 zero-reads-back f w on p t payload fits =
-    back-laid f w payload fits one-byte tt on p (ap formOf p) (taken-with one-byte (f .elements) (zerosFor paper.one-byte (f .elements)) t)
+    back-laid f w payload fits one-byte tt on p (ap formOf p) (taken-with one-byte (f .elements) (zerosFor forms.one-byte (f .elements)) t)
 
 -- ---- RFC 3550 5.1, the version
 

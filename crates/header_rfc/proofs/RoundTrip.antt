@@ -9,15 +9,17 @@ use native.Mathlib.Decide.{ℕ-discrete}
 use native.Mathlib.Omega.{arith}
 use lib.ListN.{length, replicate}
 use Rattle.error.specs.Said.{says}
-use Rattle.header.specs.Fields.{Element, Fields, dataOf}
-use Rattle.header.specs.Read.{Reading, formOf, readHeader}
-use Rattle.header.specs.Read as paper
-use Rattle.header.specs.Size.{payloadLength, wordsFor}
-use Rattle.header.specs.Write.{octetsOf}
 use Rattle.rfc3550.specs.Rfc3550.{Extension, LawfulExtension}
 use Rattle.rfc3550.specs.Rfc3550 as rtp
-use Rattle.rfc3550.proofs.Places.{plain-octets}
 use Rattle.rfc3550.specs.Rfc8285.{Form, one-byte, two-byte, LawfulForm, profileOf, Item, padding, highestId, leastData, mostData, AllLawful, laid, other, extensionOf, extensionWith}
+use Rattle.rfc3550.proofs.Places.{plain-octets}
+use Rattle.elements.specs.Elements.{Element, dataOf}
+use Rattle.block.specs.Form.{formOf, wordsFor}
+use Rattle.block.specs.Form as forms
+use Rattle.header.specs.Fields.{Fields}
+use Rattle.header.specs.Read.{Reading, readHeader}
+use Rattle.header.specs.Size.{payloadLength}
+use Rattle.header.specs.Write.{octetsOf}
 use Rattle.header_rfc.specs.Says.{elementsOf, padsOf, wholeElement, fieldsWith, PlainForm, AppBits, Fits}
 use Rattle.header_rfc.specs.Taken.{AllTaken}
 use Rattle.header_rfc.specs.RoundTrip.{Writable, AllKept, KeptIn, KeptBy, ReadsBack, zerosWritten, readBack, WrittenAs, itemsFor, itemsWith}
@@ -31,7 +33,7 @@ use Rattle.header_rfc.proofs.Written.{fixedFor, fixed-lawful, inPaper, 
 pub data Known (profile : ℕ) : Type 0 where
   is-one-byte : profile ≡ 0xBEDE → Known profile
   is-two-byte : profile ≡ 0x1000 → Known profile
-  is-other : formOf profile ≡ paper.other → (profile ≡ 0xBEDE → ⊥) → (profile ≡ 0x1000 → ⊥) → Known profile
+  is-other : formOf profile ≡ forms.other → (profile ≡ 0xBEDE → ⊥) → (profile ≡ 0x1000 → ⊥) → Known profile
 
 pub known : (profile : ℕ) → Known profile
 known profile =
@@ -69,12 +71,12 @@ no-zeros : (f : Fields) → f .extension ≡ false → 0 ≡ zerosWritten f
 unfolding zerosWritten
 no-zeros f off = sym (ap (λ (b : Bool). cond b (4 * wordsFor (payloadLength f) - payloadLength f) 0) off)
 
-zeros-filled : (f : Fields) (g : paper.Form) → f .extension ≡ true → formOf (f .profile) ≡ g → zerosFor g (f .elements) ≡ zerosWritten f
+zeros-filled : (f : Fields) (g : forms.Form) → f .extension ≡ true → formOf (f .profile) ≡ g → zerosFor g (f .elements) ≡ zerosWritten f
 unfolding zerosWritten payloadLength
 zeros-filled f g on e =
     sym
     (ap (λ (b : Bool). cond b (4 * wordsFor (payloadLength f) - payloadLength f) 0) on
-    ∙ ap (λ (h : paper.Form). zerosFor h (f .elements)) e)
+    ∙ ap (λ (h : forms.Form). zerosFor h (f .elements)) e)
 
 -- ---- the plan of a record
 
@@ -102,26 +104,26 @@ module _ (f : Fields) (w : Writable f) (form : Form) (on : f .extension ≡ true
       (pads-with (f .elements) (zerosFor (inPaper form) (f .elements)) ∙ zeros-filled f (inPaper form) on g)
 
 -- one element of whole words
-module _ (f : Fields) (w : Writable f) (words : List ℕ) (on : f .extension ≡ true) (g : formOf (f .profile) ≡ paper.other)
+module _ (f : Fields) (w : Writable f) (words : List ℕ) (on : f .extension ≡ true) (g : formOf (f .profile) ≡ forms.other)
     (e : f .elements ≡ wholeElement words ∷ []) (m : length words % 4 ≡ 0) where
-  all : filled paper.other (f .elements) ≡ words
-  all = ap (filled paper.other) e ∙ filled-words words m
+  all : filled forms.other (f .elements) ≡ words
+  all = ap (filled forms.other) e ∙ filled-words words m
 
   pub other-same : octetsOf f ≡ rtp.octets (extended (fixedFor f) (extensionWith (f .profile) words))
   other-same =
-      octets-extended f paper.other on g
+      octets-extended f forms.other on g
       ∙ ap (λ (s : List ℕ). rtp.octets (extended (fixedFor f) (extensionWith (f .profile) s))) all
 
   pub other-lawful : LawfulExtension (extensionWith (f .profile) words)
   other-lawful =
       subst (λ (s : List ℕ). LawfulExtension (extensionWith (f .profile) s)) all
-      (filled-lawful paper.other (f .profile) (f .elements) (w .profile) (w .within))
+      (filled-lawful forms.other (f .profile) (f .elements) (w .profile) (w .within))
 
   pub other-said : (n : ℕ) → readingAt (fixedFor f) true (f .profile) (wholeElement words ∷ []) 0 n ≡ record { fields = readBack f; place = n }
   other-said n =
       let long : length (dataOf (f .elements)) ≡ length words = ap (λ (es : List Element). length (dataOf es)) e ∙ ap length (append-nil words) in
-      let none-left : 0 ≡ zerosFor paper.other (f .elements) = omega arith in
-      reading-back f true (f .profile) (wholeElement words ∷ []) 0 n (sym on) refl (sym e) (none-left ∙ zeros-filled f paper.other on g)
+      let none-left : 0 ≡ zerosFor forms.other (f .elements) = omega arith in
+      reading-back f true (f .profile) (wholeElement words ∷ []) 0 n (sym on) refl (sym e) (none-left ∙ zeros-filled f forms.other on g)
 
 -- no extension
 pub plain-said : (f : Fields) → f .extension ≡ false → f .profile ≡ 0 → f .elements ≡ [] → (n : ℕ) →
@@ -158,7 +160,7 @@ module _ (f : Fields) (w : Writable f) (payload : List ℕ) (fits : Fits (octets
       (rw (laid-elements f w form on p g) (w .within))
       ∙ ap says (laid-said f w form on p g (length s)))
 
-  pub back-other : (words : List ℕ) → f .extension ≡ true → formOf (f .profile) ≡ paper.other → f .elements ≡ wholeElement words ∷ [] →
+  pub back-other : (words : List ℕ) → f .extension ≡ true → formOf (f .profile) ≡ forms.other → f .elements ≡ wholeElement words ∷ [] →
       length words % 4 ≡ 0 → Back
   back-other words on g e m =
       let s : List ℕ = rtp.octets (extended (fixedFor f) (extensionWith (f .profile) words)) in
@@ -192,12 +194,12 @@ round-trip f w r payload fits = go (f .extension) refl r
     on-known : Known (f .profile) → f .extension ≡ true → KeptIn (formOf (f .profile)) (f .elements) →
         readHeader (octetsOf f ++ payload) ≡ says (record { fields = readBack f; place = length (octetsOf f) })
     on-known (is-one-byte p) on k =
-        back-laid f w payload fits one-byte tt on p (ap formOf p) (all-taken one-byte (itemsIn one-byte (f .elements)) (lawful-items one-byte (f .elements) (zerosFor paper.one-byte (f .elements)) (rw p at k)))
+        back-laid f w payload fits one-byte tt on p (ap formOf p) (all-taken one-byte (itemsIn one-byte (f .elements)) (lawful-items one-byte (f .elements) (zerosFor forms.one-byte (f .elements)) (rw p at k)))
     on-known (is-two-byte p) on k =
-        back-laid f w payload fits (two-byte 0) refl on p (ap formOf p) (all-taken (two-byte 0) (itemsIn (two-byte 0) (f .elements)) (lawful-items (two-byte 0) (f .elements) (zerosFor paper.two-byte (f .elements)) (rw p at k)))
+        back-laid f w payload fits (two-byte 0) refl on p (ap formOf p) (all-taken (two-byte 0) (itemsIn (two-byte 0) (f .elements)) (lawful-items (two-byte 0) (f .elements) (zerosFor forms.two-byte (f .elements)) (rw p at k)))
     on-known (is-other g a b) on k = whole (rw g at k)
       where
-        whole : KeptIn paper.other (f .elements) →
+        whole : KeptIn forms.other (f .elements) →
             readHeader (octetsOf f ++ payload) ≡ says (record { fields = readBack f; place = length (octetsOf f) })
         whole k = back-other f w payload fits (k .0) on g (k .1) (k .2)
 
@@ -226,7 +228,7 @@ writer f w r bits = go (f .extension) refl r
           said = ap (λ (t : Reading). t .fields) (laid-said f w form on p g 0);
         }
 
-    lawful-other : (words : List ℕ) → f .extension ≡ true → formOf (f .profile) ≡ paper.other → f .elements ≡ wholeElement words ∷ [] →
+    lawful-other : (words : List ℕ) → f .extension ≡ true → formOf (f .profile) ≡ forms.other → f .elements ≡ wholeElement words ∷ [] →
         length words % 4 ≡ 0 → (f .profile ≡ 0xBEDE → ⊥) → (f .profile ≡ 0x1000 → ⊥) → WrittenAs f
     lawful-other words on g e m a b =
         record {
@@ -244,7 +246,7 @@ writer f w r bits = go (f .extension) refl r
     on-known (is-two-byte p) on k = lawful-laid (two-byte 0) (omega arith) on p (ap formOf p) (rw p at k)
     on-known (is-other g a b) on k = whole (rw g at k)
       where
-        whole : KeptIn paper.other (f .elements) → WrittenAs f
+        whole : KeptIn forms.other (f .elements) → WrittenAs f
         whole k = lawful-other (k .0) on g (k .1) (k .2) a b
 
     go : (x : Bool) → f .extension ≡ x → KeptBy x (f .profile) (f .elements) → WrittenAs f

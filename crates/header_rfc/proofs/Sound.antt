@@ -12,9 +12,6 @@ use native.Mathlib.Omega.{arith}
 use lib.ListN.{length}
 use Rattle.error.specs.Said.{Said, says, refused, refuse}
 use Rattle.wire.specs.Net.{be16}
-use Rattle.header.specs.Fields.{Element, Fields, dataOf}
-use Rattle.header.specs.Read.{Block, Reading, formOf, readBlock, readHeader}
-use Rattle.header.proofs.Reading.{header-long, header-short, header-cut, header-extended, extension-cut, block-cut}
 use Rattle.rfc3550.specs.Rfc3550.{Octets, Fixed, LawfulFixed, Extension, LawfulExtension, extensionOctets, fixedOctets, LawfulPart, Begins, CutShort, fixed-cut, csrcs-cut, head-cut, content-cut}
 use Rattle.rfc3550.specs.Rfc3550 as rtp
 use Rattle.rfc3550.specs.Rfc8285.{one-byte, two-byte, Content, laid, other, LawfulContent, Plan, Lawful, octets, extensionOf, Conforms, Strays}
@@ -22,6 +19,12 @@ use Rattle.rfc3550.proofs.Octets.{below-left, below-right}
 use Rattle.rfc3550.proofs.Places.{extended-octets}
 use Rattle.rfc3550.proofs.Parse.{begins-or-cut}
 use Rattle.rfc3550.proofs.Blocks.{conforms-or-strays}
+use Rattle.elements.specs.Elements.{Element, dataOf}
+use Rattle.block.specs.Read.{Block, readBlock}
+use Rattle.block.specs.Form.{formOf}
+use Rattle.header.specs.Fields.{Fields}
+use Rattle.header.specs.Read.{Reading, readHeader}
+use Rattle.header.proofs.Reading.{header-long, header-short, header-cut, header-extended, extension-cut, block-cut}
 use Rattle.header_rfc.specs.Says.{elementsIn, fieldsWith, readingOf, Within, Over, Plain, AppBits, Fits, Conforming, Deviating, Sound}
 use Rattle.header_rfc.proofs.Items.{now}
 use Rattle.header_rfc.proofs.Fixed.{readingAt, extended, read-content}

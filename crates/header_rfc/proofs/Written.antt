@@ -9,16 +9,18 @@ use native.Mathlib.Omega.{arith}
 use native.Mathlib.Nat.{suc-mul}
 use lib.ListN.{length, replicate, length-append, length-replicate}
 use Rattle.wire.specs.Net.{be16, be32}
-use Rattle.header.specs.Fields.{Element, Fields, dataOf}
-use Rattle.header.specs.Read.{formOf}
-use Rattle.header.specs.Read as paper
-use Rattle.header.specs.Size.{perElement, payloadLength, wordsFor}
-use Rattle.header.specs.Write.{flag, octetsOf}
-use Rattle.header.specs.Write as written
 use Rattle.rfc3550.specs.Rfc3550.{Fixed, LawfulFixed, bit, LawfulExtension}
 use Rattle.rfc3550.specs.Rfc3550 as rtp
-use Rattle.rfc3550.proofs.Places.{plain-octets}
 use Rattle.rfc3550.specs.Rfc8285.{Form, one-byte, two-byte, Item, padding, blockOctets, extensionWith}
+use Rattle.rfc3550.proofs.Places.{plain-octets}
+use Rattle.elements.specs.Elements.{Element, dataOf}
+use Rattle.block.specs.Form.{formOf, perElement, wordsFor}
+use Rattle.block.specs.Form as forms
+use Rattle.block.specs.Write as blocks
+use Rattle.header.specs.Fields.{Fields}
+use Rattle.header.specs.Size.{payloadLength}
+use Rattle.header.specs.Write.{flag, octetsOf}
+use Rattle.header.specs.Write as written
 use Rattle.header_rfc.specs.Says.{elementsOf, padsOf, Within}
 use Rattle.header_rfc.specs.RoundTrip.{Writable, itemsWith}
 use Rattle.header_rfc.proofs.Fixed.{extended}
@@ -73,55 +75,55 @@ fixed-same f i =
 -- ---- the block
 
 -- a form as the paper names it
-abbrev pub inPaper : Form → paper.Form
-inPaper one-byte = paper.one-byte
-inPaper (two-byte appbits) = paper.two-byte
+abbrev pub inPaper : Form → forms.Form
+inPaper one-byte = forms.one-byte
+inPaper (two-byte appbits) = forms.two-byte
 
 -- elements with their heads
-abbrev pub packedLength : paper.Form → List Element → ℕ
+abbrev pub packedLength : forms.Form → List Element → ℕ
 packedLength g es = length (dataOf es) + length es * perElement g
 
-abbrev pub zerosFor : paper.Form → List Element → ℕ
+abbrev pub zerosFor : forms.Form → List Element → ℕ
 zerosFor g es = 4 * wordsFor (packedLength g es) - packedLength g es
 
 -- the written block, filled up to a whole word
-abbrev pub filled : paper.Form → List Element → List ℕ
-filled g es = written.blockOctets g es ++ replicate (zerosFor g es) 0
+abbrev pub filled : forms.Form → List Element → List ℕ
+filled g es = blocks.blockOctets g es ++ replicate (zerosFor g es) 0
 
-element-length : (g : paper.Form) (e : Element) → length (written.elementOctets g e) ≡ length (e .bytes) + perElement g
-element-length paper.one-byte e = omega arith
-element-length paper.two-byte e = omega arith
-element-length paper.other e = omega arith
+element-length : (g : forms.Form) (e : Element) → length (blocks.elementOctets g e) ≡ length (e .bytes) + perElement g
+element-length forms.one-byte e = omega arith
+element-length forms.two-byte e = omega arith
+element-length forms.other e = omega arith
 
-pub block-length : (g : paper.Form) (es : List Element) → length (written.blockOctets g es) ≡ packedLength g es
+pub block-length : (g : forms.Form) (es : List Element) → length (blocks.blockOctets g es) ≡ packedLength g es
 block-length g [] = omega arith
 block-length g (e ∷ es) =
     omega (
       arith,
-      length-append (written.elementOctets g e) (written.blockOctets g es),
+      length-append (blocks.elementOctets g e) (blocks.blockOctets g es),
       length-append (e .bytes) (dataOf es),
       element-length g e,
       block-length g es,
       suc-mul (length es) (perElement g),
     )
 
-pub filled-length : (g : paper.Form) (es : List Element) → length (filled g es) ≡ 4 * wordsFor (packedLength g es)
+pub filled-length : (g : forms.Form) (es : List Element) → length (filled g es) ≡ 4 * wordsFor (packedLength g es)
 filled-length g es =
     omega (
       arith,
-      length-append (written.blockOctets g es) (replicate (zerosFor g es) 0),
+      length-append (blocks.blockOctets g es) (replicate (zerosFor g es) 0),
       length-replicate {A = ℕ} (zerosFor g es) 0,
       block-length g es,
     )
 
 -- the written extension is one of RFC 3550, whose content is the filled block
-pub extension-same : (f : Fields) (g : paper.Form) → formOf (f .profile) ≡ g →
+pub extension-same : (f : Fields) (g : forms.Form) → formOf (f .profile) ≡ g →
     written.extensionOctets f ≡ rtp.extensionOctets (extensionWith (f .profile) (filled g (f .elements)))
-unfolding written.extensionFor rtp.extensionOctets payloadLength
+unfolding blocks.extensionFor rtp.extensionOctets payloadLength
 extension-same f g e =
     let n : length (filled g (f .elements)) ≡ 4 * wordsFor (packedLength g (f .elements)) = filled-length g (f .elements) in
     let words : wordsFor (packedLength g (f .elements)) ≡ length (filled g (f .elements)) / 4 = omega arith in
-    ap (λ (h : paper.Form). be16 (f .profile) ++ (be16 (wordsFor (packedLength h (f .elements))) ++ filled h (f .elements))) e
+    ap (λ (h : forms.Form). be16 (f .profile) ++ (be16 (wordsFor (packedLength h (f .elements))) ++ filled h (f .elements))) e
     ∙ ap (λ (w : ℕ). be16 (f .profile) ++ (be16 w ++ filled g (f .elements))) words
 
 pub octets-plain : (f : Fields) → f .extension ≡ false → octetsOf f ≡ rtp.octets (record { fixed = fixedFor f; extension = none })
@@ -132,7 +134,7 @@ octets-plain f off =
     ∙ ap (rtp.fixedOctets (fixedFor f)) off
     ∙ sym (plain-octets (fixedFor f))
 
-pub octets-extended : (f : Fields) (g : paper.Form) → f .extension ≡ true → formOf (f .profile) ≡ g →
+pub octets-extended : (f : Fields) (g : forms.Form) → f .extension ≡ true → formOf (f .profile) ≡ g →
     octetsOf f ≡ rtp.octets (extended (fixedFor f) (extensionWith (f .profile) (filled g (f .elements))))
 unfolding octetsOf rtp.octets
 octets-extended f g on e =
@@ -152,15 +154,15 @@ pads-with [] (suc z) = ap suc (pads-with [] z)
 pads-with (e ∷ es) z = pads-with es z
 
 pub octets-with : (form : Form) (es : List Element) (z : ℕ) →
-    blockOctets form (itemsWith es z) ≡ written.blockOctets (inPaper form) es ++ replicate z 0
+    blockOctets form (itemsWith es z) ≡ blocks.blockOctets (inPaper form) es ++ replicate z 0
 octets-with form [] zero = refl
 octets-with form [] (suc z) = ap (λ (l : List ℕ). 0 ∷ l) (octets-with form [] z)
 octets-with one-byte (e ∷ es) z =
     ap (λ (l : List ℕ). ((e .id * 16 + (length (e .bytes) - 1)) ∷ e .bytes) ++ l) (octets-with one-byte es z)
-    ∙ sym (append-assoc ((e .id * 16 + (length (e .bytes) - 1)) ∷ e .bytes) (written.blockOctets paper.one-byte es) (replicate z 0))
+    ∙ sym (append-assoc ((e .id * 16 + (length (e .bytes) - 1)) ∷ e .bytes) (blocks.blockOctets forms.one-byte es) (replicate z 0))
 octets-with (two-byte appbits) (e ∷ es) z =
     ap (λ (l : List ℕ). (e .id ∷ length (e .bytes) ∷ e .bytes) ++ l) (octets-with (two-byte appbits) es z)
-    ∙ sym (append-assoc (e .id ∷ length (e .bytes) ∷ e .bytes) (written.blockOctets paper.two-byte es) (replicate z 0))
+    ∙ sym (append-assoc (e .id ∷ length (e .bytes) ∷ e .bytes) (blocks.blockOctets forms.two-byte es) (replicate z 0))
 
 -- the items of a written block
 abbrev pub itemsIn : Form → List Element → List Item
@@ -170,19 +172,19 @@ pub filled-items : (form : Form) (es : List Element) → filled (inPaper form) e
 filled-items form es = sym (octets-with form es (zerosFor (inPaper form) es))
 
 -- a block of one element that is whole words is that element's data
-pub filled-words : (words : List ℕ) → length words % 4 ≡ 0 → filled paper.other (record { id = 0; bytes = words } ∷ []) ≡ words
+pub filled-words : (words : List ℕ) → length words % 4 ≡ 0 → filled forms.other (record { id = 0; bytes = words } ∷ []) ≡ words
 filled-words words h =
     let none-left : 4 * wordsFor (length (words ++ []) + 1 * 0) - (length (words ++ []) + 1 * 0) ≡ 0 = omega (arith, ap length (append-nil words)) in
     ap (λ (k : ℕ). words ++ [] ++ replicate k 0) none-left ∙ append-nil (words ++ []) ∙ append-nil words
 
 -- ---- each extension that is written is lawful
 
-per-small : (g : paper.Form) (n : ℕ) → n ≤ 32 → n * perElement g ≤ 64
-per-small paper.one-byte n h = omega arith
-per-small paper.two-byte n h = omega arith
-per-small paper.other n h = omega arith
+per-small : (g : forms.Form) (n : ℕ) → n ≤ 32 → n * perElement g ≤ 64
+per-small forms.one-byte n h = omega arith
+per-small forms.two-byte n h = omega arith
+per-small forms.other n h = omega arith
 
-pub filled-lawful : (g : paper.Form) (profile : ℕ) (es : List Element) → profile < 65536 → Within es → LawfulExtension (extensionWith profile (filled g es))
+pub filled-lawful : (g : forms.Form) (profile : ℕ) (es : List Element) → profile < 65536 → Within es → LawfulExtension (extensionWith profile (filled g es))
 filled-lawful g profile es h w =
     let n : length (filled g es) ≡ 4 * wordsFor (packedLength g es) = filled-length g es in
     let per : length es * perElement g ≤ 64 = per-small g (length es) (w .few) in

@@ -14,17 +14,21 @@ use lib.Seq.{length-take-le}
 use borrow.Author.Tests.{eq-eqb, ne-eqb, le-ltb, lt-ltb}
 use Rattle.error.specs.Said.{Said, says, refuse}
 use Rattle.wire.specs.Turns.{Turn, more, done, after, run}
-use Rattle.header.specs.Fields.{Element, Fields, roomFor}
-use Rattle.header.specs.Read.{Block, Reading, within, oneByte, twoByte, itemsBy, taken, turn, skip, padded, with-element, formOf, readBlock, wholeBlock, readHeader}
-use Rattle.header.specs.Read as paper
-use Rattle.header.specs.Write.{octetsOf}
-use Rattle.header.proofs.Reading.{item-bound, zero-first}
 use Rattle.rfc3550.specs.Rfc3550.{Octets, Fixed, LawfulFixed, Extension, LawfulExtension, LawfulPart, Begins, CutShort}
 use Rattle.rfc3550.specs.Rfc3550 as rtp
 use Rattle.rfc3550.specs.Rfc8285.{Form, one-byte, two-byte, profileOf, Item, element}
 use Rattle.rfc3550.proofs.Octets.{below-drop}
 use Rattle.rfc3550.proofs.Places.{plain-octets}
 use Rattle.rfc3550.proofs.Parse.{begins-or-cut}
+use Rattle.elements.specs.Elements.{Element, roomFor}
+use Rattle.block.specs.Read.{Block, within, oneByte, twoByte, itemsBy, taken, turn, skip, padded, with-element, readBlock, wholeBlock}
+use Rattle.block.specs.Form.{formOf}
+use Rattle.block.specs.Form as forms
+use Rattle.block.specs.Read as paper
+use Rattle.block.proofs.Reading.{item-bound, zero-first}
+use Rattle.header.specs.Fields.{Fields}
+use Rattle.header.specs.Read.{Reading, readHeader}
+use Rattle.header.specs.Write.{octetsOf}
 use Rattle.header_rfc.specs.Says.{wholeElement, fieldsWith, Within, Over, PlainForm, Fits}
 use Rattle.header_rfc.specs.Taken.{OneTaken, TakenElement, AllTaken, IsRead}
 use Rattle.header_rfc.specs.RoundTrip.{Writable, readBack, itemsFor}
@@ -175,7 +179,7 @@ pub data YieldedAs (f : Fields) : Type 0 where
   without : f .extension ≡ false → f .profile ≡ 0 → f .elements ≡ [] → YieldedAs f
   in-form : (form : Form) → PlainForm form → f .extension ≡ true → f .profile ≡ profileOf form → formOf (f .profile) ≡ inPaper form →
       Yielded form (f .elements) → YieldedAs f
-  whole : (words : List ℕ) → f .extension ≡ true → formOf (f .profile) ≡ paper.other → f .elements ≡ wholeElement words ∷ [] →
+  whole : (words : List ℕ) → f .extension ≡ true → formOf (f .profile) ≡ forms.other → f .elements ≡ wholeElement words ∷ [] →
       length words % 4 ≡ 0 → YieldedAs f
 
 pub record Writes (f : Fields) : Type 0 where
@@ -213,12 +217,12 @@ module _ (f : Fixed) (l : LawfulFixed f) (x : Extension) (k : LawfulExtension x)
       (sym (form-known form plain first) ∙ ap (λ (q : ℕ). readBlock (formOf q) first) (sym p) ∙ e) in
       record { writable = writable-with f l true (x .profile) (b .elements) (b .pads) (k .profile) (y .within); stands = in-form form plain refl p g y }
 
-  of-other : formOf (x .profile) ≡ paper.other → Writes (fieldsWith f true (x .profile) (b .elements) (b .pads))
+  of-other : formOf (x .profile) ≡ forms.other → Writes (fieldsWith f true (x .profile) (b .elements) (b .pads))
   unfolding fieldsWith
   of-other g = go (within-or-over (wholeElement (x .content) ∷ []))
     where
       read : wholeBlock first ≡ says b
-      read = sym (ap (λ (h : paper.Form). readBlock h first) g) ∙ e
+      read = sym (ap (λ (h : forms.Form). readBlock h first) g) ∙ e
 
       go : Within (wholeElement (x .content) ∷ []) ⊎ Over (wholeElement (x .content) ∷ []) → Writes (fieldsWith f true (x .profile) (b .elements) (b .pads))
       go (inl w) =
@@ -302,7 +306,7 @@ one-byte-taken s o r q p es e fs at = go (writes s o r q .stands)
     go (in-form one-byte plain on p′ g y) = taken-at one-byte es e fs (subst (λ (l : List Element). AllTaken one-byte (itemsFor l)) at (y .taken))
     go (in-form (two-byte appbits) plain on p′ g y) = absurd (omega arith)
     go (whole words on g w m) =
-        let known-form : formOf 0xBEDE ≡ paper.other = sym (ap formOf p) ∙ g in
+        let known-form : formOf 0xBEDE ≡ forms.other = sym (ap formOf p) ∙ g in
         absurd (let z : _≡_ {A = ℕ} 0 1 = cc in omega arith)
 
 -- in the two-byte profile: no id 0
@@ -316,7 +320,7 @@ two-byte-taken s o r q p es e fs at = go (writes s o r q .stands)
     go (in-form (two-byte appbits) plain on p′ g y) =
         taken-at (two-byte appbits) es e fs (subst (λ (l : List Element). AllTaken (two-byte appbits) (itemsFor l)) at (y .taken))
     go (whole words on g w m) =
-        let known-form : formOf 0x1000 ≡ paper.other = sym (ap formOf p) ∙ g in
+        let known-form : formOf 0x1000 ≡ forms.other = sym (ap formOf p) ∙ g in
         absurd (let z : _≡_ {A = ℕ} 0 1 = cc in omega arith)
 
 -- RFC 8285 4.2: the one-byte form's ids 15, and 0 with one byte, are written and never read

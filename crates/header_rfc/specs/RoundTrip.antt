@@ -5,13 +5,14 @@ use mathlib.Core.List.{List, [], _∷_, _++_}
 use mathlib.Core.Option.{Option, none, some}
 use Prim.Native.Nat.{ℕ, _-_, _*_, _%_, _<_, _≤_}
 use lib.ListN.{length, replicate}
-use Rattle.header.specs.Fields.{Element, Fields}
-use Rattle.header.specs.Read.{Form, one-byte, two-byte, other, formOf}
-use Rattle.header.specs.Size.{payloadLength, wordsFor}
-use Rattle.header.specs.Write.{octetsOf}
 use Rattle.rfc3550.specs.Rfc3550.{AllBelow}
 use Rattle.rfc3550.specs.Rfc8285.{Item, padding, element, Content, laid, Plan, Lawful, octets}
 use Rattle.rfc3550.specs.Rfc8285
+use Rattle.elements.specs.Elements.{Element}
+use Rattle.block.specs.Form.{Form, one-byte, two-byte, other, formOf, wordsFor}
+use Rattle.header.specs.Fields.{Fields}
+use Rattle.header.specs.Size.{payloadLength}
+use Rattle.header.specs.Write.{octetsOf}
 use Rattle.header_rfc.specs.Says.{Within, wholeElement, fieldsIn}
 
 -- "A record to be written has version 0 to 3, payload type 0 to 127", "15 CSRCs; 32 extension elements holding 1,024 data bytes in

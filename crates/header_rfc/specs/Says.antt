@@ -8,11 +8,12 @@ use mathlib.Core.Option.{Option, none, some}
 use Prim.Native.Nat.{ℕ, suc, _<_, _≤_}
 use lib.ListN.{length}
 use Rattle.error.specs.Said.{Said, says, refuse}
-use Rattle.header.specs.Fields.{Element, Fields, dataOf}
-use Rattle.header.specs.Read.{Reading}
 use Rattle.rfc3550.specs.Rfc3550.{Fixed, Extension, Octets, present}
 use Rattle.rfc3550.specs.Rfc3550 as rtp
 use Rattle.rfc3550.specs.Rfc8285.{Form, one-byte, two-byte, Item, padding, element, Content, laid, other, Plan, Lawful, octets, profileOf, Strays}
+use Rattle.elements.specs.Elements.{Element, dataOf}
+use Rattle.header.specs.Fields.{Fields}
+use Rattle.header.specs.Read.{Reading}
 
 -- ---- what a plan says
 

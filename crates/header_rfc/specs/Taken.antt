@@ -6,11 +6,12 @@ use mathlib.Core.Option.{some}
 use Prim.Native.Nat.{ℕ, _+_, _*_, _≤_}
 use lib.ListN.{length, drop}
 use Rattle.error.specs.Said.{says}
-use Rattle.header.specs.Fields.{Element, Fields}
-use Rattle.header.specs.Read.{Reading, readHeader}
 use Rattle.rfc3550.specs.Rfc3550.{Octets, Fixed}
 use Rattle.rfc3550.specs.Rfc3550 as rtp
 use Rattle.rfc3550.specs.Rfc8285.{Form, one-byte, two-byte, profileOf, Item, padding, element, blockOctets, extensionWith, Stray, strayOctets}
+use Rattle.elements.specs.Elements.{Element}
+use Rattle.header.specs.Fields.{Fields}
+use Rattle.header.specs.Read.{Reading, readHeader}
 use Rattle.header_rfc.specs.Says.{fieldsWith}
 
 -- an element of n bytes whose head the reader takes for one: in the one-byte form any octet but 0 and those of id 15

@@ -11,10 +11,11 @@ use Rattle.error.specs.Said.{Said, says, refused, refuse}
 use Rattle.error.specs.Only.{Determined}
 use Rattle.error.proofs.Inverse.{errorOf, errorOf-refusalOf}
 use Rattle.error.proofs.Only.{by-view, Sayable, either, known, passed}
+use Rattle.block.specs.Form.{Form, formOf}
 use Rattle.header.specs.declared.Header.{Header}
 use Rattle.header.specs.declared.Length.{Length}
 use Rattle.header.specs.Fields.{Fields, fieldsOf, blank, inDomain}
-use Rattle.header.specs.Read.{Form, formOf, Reading, readHeader}
+use Rattle.header.specs.Read.{Reading, readHeader}
 use Rattle.header.specs.Size.{payloadLength}
 use Rattle.header.specs.Write.{inWritingDomain, judged}
 use Rattle.header.specs.Said.{saidLength, written}

@@ -11,8 +11,10 @@ use borrow.Author.Tests.{eq-eqb, ne-eqb, le-leb, le-ltb}
 use Rattle.error.specs.Said.{Said, says}
 use Rattle.wire.specs.Net.{u16At, u32At, be16, be32}
 use Rattle.wire.specs.Part.{part}
-use Rattle.header.specs.Fields.{Fields, elementsOf, layElements, fieldsOf, layOut, inDomain}
-use Rattle.header.specs.Read.{Reading, bit, fieldsAt, blockAt, readHeader}
+use Rattle.elements.specs.Elements.{elementsOf, layElements}
+use Rattle.block.specs.Read.{blockAt}
+use Rattle.header.specs.Fields.{Fields, fieldsOf, layOut, inDomain}
+use Rattle.header.specs.Read.{Reading, bit, fieldsAt, readHeader}
 use Rattle.header.specs.Size.{headerSize}
 use Rattle.header.specs.Write.{flag, fixedFor, octetsOf, inWritingDomain}
 use Rattle.header.proofs.Reading.{header-plain}

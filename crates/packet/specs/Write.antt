@@ -6,9 +6,9 @@ use Prim.Native.Nat.{ℕ, zero, suc, _+_, _-_, _%_}
 use lib.Dec.{ltb, leb}
 use lib.ListN.{length, replicate}
 use Rattle.error.specs.Said.{Said, says, refuse}
+use Rattle.block.specs.Form.{formOf}
 use Rattle.header.specs.declared.Header.{Header}
 use Rattle.header.specs.Fields.{Fields, fieldsOf, inDomain}
-use Rattle.header.specs.Read.{formOf}
 use Rattle.header.specs.Size.{headerSize}
 use Rattle.header.specs.Write.{octetsOf, inWritingDomain, blockRefusal}
 

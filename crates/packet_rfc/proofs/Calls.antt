@@ -10,11 +10,11 @@ use lib.ListN.{length, take, drop}
 use lib.Seq.{take-at}
 use Rattle.error.specs.Said.{Said, says, refused, refuse}
 use Rattle.wire.specs.Part.{splice}
+use Rattle.block.specs.Form.{Form, one-byte, two-byte, other, formOf}
 use Rattle.header.specs.declared.Header.{Header}
 use Rattle.header.specs.declared.Length.{Length}
 use Rattle.header.specs.declared.Length.the-variants as len
 use Rattle.header.specs.Fields.{fieldsOf, layOut}
-use Rattle.header.specs.Read.{Form, one-byte, two-byte, other, formOf}
 use Rattle.header.specs.Size.{payloadLength}
 use Rattle.header.specs.Write.{inWritingDomain, judged}
 use Rattle.header.specs.Said.{heardWritten, written}

@@ -9,13 +9,13 @@ use native.Mathlib.Omega.{arith}
 use lib.ListN.{length, take, length-append}
 use lib.Seq.{take-at, take-length, drop-at}
 use Rattle.error.specs.Said.{says, refuse}
-use Rattle.header.specs.Fields.{Element}
 use Rattle.rfc3550.specs.Rfc3550.{Fixed, LawfulFixed, LawfulExtension, present}
 use Rattle.rfc3550.specs.Rfc3550 as rtp
 use Rattle.rfc3550.specs.Rfc8285.{one-byte, Item, AllLawful, reserved, extensionWith, Plan, Lawful, octets}
 use Rattle.rfc3550.specs.Packet.{Padding, LawfulPadding, paddingOctets, Packet, LawfulPacket, LawfulEnd, endOctets, packetOctets, lastOctet, Short}
 use Rattle.rfc3550.proofs.Blocks.{unambiguous-elements}
 use Rattle.rfc3550.proofs.Packets.{count-last, length-padding, padded-counted}
+use Rattle.elements.specs.Elements.{Element}
 use Rattle.header_rfc.specs.Says.{elementsOf, padsOf, elementsIn, wholeElement, fieldsIn, fieldsWith, Within, Plain, AppBits, Fits}
 use Rattle.header_rfc.specs.Taken.{strayed, ReadAs}
 use Rattle.header_rfc.proofs.Fixed.{extended}

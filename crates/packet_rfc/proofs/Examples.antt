@@ -6,8 +6,9 @@ use Prim.Native.Nat.{ℕ}
 use Rattle.error.specs.Said.{says, refuse}
 use Rattle.wire.specs.Net.{u16At, u32At}
 use Rattle.wire.specs.Turns.{run}
+use Rattle.block.specs.Read.{oneByte, taken, turn}
 use Rattle.header.specs.Fields.{Fields}
-use Rattle.header.specs.Read.{oneByte, taken, turn, fieldsAt, readExtension, readFixed, readHeader}
+use Rattle.header.specs.Read.{fieldsAt, readExtension, readFixed, readHeader}
 use Rattle.packet.specs.Read.{stripped, readPacket}
 use Rattle.packet_rfc.proofs.Behind.{readingAt}
 

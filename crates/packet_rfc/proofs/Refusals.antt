@@ -14,11 +14,13 @@ use lib.ListN.{length, drop, getD}
 use lib.Seq.{drop-at}
 use Rattle.error.specs.Said.{Said, says, refused, refuse}
 use Rattle.wire.specs.Net.{u16At}
-use Rattle.header.specs.Read.{Block, Reading, bit, countOf, fixedLength, blockAt, readBlock, formOf, readingOf, readExtension, readFixed, readHeader}
 use Rattle.rfc3550.specs.Rfc3550.{Fixed, present}
 use Rattle.rfc3550.specs.Rfc8285.{one-byte, two-byte, Item, blockOctets, Content, laid, other, Plan, Lawful, octets}
 use Rattle.rfc3550.specs.Packet.{Padding, Packet, LawfulPacket, LawfulEnd, endOctets, packetOctets, lastOctet, Short, nothing-there, over-counted}
 use Rattle.rfc3550.proofs.Packets.{padded-room}
+use Rattle.block.specs.Read.{Block, blockAt, readBlock}
+use Rattle.block.specs.Form.{formOf}
+use Rattle.header.specs.Read.{Reading, bit, countOf, fixedLength, readingOf, readExtension, readFixed, readHeader}
 use Rattle.header_rfc.specs.Says.{elementsIn, wholeElement, fieldsWith, Within, Over, Plain, AppBits}
 use Rattle.header_rfc.specs.Says as header
 use Rattle.header_rfc.proofs.Fixed as header-fixed

@@ -8,11 +8,11 @@ use Prim.Native.Nat.{ℕ, _+_}
 use lib.ListN.{length, drop}
 use Rattle.error.specs.Said.{Said, says, refuse}
 use Rattle.wire.specs.Part.{part}
-use Rattle.header.specs.Fields.{Element}
-use Rattle.header.specs.Read.{Reading, readHeader}
 use Rattle.rfc3550.specs.Rfc3550.{Octets, Fixed}
 use Rattle.rfc3550.specs.Rfc8285.{Plan, Lawful, octets}
 use Rattle.rfc3550.specs.Packet.{Packet, LawfulPacket, packetOctets, Padded, Uncounted, Short}
+use Rattle.elements.specs.Elements.{Element}
+use Rattle.header.specs.Read.{Reading, readHeader}
 use Rattle.header_rfc.specs.Says.{elementsIn, fieldsIn, fieldsWith, Within, Over, Plain, Fits, Deviating}
 use Rattle.packet.specs.Read.{PacketReading, readPacket}
 

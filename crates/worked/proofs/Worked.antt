@@ -5,12 +5,15 @@ use Rattle.wire.specs.Net.{u16At, u32At, be16, be32}
 use Rattle.wire.specs.Packets.{whole}
 use Rattle.wire.specs.Part.{splice, padTo}
 use Rattle.wire.specs.Turns.{run}
-use Rattle.header.specs.Fields.{elementsOf, layElements, fieldsOf, layOut, inDomain}
-use Rattle.header.specs.Read.{oneByte, taken, turn, fieldsAt, readExtension, readFixed, readHeader}
+use Rattle.elements.specs.Elements.{elementsOf, layElements}
+use Rattle.block.specs.Read.{oneByte, taken, turn}
+use Rattle.header.specs.Fields.{fieldsOf, layOut, inDomain}
+use Rattle.header.specs.Read.{fieldsAt, readExtension, readFixed, readHeader}
 use Rattle.header.specs.Size.{headerSize}
 use Rattle.header.specs.Write.{fixedFor, octetsOf, inWritingDomain}
 use Rattle.packet.specs.Read.{stripped, readPacket}
 use Rattle.packet.specs.Write.{payloadOctets, packetOctets, packetSize, writePacket}
+use Rattle.vp8.specs.Read as reader
 use Rattle.h264.specs.Units.{units, unitsAt}
 use Rattle.h264.specs.Groups.{keep, stapA, pairFor, unitFor, groupsFor, fragment}
 use Rattle.h264.specs.Payload.{payloadOf}
@@ -18,7 +21,6 @@ use Rattle.nal.specs.Kind.{shape}
 use Rattle.nal.specs.Unpack.{unpackTurn, unpack}
 use Rattle.nal.specs.Fed.{layBytes, layFed}
 use Rattle.h264_packet.specs.Depacketize as h264
-use Rattle.vp8.specs.Read as reader
 use Rattle.joiner.specs.Codec.{feed}
 use Rattle.joiner.specs.Join.{bySource, joinStep, opened}
 use Rattle.worked.specs.Asked.{Question, Says, say}

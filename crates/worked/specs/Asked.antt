@@ -7,18 +7,19 @@ use lib.ListN.{length, take, drop, replicate}
 use Rattle.error.specs.Refusal.{Refusal}
 use Rattle.error.specs.Said.{Said, says, refused}
 use Rattle.wire.specs.Part.{part}
-use Rattle.header.specs.Fields.{Element, layOut}
+use Rattle.elements.specs.Elements.{Element}
+use Rattle.header.specs.Fields.{layOut}
 use Rattle.header.specs.Read.{Reading, readHeader}
 use Rattle.packet.specs.Read.{PacketReading, readPacket}
 use Rattle.packet.specs.Write.{writePacket}
+use Rattle.vp8.specs.declared.read.Vp8Packet.{Vp8Packet}
+use Rattle.vp8.specs.Read as reader
 use Rattle.h264.specs.Groups.{nothingSaved}
 use Rattle.h264.specs.Payload.{Counts, Left, payloadOf}
 use Rattle.h264.specs.Payload as sender
 use Rattle.nal.specs.Fed.{Laid}
 use Rattle.nal.specs.Ran.{RanOn}
 use Rattle.h264_packet.specs.Depacketize as h264
-use Rattle.vp8.specs.declared.read.Vp8Packet.{Vp8Packet}
-use Rattle.vp8.specs.Read as reader
 use Rattle.joiner.specs.Join.{Answer, accepted, late, Stepped, joinStep, opened}
 
 pub data Question : Type 0 where

@@ -6,15 +6,18 @@ use native.Mathlib.Omega.{arith}
 use borrow.Author.Needs.{needs}
 use borrow.Author.Tests.{not-true, not-false}
 use Rattle.error.specs.Said.{says}
+use Rattle.elements.specs.declared.Extensions.{Extensions}
+use Rattle.elements.specs.Elements.{elementsOf, layElements}
+use Rattle.elements.specs.Named.{find, remove}
+use Rattle.elements.specs.Runs.{Holds}
+use Rattle.elements.proofs.Runs.{bounded}
+use Rattle.elements.proofs.Changes.{Placed}
 use Rattle.header.specs.declared.Header.{Header}
-use Rattle.header.specs.declared.Extensions.{Extensions}
-use Rattle.header.specs.Fields.{elementsOf, layElements, inDomain}
-use Rattle.header.specs.Extension.{find, remove, extended, delFound, delExtension}
-use Rattle.header.specs.Runs.{Holds}
+use Rattle.header.specs.Fields.{inDomain}
+use Rattle.header.specs.Extension.{extended, delFound, delExtension}
 use Rattle.header.specs.Said.{changeHeard}
 use Rattle.header.proofs.Sizes.{Arrays, limits-of, packed}
-use Rattle.header.proofs.Runs.{bounded}
-use Rattle.header.proofs.Changes.{Placed, placed-in, holds-in, del-outside, del-off, del-on}
+use Rattle.header.proofs.Changes.{placed-in, holds-in, del-outside, del-off, del-on}
 use Rattle.header.proofs.Header.del_extension.Statement.{statement}
 use Rattle.header.proofs.Header.del_extension.Tie as tie
 

@@ -4,10 +4,13 @@ use mathlib.Core.Bool.{true, false}
 use borrow.Author.Needs.{needs}
 use borrow.Author.Tests.{not-true, not-false}
 use Rattle.error.specs.Said.{says}
-use Rattle.header.specs.Fields.{elementsOf, inDomain}
-use Rattle.header.specs.Extension.{find, getExtension}
+use Rattle.elements.specs.Elements.{elementsOf}
+use Rattle.elements.specs.Named.{find}
+use Rattle.elements.proofs.Changes.{Placed}
+use Rattle.header.specs.Fields.{inDomain}
+use Rattle.header.specs.Extension.{getExtension}
 use Rattle.header.proofs.Sizes.{Arrays, limits-of}
-use Rattle.header.proofs.Changes.{Placed, placed-in, get-outside, get-off, get-on}
+use Rattle.header.proofs.Changes.{placed-in, get-outside, get-off, get-on}
 use Rattle.header.proofs.Header.get_extension.Statement.{statement}
 use Rattle.header.proofs.Header.get_extension.Tie as tie
 

@@ -12,10 +12,12 @@ use borrow.Author.Tests.{not-true, not-false}
 use Rattle.error.specs.Said.{says}
 use Rattle.wire.specs.Part.{padTo}
 use Rattle.wire.proofs.Part.{padTo-on}
-use Rattle.header.specs.Fields.{Element, elementsOf, inDomain}
+use Rattle.elements.specs.Elements.{Element, elementsOf}
+use Rattle.elements.proofs.Packed.{length-elementsOf}
+use Rattle.elements.proofs.Runs.{shown}
+use Rattle.header.specs.Fields.{inDomain}
 use Rattle.header.specs.Said.{idsHeard}
-use Rattle.header.proofs.Sizes.{Arrays, limits-of, packed, length-elementsOf}
-use Rattle.header.proofs.Runs.{shown}
+use Rattle.header.proofs.Sizes.{Arrays, limits-of, packed}
 use Rattle.header.proofs.Changes.{ids-outside, ids-off, ids-on}
 use Rattle.header.proofs.Header.get_extension_ids.Statement.{statement}
 use Rattle.header.proofs.Header.get_extension_ids.Tie as tie

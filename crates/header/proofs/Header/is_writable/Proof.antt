@@ -4,9 +4,10 @@ use mathlib.Core.Bool.{true}
 use mathlib.Core.Logic.{⊎-elim}
 use borrow.Author.Needs.{needs}
 use borrow.Author.Tests.{ltb-true, ltb-false, not-true, not-false, le-leb, lt-leb}
+use Rattle.elements.proofs.Packed.{PackedIn}
 use Rattle.header.specs.declared.Header.{Header}
 use Rattle.header.specs.Fields.{inDomain}
-use Rattle.header.proofs.Sizes.{Arrays, PackedIn, limits-of, packed}
+use Rattle.header.proofs.Sizes.{Arrays, limits-of, packed}
 use Rattle.header.proofs.Writing.{fitting, writing-domain}
 use Rattle.header.proofs.Header.is_writable.Statement.{statement}
 use Rattle.header.proofs.Header.is_writable.Tie as tie

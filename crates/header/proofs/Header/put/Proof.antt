@@ -6,15 +6,16 @@ use native.Mathlib.Omega.{arith}
 use lib.ListN.{length, take}
 use borrow.Author.Needs.{needs}
 use Rattle.error.specs.Said.{says}
-use Rattle.header.specs.declared.Extensions.{Extensions}
+use Rattle.elements.specs.declared.Extensions.{Extensions}
+use Rattle.elements.specs.Elements.{Element, dataOf, elementsOf, sum}
+use Rattle.elements.specs.Runs.{element, replacedAt}
+use Rattle.elements.proofs.Packed.{PackedIn}
+use Rattle.elements.proofs.Runs.{packed-by, Bounded, bounded}
+use Rattle.elements.proofs.Changes.{put-many, put-bytes}
 use Rattle.header.specs.declared.Header.{Header}
-use Rattle.header.specs.Fields.{Element, dataOf, elementsOf, sum}
 use Rattle.header.specs.Extension.{extended, changed}
-use Rattle.header.specs.Runs.{element, replacedAt}
 use Rattle.header.specs.Said.{changeHeard}
-use Rattle.header.proofs.Sizes.{PackedIn}
-use Rattle.header.proofs.Runs.{packed-by, Bounded, bounded}
-use Rattle.header.proofs.Changes.{put-many, put-bytes, too-many, too-long, room-left}
+use Rattle.header.proofs.Changes.{too-many, too-long, room-left}
 use Rattle.header.proofs.Header.put.Statement.{statement}
 use Rattle.header.proofs.Header.put.Tie as tie
 

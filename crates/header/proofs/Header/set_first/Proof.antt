@@ -3,13 +3,15 @@ use mathlib.Core.Path.{_≡_, sym, ap, ap₂, subst, _∙_}
 use mathlib.Core.List.{[], _∷_}
 use Prim.Native.Nat.{_≤_}
 use borrow.Author.Needs.{needs}
-use Rattle.header.specs.declared.extension.Run.{Run}
-use Rattle.header.specs.Fields.{elementsOf}
-use Rattle.header.specs.Extension.{append, change}
-use Rattle.header.specs.Runs.{Holds, replacedAt, element}
+use Rattle.elements.specs.declared.Run.{Run}
+use Rattle.elements.specs.Elements.{elementsOf}
+use Rattle.elements.specs.Named.{append}
+use Rattle.elements.specs.Runs.{Holds, replacedAt, element}
+use Rattle.elements.proofs.Changes.{endOf, at-end, stands-end}
+use Rattle.header.specs.Extension.{change}
 use Rattle.header.specs.Said.{changeHeard}
 use Rattle.header.proofs.Sizes.{Arrays, limits-of}
-use Rattle.header.proofs.Changes.{endOf, at-end, stands-end, holds-in, end-in, first-one, first-two, first-other}
+use Rattle.header.proofs.Changes.{holds-in, end-in, first-one, first-two, first-other}
 use Rattle.header.proofs.Header.set_first.Statement.{statement}
 use Rattle.header.proofs.Header.set_first.Tie as tie
 

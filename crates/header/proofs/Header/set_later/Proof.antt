@@ -5,17 +5,19 @@ use native.Mathlib.Omega.{arith}
 use lib.ListN.{length}
 use borrow.Author.Needs.{needs}
 use Rattle.error.specs.Said.{Said}
+use Rattle.elements.specs.Elements.{elementsOf}
+use Rattle.elements.specs.Named.{find}
+use Rattle.elements.specs.Runs.{Holds}
+use Rattle.elements.proofs.Runs.{bounded}
+use Rattle.elements.proofs.Changes.{Placed}
+use Rattle.block.specs.Form.{formOf, perElement}
+use Rattle.block.specs.Padding.{grown}
 use Rattle.header.specs.declared.Header.{Header}
 use Rattle.header.specs.declared.Change.{Change}
-use Rattle.header.specs.Fields.{elementsOf}
-use Rattle.header.specs.Read.{formOf}
-use Rattle.header.specs.Size.{perElement}
-use Rattle.header.specs.Extension.{find, grown, change, setFound, setLater}
-use Rattle.header.specs.Runs.{Holds, unless}
-use Rattle.header.specs.Said.{saidChange, changeHeard}
+use Rattle.header.specs.Extension.{change, setFound, setLater}
+use Rattle.header.specs.Said.{unless, saidChange, changeHeard}
 use Rattle.header.proofs.Sizes.{Arrays, LimitsOf, limits-of, packed}
-use Rattle.header.proofs.Runs.{bounded}
-use Rattle.header.proofs.Changes.{Placed, placed-in, holds-in}
+use Rattle.header.proofs.Changes.{placed-in, holds-in}
 use Rattle.header.proofs.Header.set_later.Statement.{statement}
 use Rattle.header.proofs.Header.set_later.Tie as tie
 

@@ -6,10 +6,11 @@ use native.Mathlib.Omega.{arith}
 use lib.ListN.{length, getD}
 use borrow.Author.Needs.{needs}
 use Rattle.error.specs.Said.{says}
-use Rattle.header.specs.declared.Extensions.{Extensions}
+use Rattle.elements.specs.declared.Extensions.{Extensions}
+use Rattle.elements.specs.Elements.{layElements}
+use Rattle.block.specs.Read.{blockAt}
 use Rattle.header.specs.declared.Header.{Header}
-use Rattle.header.specs.Fields.{layElements}
-use Rattle.header.specs.Read.{fixedLength, countOf, readExtension, blockAt}
+use Rattle.header.specs.Read.{fixedLength, countOf, readExtension}
 use Rattle.header.specs.Said.{Heard, headerAt, readingHeard}
 use Rattle.header.proofs.Reading.{header-long, header-short, header-cut, header-extended, header-plain, plain-heard}
 use Rattle.header.proofs.Header.unmarshal.Statement.{statement}

@@ -1,9 +1,9 @@
 -- The tests are those of `idRefusal`, in its order.
 use mathlib.Core.Path.{ap, _∙_}
 use borrow.Author.Tests.{le-leb, lt-leb, eq-eqb, ne-eqb}
-use Rattle.header.specs.Read.{Form}
+use Rattle.block.specs.Form.{Form}
+use Rattle.block.proofs.Form.{form-one, form-two, form-other}
 use Rattle.header.specs.Extension.{idRefusal}
-use Rattle.header.proofs.Sizes.{form-one, form-two, form-other}
 use Rattle.header.proofs.extension.allowed.Statement.{statement}
 use Rattle.header.proofs.extension.allowed.Tie as tie
 

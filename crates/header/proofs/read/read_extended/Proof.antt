@@ -5,20 +5,19 @@ use native.Mathlib.Omega.{arith}
 use lib.ListN.{length}
 use borrow.Author.Needs.{needs}
 use Rattle.wire.specs.Net.{u16At}
-use Rattle.header.specs.declared.Header.{Header}
-use Rattle.header.specs.declared.HeaderRead.{HeaderRead}
-use Rattle.header.specs.declared.HeaderRead.the-variants as read
-use Rattle.header.specs.Fields.{blank}
-use Rattle.header.specs.Read.{readingOf, readBlock, formOf, blockAt, readExtension}
-use Rattle.header.specs.Said.{BlockHeard, heardBlock, saidRead, heard, readingHeard, headerAt}
+use Rattle.block.specs.Form.{formOf}
+use Rattle.block.specs.Read.{readBlock, blockAt}
+use Rattle.block.specs.Said.{BlockHeard, saidEnding}
+use Rattle.header.specs.Read.{readingOf, readExtension}
+use Rattle.header.specs.Said.{readingHeard}
 use Rattle.header.proofs.Reading.{around, heard-around, extension-cut, block-cut, block-whole, heard-payload, heard-refused}
 use Rattle.header.proofs.read.read_extended.Statement.{statement}
 use Rattle.header.proofs.read.read_extended.Tie as tie
 
 -- the length that the code reads is the one that the packet says
-words : (c : tie.After-wide16) →
-    c .wide16 .result ≡ u16At (c .before .before .before .before .before .args .packet .now) (c .before .before .before .before .before .args .at + 2)
-words c = c .wide16 .ensures .0 ∙ c .before .get-u162 .ensures
+words : (c : tie.After-wide) →
+    c .wide .result ≡ u16At (c .before .before .before .before .before .args .packet .now) (c .before .before .before .before .before .args .at + 2)
+words c = c .wide .ensures .0 ∙ c .before .get-u162 .ensures
 
 returns : tie.Need-returns
 returns c =
@@ -37,7 +36,7 @@ block : (c : tie.After-read-block) →
     around (c .before .before .before .before .before .before .before .args .packet .now)
     (c .before .before .before .before .before .before .before .args .cc)
     (c .before .before .before .before .get-u16 .result)
-    (c .read-block .result .list) (c .read-block .result .padding) (saidRead (c .read-block .result .read))
+    (c .read-block .result .list) (c .read-block .result .padding) (saidEnding (c .read-block .result .ending))
     ≡ readingHeard
     (readExtension (c .before .before .before .before .before .before .before .args .packet .now)
     (c .before .before .before .before .before .before .before .args .cc)
@@ -46,7 +45,7 @@ block c =
     let a = c .before .before .before .before .before .before .before .args in
     let s = a .packet .now in
     let profile = c .before .before .before .before .get-u16 .result in
-    let n = c .before .before .wide16 .result in
+    let n = c .before .before .wide .result in
     let w = words (c .before .before) in
     ap (λ (h : BlockHeard). around s (a .cc) profile (h .list) (h .pads) (h .answer)) (c .read-block .ensures)
     ∙ sym (heard-around s (a .cc) profile (readBlock (formOf profile) (blockAt s (a .at + 4) (4 * n))))
@@ -56,13 +55,14 @@ block c =
 
 returns-3 : tie.Need-returns-3
 returns-3 c =
-    heard-refused _ _ _ _ _ _ _ _ (c .before .enum-told2 .given .1) (c .default .ensures)
-    ∙ block (c .before .before .before)
+    heard-payload _ _ _ _ _ _ _ _ (c .before .before .ending .given .1) (c .header-at .ensures)
+    ∙ block (c .before .before .before .before .before)
 
 returns-4 : tie.Need-returns-4
 returns-4 c =
-    heard-payload _ _ _ _ _ _ _ _ (c .before .before .enum-told .given .1) (c .header-at .ensures)
-    ∙ block (c .before .before .before .before)
+    c .refused-header3 .ensures
+    ∙ heard-refused _ _ _ _ _ _ _ (c .before .before .ending2 .given .1)
+    ∙ block (c .before .before .before .before .before)
 
 pub read-extended-spec : {M : Type 1} → statement M
 read-extended-spec =
@@ -82,8 +82,8 @@ read-extended-spec =
     returns-2
     (λ c κs. search needs)
     (λ c. search needs)
+    (λ c κs. search needs)
     (λ c. search needs)
     (λ c κs. search needs)
     returns-3
-    (λ c κs. search needs)
     returns-4)

@@ -9,12 +9,11 @@ use lib.ListN.{take, getD}
 use borrow.Author.Needs.{needs}
 use borrow.Author.Tests.{not-true, not-false, eq-eqb, ne-eqb}
 use Rattle.error.specs.Said.{Said, says}
-use Rattle.header.specs.Fields.{sum}
-use Rattle.header.specs.Read.{Form, other, formOf}
-use Rattle.header.specs.Size.{perElement, lengthFor}
+use Rattle.elements.specs.Elements.{sum}
+use Rattle.elements.proofs.Elements.{sum-more}
+use Rattle.block.specs.Form.{Form, other, formOf, perElement, lengthFor}
+use Rattle.block.proofs.Form.{form-one, form-two, form-other}
 use Rattle.header.specs.Write.{judged}
-use Rattle.header.proofs.Fields.{sum-more}
-use Rattle.header.proofs.Sizes.{form-one, form-two, form-other}
 use Rattle.header.proofs.write.judge.Statement.{statement}
 use Rattle.header.proofs.write.judge.Tie as tie
 

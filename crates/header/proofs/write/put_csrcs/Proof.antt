@@ -9,8 +9,8 @@ use Rattle.wire.specs.Net.{be32}
 use Rattle.wire.specs.Part.{splice}
 use Rattle.wire.proofs.Net.{length-be32}
 use Rattle.wire.proofs.Part.{splice-nothing, splice-behind}
+use Rattle.elements.proofs.Packed.{front-cons, front-done}
 use Rattle.header.specs.Write.{csrcOctets}
-use Rattle.header.proofs.Octets.{front-cons, front-done}
 use Rattle.header.proofs.write.put_csrcs.Statement.{statement}
 use Rattle.header.proofs.write.put_csrcs.Tie as tie
 

@@ -1,0 +1,5 @@
+pub mod Form
+pub mod Read
+pub mod Write
+pub mod Padding
+pub mod Said

@@ -1,0 +1,4 @@
+pub mod Elements
+pub mod Packed
+pub mod Runs
+pub mod Changes

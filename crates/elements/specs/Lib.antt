@@ -1,0 +1,3 @@
+pub mod Elements
+pub mod Named
+pub mod Runs
