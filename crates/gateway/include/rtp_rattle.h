@@ -5,7 +5,7 @@
  * A `bool` is true or false, in a record too: a record that was never set is no argument. Any other value in a record is; what lies
  * outside the limits is refused with 8.
  *
- * Each answer begins with `refused`. Its number is 0 where the call answers. Else nothing is changed: no buffer, no state; every
+ * Each call that can refuse answers a record that begins with `refused`. Its number is 0 where the call answers. Else nothing is changed: no buffer, no state; every
  * other value is 0 and the state comes back as it was. One call differs: rtp_vp8_depacketize keeps the fields read so far
  * beside refusal 4 of a payload of 4 bytes or more.
  *

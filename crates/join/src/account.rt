@@ -7,7 +7,9 @@ use error::Error;
 pub struct Account {
     // the packets of the file
     pub packets: u64,
+    // those that the joiner took
     pub accepted: u64,
+    // those that came behind a later one
     pub late: u64,
     // packets of another source, refusal 20
     pub others: u64,

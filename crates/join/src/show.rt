@@ -28,10 +28,13 @@ impl Fault {
 }
 
 pub struct Show {
+    // what was accepted so far
     pub joiner: Joiner,
     // whether the joiner is opened: by the arguments, or by the first packet that is read
     pub opened: bool,
+    // of the packets so far
     pub account: Account,
+    // why it stopped
     pub fault: Fault,
 }
 

@@ -105,7 +105,10 @@ fn tell<'a>(ended: Ended, fd: i32, path: &'a [u8], packets: &'a [u8]) -> Status 
     let fault = sending.fault;
     match fault {
         Fault::Nothing => write_account(fd, sending),
-        Fault::TooLong => too_long(path),
+        Fault::NoRoom => stream::complain(
+            path,
+            b"the packets of an access unit are more than send has room for: 65,536, or 3,407,872 bytes of payload",
+        ),
         Fault::LongSet => stream::complain(path, b"a parameter set is longer than 1,024 bytes"),
         Fault::NotWritten => stream::failed(packets),
     }
@@ -171,14 +174,18 @@ fn arguments() -> Given {
     let mtu = stream::argument(3, 3, 65523);
     let source = stream::argument(4, 0, 4294967295);
     let first = stream::argument(5, 0, 65535);
-    let kind = stream::argument(6, 0, 127);
+    let payload_type = stream::argument(6, 0, 127);
     let ticks = stream::argument(7, 0, 4294967295);
     Given {
-        right: are_right(count, mtu.ok && source.ok && first.ok && kind.ok, ticks.ok),
+        right: are_right(
+            count,
+            mtu.ok && source.ok && first.ok && payload_type.ok,
+            ticks.ok,
+        ),
         plan: Plan {
             mtu: mtu.value as usize,
             source: source.value as u32,
-            kind: kind.value as u8,
+            payload_type: payload_type.value as u8,
             ticks: ticks_of(count, ticks.value as u32),
         },
         first: first.value as u16,

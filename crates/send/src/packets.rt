@@ -11,8 +11,8 @@ pub struct Plan {
     // the most bytes of a payload: 3 to 65,523
     pub mtu: usize,
     pub source: u32,
-    // the payload type: 0 to 127
-    pub kind: u8,
+    // 0 to 127
+    pub payload_type: u8,
     // how far the time goes on with each access unit, at a clock of 90,000 a second
     pub ticks: u32,
 }
@@ -20,7 +20,7 @@ pub struct Plan {
 pub enum Fault {
     Nothing,
     // the packets of an access unit have no room in the buffers
-    TooLong,
+    NoRoom,
     // a parameter set is over 1,024 bytes
     LongSet,
     NotWritten,
@@ -30,7 +30,7 @@ impl Fault {
     pub fn is_nothing(self) -> bool {
         match self {
             Fault::Nothing => true,
-            Fault::TooLong => false,
+            Fault::NoRoom => false,
             Fault::LongSet => false,
             Fault::NotWritten => false,
         }
@@ -38,6 +38,7 @@ impl Fault {
 }
 
 pub struct Sending {
+    // with the parameter sets saved so far
     pub sender: H264Payloader,
     // the number of the next packet
     pub number: u16,
@@ -46,6 +47,7 @@ pub struct Sending {
     // how many were written
     pub frames: u64,
     pub packets: u64,
+    // why it stopped
     pub fault: Fault,
 }
 
@@ -53,7 +55,7 @@ fn header(plan: Plan, number: u16, time: u32, marker: bool) -> Header {
     let mut h = Header::default();
     h.version = 2;
     h.marker = marker;
-    h.payload_type = plan.kind;
+    h.payload_type = plan.payload_type;
     h.sequence_number = number;
     h.timestamp = time;
     h.ssrc = plan.source;
@@ -122,7 +124,7 @@ fn write_packets<'a>(
 fn fault_of(e: Error) -> Fault {
     match e {
         Error::OverLimits => Fault::LongSet,
-        _ => Fault::TooLong,
+        _ => Fault::NoRoom,
     }
 }
 

@@ -2,6 +2,7 @@
 use crate::line::field;
 use crate::line::refused;
 use crate::line::word;
+use error::Error;
 use nal::Kind;
 use nal::Measured;
 use vp8::read::Vp8Packet;
@@ -41,11 +42,16 @@ fn plain(payload: &[u8]) {
     }
 }
 
+fn h264_refused(e: Error) {
+    word(b" h264 ");
+    refused(e);
+}
+
 fn h264(payload: &[u8]) {
     let kind = nal::kind_of(payload);
     match kind {
-        Kind::Short => word(b" h264 refused 4"),
-        Kind::Unknown(_) => word(b" h264 refused 19"),
+        Kind::Short => h264_refused(Error::ErrShortPacket),
+        Kind::Unknown(t) => h264_refused(Error::NaluTypeIsNotHandled(t)),
         Kind::Plain => plain(payload),
         Kind::Aggregate => aggregate(payload),
         Kind::Fragment { first, last, head } => fragment(first, last, head),

@@ -63,11 +63,11 @@ pub fn write(packet: &[u8], codec: Codec) {
         PacketRead::Payload { at: _, len } => {
             fields(answer.header);
             kind::write(stream::payload(packet), codec);
-            field(b" size ", len as u64);
+            field(b" payload ", len as u64);
         }
         PacketRead::Refused(e) => {
             refused(e);
-            field(b" size ", packet.len() as u64);
+            field(b" packet ", packet.len() as u64);
         }
     }
     word(b"\n");

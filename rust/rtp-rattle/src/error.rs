@@ -7,7 +7,8 @@ use crate::sys;
 pub type Result<T> = std::result::Result<T, Error>;
 
 /// Why a call was refused. A refused call has changed nothing: no buffer, no state. (One call differs, see
-/// [`Vp8Packet::depacketize`](crate::codecs::vp8::Vp8Packet::depacketize).)
+/// [`Vp8Packet::depacketize`](crate::codecs::vp8::Vp8Packet::depacketize); and after a refusal
+/// [`H264Packet`](crate::codecs::h264::H264Packet) shows no body.)
 #[derive(Clone, Copy, Debug, Eq, PartialEq)]
 pub enum Error {
     /// 1: under 4 bytes, or under 12 + 4 x CC

@@ -6,7 +6,7 @@
 //! it. A record with any other values in it may be passed too; what lies outside the limits is refused, [`Error::OutsideDomain`].
 //!
 //! Names are those of the crate rtp 0.17.2 where they fit. Nothing is allocated but the gather buffer that a reader or a joiner
-//! keeps: what is written goes into a slice that the caller lends.
+//! keeps, and the list of `get_extension_ids`: what is written goes into a slice that the caller lends.
 //!
 //! ```
 //! use rtp_rattle::{codecs::h264::H264Payloader, header::Header, packet::Packet};
