@@ -1,4 +1,5 @@
--- What holds of each member of two lists holds of each of both. Assumes nothing.
+-- What holds of each member: of two lists behind each other, by another property, of any member, of what a function makes of each.
+-- Assumes nothing.
 use mathlib.Core.List.{List, [], _∷_, _++_, map}
 use Rattle.wire.specs.Each.{Each}
 

@@ -1,11 +1,11 @@
--- The laws of `splice` and `padTo`. Nothing else looks behind the two. Assumes nothing.
+-- The laws of `splice` and `padTo`, and of a part of a list. Assumes nothing.
 use mathlib.Core.Path.{_≡_, refl, sym, ap, ap₂, _∙_}
 use mathlib.Core.List.{List, [], _∷_, _++_, append-nil, append-assoc}
 use Prim.Native.Nat.{ℕ, zero, suc, _+_, _-_, _<_, _≤_}
 use native.Mathlib.Nat.{sub-zero, add-assoc}
 use native.Mathlib.Numerals.{add-one}
 use native.Mathlib.Omega.{arith}
-use lib.ListN.{length, take, drop, getD, set, replicate, length-append, length-drop, length-replicate, take-append-drop, replicate-append-replicate, List·getD-append}
+use lib.ListN.{length, take, drop, getD, set, replicate, length-append, length-drop, length-replicate, take-append-drop, replicate-append-replicate}
 use lib.Seq.{length-take-le, take-at, take-add, take-suc, take-take, take-append-le, drop-at, drop-cons, drop-drop, drop-append-le, drop-append-add, set-split, getD-take, getD-drop}
 use borrow.Rule.Slice.PartMut.{putMid}
 use Rattle.wire.specs.Part.{splice, part, padTo}
@@ -22,11 +22,6 @@ module _ {ℓ} {A : Type ℓ} where
   length-splice xs at ys h =
       let l : length (take at xs) ≡ at = length-take-le at xs (omega arith) in
       simp (length-append, length-drop) (omega arith)
-
-  -- the places before the part, with the part and without it
-  pub take-splice : (xs : List A) (at : ℕ) (ys : List A) → at ≤ length xs → take at (splice xs at ys) ≡ take at xs
-  unfolding splice
-  take-splice xs at ys h = take-at (take at xs) (ys ++ drop (at + length ys) xs) at (length-take-le at xs h)
 
   head-length : (xs : List A) (at : ℕ) (ys : List A) → at ≤ length xs → length (take at xs ++ ys) ≡ at + length ys
   head-length xs at ys h = length-append (take at xs) ys ∙ ap (λ (k : ℕ). k + length ys) (length-take-le at xs h)
@@ -111,13 +106,6 @@ module _ {ℓ} {A : Type ℓ} where
       ap (take (length ys)) (drop-at (take at xs) (ys ++ drop (at + length ys) xs) at (length-take-le at xs h))
       ∙ take-at ys (drop (at + length ys) xs) (length ys) refl
 
-  pub getD-splice : (xs : List A) (at : ℕ) (ys : List A) (i : ℕ) (d : A) → at ≤ length xs → i < length ys →
-      getD (splice xs at ys) (at + i) d ≡ getD ys i d
-  getD-splice xs at ys i d h hi =
-      sym (getD-drop at (splice xs at ys) i d)
-      ∙ sym (getD-take (length ys) (drop at (splice xs at ys)) i d hi)
-      ∙ ap (λ (l : List A). getD l i d) (part-of-splice xs at ys h)
-
   -- a part that lies within a list is as long as it is to be
   pub length-part : (xs : List A) (at len : ℕ) → at + len ≤ length xs → length (part xs at len) ≡ len
   length-part xs at len h = length-take-le len (drop at xs) (rw length-drop (omega arith))
@@ -177,19 +165,10 @@ pub take-padTo : (n : ℕ) (xs : List ℕ) → take (length xs) (padTo n xs) ≡
 unfolding padTo
 take-padTo n xs = take-at xs (replicate (n - length xs) 0) (length xs) refl
 
-pub getD-padTo : (n : ℕ) (xs : List ℕ) (i : ℕ) → i < length xs → getD (padTo n xs) i 0 ≡ getD xs i 0
-unfolding padTo
-getD-padTo n xs i h = List·getD-append xs (replicate (n - length xs) 0) 0 i h
-
 -- a part of two lists that lies within the first
 pub part-append {ℓ} : {A : Type ℓ} (xs ys : List A) (at len : ℕ) → at + len ≤ length xs → part (xs ++ ys) at len ≡ part xs at len
 part-append xs ys at len h =
     ap (take len) (drop-append-le at xs ys (omega arith)) ∙ take-append-le len (drop at xs) ys (rw length-drop (omega arith))
-
--- a part of a padded list that lies within the list
-pub part-padTo : (n : ℕ) (xs : List ℕ) (at len : ℕ) → at + len ≤ length xs → take len (drop at (padTo n xs)) ≡ take len (drop at xs)
-unfolding padTo
-part-padTo n xs at len h = part-append xs (replicate (n - length xs) 0) at len h
 
 -- a part of a list's first places
 pub part-take {ℓ} : {A : Type ℓ} (n : ℕ) (xs : List A) (at len : ℕ) → n ≤ length xs → at + len ≤ n → part (take n xs) at len ≡ part xs at len

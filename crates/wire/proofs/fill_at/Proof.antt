@@ -1,4 +1,4 @@
--- After i turns i bytes stand at the place: a turn is `splice-push`.
+-- After i turns i bytes stand at the place: a turn is `splice-same`.
 use mathlib.Core.Path.{_≡_, sym, ap, _∙_}
 use mathlib.Core.List.{List}
 use Prim.Native.Nat.{ℕ, _+_, _-_, _≤_}
