@@ -10,6 +10,7 @@ pub record Refusal : Type 0 where
   pub number : ℕ
   pub carried : List ℕ
 
+-- the paper's table "Refusal numbers", by the Rust's names where it has one
 abbrev pub numberOf : Error → ℕ
 numberOf ErrHeaderSizeInsufficient = 1
 numberOf ErrHeaderSizeInsufficientForExtension = 2

@@ -9,12 +9,7 @@ use Prim.Native.Nat.{ℕ, _+_, _-_, _/_, _<_, _≤_}
 use native.Mathlib.Omega.{arith}
 use lib.ListN.{length, take, length-append}
 use lib.Seq.{take-at, drop-at}
-use borrow.Author.Tests.{ne-eqb}
 use Rattle.error.specs.Said.{says, refuse}
-use Rattle.rfc3550.specs.Rfc3550.{Fixed, LawfulFixed, Extension, LawfulExtension}
-use Rattle.rfc3550.specs.Rfc3550 as rtp
-use Rattle.rfc3550.specs.Rfc8285.{Form, one-byte, two-byte, profileOf, Item, Content, laid, other, Plan, Lawful, octets, blockOctets, extensionOf, extensionWith}
-use Rattle.rfc3550.proofs.Places.{plain-octets}
 use Rattle.elements.specs.Elements.{Element}
 use Rattle.elements.proofs.Elements.{room, no-room}
 use Rattle.block.specs.Read.{Block, readBlock, itemsBy, wholeBlock}
@@ -22,8 +17,13 @@ use Rattle.block.specs.Form.{formOf}
 use Rattle.block.specs.Form as forms
 use Rattle.block.specs.Read as paper
 use Rattle.block.proofs.Reading.{block-path}
+use Rattle.block.proofs.Form.{form-other}
 use Rattle.header.specs.Read.{readHeader}
-use Rattle.header_rfc.specs.Says.{elementsOf, padsOf, wholeElement, elementsIn, readingOf, Within, Over, PlainForm, Plain, Fits, Complete}
+use Rattle.rfc3550.specs.Rfc3550.{Fixed, LawfulFixed, Extension, LawfulExtension}
+use Rattle.rfc3550.specs.Rfc3550 as rtp
+use Rattle.rfc3550.proofs.Places.{plain-octets}
+use Rattle.rfc3550.specs.Rfc8285.{Form, one-byte, two-byte, profileOf, Item, Content, laid, other, Plan, Lawful, octets, blockOctets, extensionOf, extensionWith}
+use Rattle.header_rfc.specs.Says.{elementsAmong, padsAmong, wholeElement, elementsSaid, readingSaid, Within, Over, PlainForm, Plain, Fits, Complete}
 use Rattle.header_rfc.specs.Taken.{AllTaken}
 use Rattle.header_rfc.proofs.Items.{isTwo, all-taken, now, read-items, read-items-over}
 use Rattle.header_rfc.proofs.Fixed.{readingAt, read-plain, extended, read-content}
@@ -33,10 +33,6 @@ use Rattle.header_rfc.proofs.Fixed.{readingAt, read-plain, extended, re
 pub form-known : (form : Form) → PlainForm form → (b : Block) → readBlock (formOf (profileOf form)) b ≡ paper.items (itemsBy (isTwo form)) b
 form-known one-byte p b = refl
 form-known (two-byte appbits) p b = ap (λ (a : ℕ). readBlock (formOf (0x1000 + a)) b) p
-
--- a profile that the reader takes for neither
-pub form-other : (profile : ℕ) → (profile ≡ 0xBEDE → ⊥) → (profile ≡ 0x1000 → ⊥) → formOf profile ≡ forms.other
-form-other profile a b = rw (ne-eqb profile 0xBEDE a, ne-eqb profile 0x1000 b)
 
 -- ---- a block that is one element
 
@@ -84,14 +80,14 @@ module _ (f : Fixed) (l : LawfulFixed f) (payload : List ℕ) where
   module _ (form : Form) (is : List Item) (plain : PlainForm form) (taken : AllTaken form is)
       (k : LawfulExtension (extensionOf (laid form is)))
       (fits : length (rtp.octets (extended f (extensionOf (laid form is))) ++ payload) ≤ 65535) where
-    pub laid-within : Within (elementsOf is) →
+    pub laid-within : Within (elementsAmong is) →
         readHeader (rtp.octets (extended f (extensionOf (laid form is))) ++ payload)
-        ≡ says (readingAt f true (profileOf form) (elementsOf is) (padsOf is) (length (rtp.octets (extended f (extensionOf (laid form is))))))
+        ≡ says (readingAt f true (profileOf form) (elementsAmong is) (padsAmong is) (length (rtp.octets (extended f (extensionOf (laid form is))))))
     laid-within w =
-        says-all (extensionOf (laid form is)) k fits (elementsOf is) (padsOf is)
+        says-all (extensionOf (laid form is)) k fits (elementsAmong is) (padsAmong is)
         (form-known form plain (now (blockOctets form is ++ payload) (length (blockOctets form is)) [] 0) ∙ read-items form is payload taken w)
 
-    pub laid-over : Over (elementsOf is) → readHeader (rtp.octets (extended f (extensionOf (laid form is))) ++ payload) ≡ refuse 7
+    pub laid-over : Over (elementsAmong is) → readHeader (rtp.octets (extended f (extensionOf (laid form is))) ++ payload) ≡ refuse 7
     laid-over o =
         read-content f l (extensionOf (laid form is)) k payload fits (refuse 7)
         (form-known form plain (now (blockOctets form is ++ payload) (length (blockOctets form is)) [] 0) ∙ read-items-over form is payload taken o)
@@ -120,8 +116,8 @@ module _ (f : Fixed) (payload : List ℕ) where
   not-one-byte : (profile : ℕ) → (profile / 16 ≡ 0x100 → ⊥) → profile ≡ 0x1000 → ⊥
   not-one-byte profile h e = h (omega arith)
 
-  within : (c : Option Content) → Lawful (with-content c) → Plain c → Fits (octets (with-content c) ++ payload) → Within (elementsIn c) →
-      readHeader (octets (with-content c) ++ payload) ≡ says (readingOf (with-content c))
+  within : (c : Option Content) → Lawful (with-content c) → Plain c → Fits (octets (with-content c) ++ payload) → Within (elementsSaid c) →
+      readHeader (octets (with-content c) ++ payload) ≡ says (readingSaid (with-content c))
   within none l p fits w =
       ap (λ (s : List ℕ). readHeader (s ++ payload)) (plain-octets f)
       ∙ read-plain f (l .header .fixed) payload (rw plain-octets at fits)
@@ -130,10 +126,10 @@ module _ (f : Fixed) (payload : List ℕ) where
       laid-within f (l .header .fixed) payload form is p (all-taken form is (l .content .1)) (l .header .extension) fits w
   within (some (other profile words)) l p fits w =
       other-within f (l .header .fixed) payload profile words
-      (form-other profile (l .content .0) (not-one-byte profile (l .content .1)))
+      (form-other (l .content .0) (not-one-byte profile (l .content .1)))
       (l .header .extension) fits w
 
-  over : (c : Option Content) → Lawful (with-content c) → Plain c → Fits (octets (with-content c) ++ payload) → Over (elementsIn c) →
+  over : (c : Option Content) → Lawful (with-content c) → Plain c → Fits (octets (with-content c) ++ payload) → Over (elementsSaid c) →
       readHeader (octets (with-content c) ++ payload) ≡ refuse 7
   over none l p fits (inl many) = absurd (omega arith)
   over none l p fits (inr much) = absurd (omega arith)
@@ -141,7 +137,7 @@ module _ (f : Fixed) (payload : List ℕ) where
       laid-over f (l .header .fixed) payload form is p (all-taken form is (l .content .1)) (l .header .extension) fits o
   over (some (other profile words)) l p fits o =
       other-over f (l .header .fixed) payload profile words
-      (form-other profile (l .content .0) (not-one-byte profile (l .content .1)))
+      (form-other (l .content .0) (not-one-byte profile (l .content .1)))
       (l .header .extension) fits o
 
 pub complete : Complete readHeader

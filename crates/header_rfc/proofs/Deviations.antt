@@ -14,20 +14,21 @@ use borrow.Author.Tests.{eq-eqb, ne-eqb}
 use Rattle.error.specs.Said.{Said, says, refuse}
 use Rattle.wire.specs.Net.{be16}
 use Rattle.wire.proofs.Turns.{run-more, run-done}
-use Rattle.rfc3550.specs.Rfc3550.{Fixed, LawfulFixed, Extension, LawfulExtension, fixedOctets, extensionOctets}
-use Rattle.rfc3550.specs.Rfc3550 as rtp
-use Rattle.rfc3550.specs.Rfc8285.{Form, one-byte, two-byte, profileOf, Item, element, headOctets, blockOctets, AllLawful, LawfulElement, extensionWith, Stray, reserved, zero-id, leaves, alone, strayOctets, laid, Plan, Lawful, octets}
-use Rattle.rfc3550.proofs.Places.{extended-octets}
 use Rattle.elements.specs.Elements.{Element, dataOf, roomFor}
 use Rattle.elements.proofs.Elements.{dataOf-append}
 use Rattle.block.specs.Read.{Block, oneByte, twoByte, itemsBy, taken, turn}
 use Rattle.block.specs.Read as paper
+use Rattle.block.proofs.Form.{form-other}
 use Rattle.header.specs.Read.{readHeader}
-use Rattle.header_rfc.specs.Says.{elementsOf, padsOf, elementsIn, wholeElement, fieldsWith, readingOf, Within, Over, PlainForm, Plain, AppBits, Fits}
+use Rattle.rfc3550.specs.Rfc3550.{Fixed, LawfulFixed, Extension, LawfulExtension, fixedOctets, extensionOctets}
+use Rattle.rfc3550.specs.Rfc3550 as rtp
+use Rattle.rfc3550.specs.Rfc8285.{Form, one-byte, two-byte, profileOf, Item, element, headOctets, blockOctets, AllLawful, LawfulElement, extensionWith, Stray, reserved, zero-id, leaves, alone, strayOctets, laid, Plan, Lawful, octets}
+use Rattle.rfc3550.proofs.Places.{extended-octets}
+use Rattle.header_rfc.specs.Says.{elementsAmong, padsAmong, elementsSaid, wholeElement, fieldsWith, readingSaid, Within, Over, PlainForm, Plain, AppBits, Fits}
 use Rattle.header_rfc.specs.Taken.{OneTaken, TakenElement, AllTaken, strayed, ReadAs}
 use Rattle.header_rfc.proofs.Items.{headSize, head-some, isTwo, all-taken, lawful-taken, now, reads, turn-seen, past-seen, after-element, full-element, fits-front, not-both, one-more, read-off, read-over, read-end}
 use Rattle.header_rfc.proofs.Fixed.{readingAt, around, extended, read-content}
-use Rattle.header_rfc.proofs.Complete.{form-known, form-other, other-within, complete}
+use Rattle.header_rfc.proofs.Complete.{form-known, other-within, complete}
 
 head-length : (form : Form) (id n : ℕ) (tail : List ℕ) → length (headOctets form id n ++ tail) ≡ headSize form + length tail
 head-length one-byte id n tail = omega arith
@@ -53,13 +54,13 @@ no-room-over es e w o = go (one-more es e w)
 -- ---- a stray behind items
 
 -- items in front of the block's other octets, which are `left` of `rest`; what comes of those with the items' elements and padding
-after-items : (form : Form) (is : List Item) → AllTaken form is → (rest : List ℕ) (left : ℕ) → Within (elementsOf is) → (goal : Said Block) →
-    ((k : ℕ) → left < k → reads form k (now rest left (elementsOf is) (padsOf is)) ≡ goal) →
+after-items : (form : Form) (is : List Item) → AllTaken form is → (rest : List ℕ) (left : ℕ) → Within (elementsAmong is) → (goal : Said Block) →
+    ((k : ℕ) → left < k → reads form k (now rest left (elementsAmong is) (padsAmong is)) ≡ goal) →
     paper.items (itemsBy (isTwo form)) (now (blockOctets form is ++ rest) (length (blockOctets form is) + left) [] 0) ≡ goal
 after-items form is t rest left w goal go =
     let n : ℕ = length (blockOctets form is) + left in
     read-off form is t rest left n [] 0 (n + 1) refl (omega arith) w goal
-    (λ k h. ap (λ (p : ℕ). reads form k (now rest left (elementsOf is) p)) (zero-add (padsOf is)) ∙ go k h)
+    (λ k h. ap (λ (p : ℕ). reads form k (now rest left (elementsAmong is) p)) (zero-add (padsAmong is)) ∙ go k h)
 
 -- the block ends at an id 15
 stop-seen : (len : ℕ) (tail : List ℕ) → len < 16 → oneByte ((15 * 16 + len) ∷ tail) ≡ paper.stop
@@ -158,22 +159,22 @@ module _ (f : Fixed) (form : Form) (plain : PlainForm form) (is : List Item) (r 
     element-last : (id : ℕ) (bytes after : List ℕ) → TakenElement form id (length bytes) →
         strayOctets form r ++ payload ≡ headOctets form id (length bytes) ++ (bytes ++ after) →
         0 < length (strayOctets form r) → length (strayOctets form r) ≤ headSize form + length bytes →
-        Within (elementsOf is ++ (record { id = id; bytes = bytes } ∷ [])) →
-        ReadAs s f (profileOf form) (elementsOf is ++ (record { id = id; bytes = bytes } ∷ [])) (padsOf is) after
+        Within (elementsAmong is ++ (record { id = id; bytes = bytes } ∷ [])) →
+        ReadAs s f (profileOf form) (elementsAmong is ++ (record { id = id; bytes = bytes } ∷ [])) (padsAmong is) after
     element-last id bytes after m cut any reach w =
         let e : Element = record { id = id; bytes = bytes } in
         let n : ℕ = length (strayOctets form r) in
-        read-as (headOctets form id (length bytes) ++ bytes) after 0 (elementsOf is ++ (e ∷ [])) (padsOf is)
+        read-as (headOctets form id (length bytes) ++ bytes) after 0 (elementsAmong is ++ (e ∷ [])) (padsAmong is)
         (cut ∙ sym (append-assoc (headOctets form id (length bytes)) bytes after))
         (ap (λ (u : List ℕ). paper.items (itemsBy (isTwo form)) (now (blockOctets form is ++ u) (length (blockOctets form is) + n) [] 0)) cut
-        ∙ after-items form is t (headOctets form id (length bytes) ++ (bytes ++ after)) n (within-front (elementsOf is) (e ∷ []) w)
-        (says (now after 0 (elementsOf is ++ (e ∷ [])) (padsOf is)))
-        (λ k enough. lasts form id bytes after n (elementsOf is) (padsOf is) k m any reach enough w))
+        ∙ after-items form is t (headOctets form id (length bytes) ++ (bytes ++ after)) n (within-front (elementsAmong is) (e ∷ []) w)
+        (says (now after 0 (elementsAmong is ++ (e ∷ [])) (padsAmong is)))
+        (λ k enough. lasts form id bytes after n (elementsAmong is) (padsAmong is) k m any reach enough w))
 
     -- an element that begins in the block and passes the limits
     element-full : (id : ℕ) (bytes after : List ℕ) → TakenElement form id (length bytes) →
         strayOctets form r ++ payload ≡ headOctets form id (length bytes) ++ (bytes ++ after) → 0 < length (strayOctets form r) →
-        Within (elementsOf is) → Over (elementsOf is ++ (record { id = id; bytes = bytes } ∷ [])) → readHeader s ≡ refuse 7
+        Within (elementsAmong is) → Over (elementsAmong is ++ (record { id = id; bytes = bytes } ∷ [])) → readHeader s ≡ refuse 7
     element-full id bytes after m cut any w o =
         let n : ℕ = length (strayOctets form r) in
         whole (refuse 7)
@@ -181,11 +182,11 @@ module _ (f : Fixed) (form : Form) (plain : PlainForm form) (is : List Item) (r 
         ∙ after-items form is t (headOctets form id (length bytes) ++ (bytes ++ after)) n w (refuse 7)
         (λ k enough.
         run-done (turn (itemsBy (isTwo form))) (refuse 3) k
-        (now (headOctets form id (length bytes) ++ (bytes ++ after)) n (elementsOf is) (padsOf is)) (refuse 7) (omega arith)
-        (full-element form id bytes after n (elementsOf is) (padsOf is) m any (no-room-over (elementsOf is) (record { id = id; bytes = bytes }) w o))))
+        (now (headOctets form id (length bytes) ++ (bytes ++ after)) n (elementsAmong is) (padsAmong is)) (refuse 7) (omega arith)
+        (full-element form id bytes after n (elementsAmong is) (padsAmong is) m any (no-room-over (elementsAmong is) (record { id = id; bytes = bytes }) w o))))
 
     -- items before it that pass the limits
-    items-full : Over (elementsOf is) → readHeader s ≡ refuse 7
+    items-full : Over (elementsAmong is) → readHeader s ≡ refuse 7
     items-full o =
         let n : ℕ = length (blockOctets form is) + length (strayOctets form r) in
         whole (refuse 7)
@@ -193,40 +194,40 @@ module _ (f : Fixed) (form : Form) (plain : PlainForm form) (is : List Item) (r 
         (record { few = omega arith; small = omega arith }) o)
 
     -- an element that begins in the block and lies past the packet
-    element-past : itemsBy (isTwo form) (strayOctets form r ++ payload) ≡ paper.past → 0 < length (strayOctets form r) → Within (elementsOf is) →
+    element-past : itemsBy (isTwo form) (strayOctets form r ++ payload) ≡ paper.past → 0 < length (strayOctets form r) → Within (elementsAmong is) →
         readHeader s ≡ refuse 3
     element-past e any w =
         whole (refuse 3)
         (after-items form is t (strayOctets form r ++ payload) (length (strayOctets form r)) w (refuse 3)
-        (λ k enough. lacks form (strayOctets form r ++ payload) (length (strayOctets form r)) (elementsOf is) (padsOf is) k any enough e))
+        (λ k enough. lacks form (strayOctets form r ++ payload) (length (strayOctets form r)) (elementsAmong is) (padsAmong is) k any enough e))
 
 -- ---- one theorem for each way
 
 -- whatever the stray is: over the limits before it is 7
 pub stray-over : (f : Fixed) (form : Form) → PlainForm form → (is : List Item) (r : Stray) (payload : List ℕ) → AllLawful form is →
-    rtp.Lawful (strayed f form is r) → Fits (rtp.octets (strayed f form is r) ++ payload) → Over (elementsOf is) →
+    rtp.Lawful (strayed f form is r) → Fits (rtp.octets (strayed f form is r) ++ payload) → Over (elementsAmong is) →
     readHeader (rtp.octets (strayed f form is r) ++ payload) ≡ refuse 7
 stray-over f form plain is r payload t l fits o = items-full f form plain is r l payload fits (all-taken form is t) o
 
 -- RFC 8285 4.2, id 15: the elements before it count, and the rest of the block becomes payload
 pub reserved-read : (f : Fixed) (is : List Item) (len : ℕ) (rest payload : List ℕ) → AllLawful one-byte is → len < 16 →
     rtp.Lawful (strayed f one-byte is (reserved len rest)) → Fits (rtp.octets (strayed f one-byte is (reserved len rest)) ++ payload) →
-    Within (elementsOf is) →
-    ReadAs (rtp.octets (strayed f one-byte is (reserved len rest)) ++ payload) f 0xBEDE (elementsOf is) (padsOf is) (rest ++ payload)
+    Within (elementsAmong is) →
+    ReadAs (rtp.octets (strayed f one-byte is (reserved len rest)) ++ payload) f 0xBEDE (elementsAmong is) (padsAmong is) (rest ++ payload)
 reserved-read f is len rest payload t h l fits w =
-    read-as f one-byte tt is (reserved len rest) l payload fits ((15 * 16 + len) ∷ []) (rest ++ payload) (suc (length rest) - 1) (elementsOf is) (padsOf is) refl
+    read-as f one-byte tt is (reserved len rest) l payload fits ((15 * 16 + len) ∷ []) (rest ++ payload) (suc (length rest) - 1) (elementsAmong is) (padsAmong is) refl
     (after-items one-byte is (all-taken one-byte is t) ((15 * 16 + len) ∷ (rest ++ payload)) (suc (length rest)) w
-    (says (now (rest ++ payload) (suc (length rest) - 1) (elementsOf is) (padsOf is)))
-    (λ k enough. stops len (rest ++ payload) (suc (length rest)) (elementsOf is) (padsOf is) k h (omega arith) enough))
+    (says (now (rest ++ payload) (suc (length rest) - 1) (elementsAmong is) (padsAmong is)))
+    (λ k enough. stops len (rest ++ payload) (suc (length rest)) (elementsAmong is) (padsAmong is) k h (omega arith) enough))
 
 -- RFC 3550 5.3.1, RFC 8285 4.1.2: an element of which the block holds only a part is read whole, into the payload
 pub leaves-read : (f : Fixed) (form : Form) → PlainForm form → (is : List Item) (id : ℕ) (part more after : List ℕ) → AllLawful form is →
     LawfulElement form id (length (part ++ more)) → length part < length (part ++ more) →
     rtp.Lawful (strayed f form is (leaves id (length (part ++ more)) part)) →
     Fits (rtp.octets (strayed f form is (leaves id (length (part ++ more)) part)) ++ (more ++ after)) →
-    Within (elementsOf is ++ (record { id = id; bytes = part ++ more } ∷ [])) →
+    Within (elementsAmong is ++ (record { id = id; bytes = part ++ more } ∷ [])) →
     ReadAs (rtp.octets (strayed f form is (leaves id (length (part ++ more)) part)) ++ (more ++ after)) f (profileOf form)
-    (elementsOf is ++ (record { id = id; bytes = part ++ more } ∷ [])) (padsOf is) after
+    (elementsAmong is ++ (record { id = id; bytes = part ++ more } ∷ [])) (padsAmong is) after
 leaves-read f form plain is id part more after t m h l fits w =
     let n : ℕ = length (part ++ more) in
     element-last f form plain is (leaves id n part) l (more ++ after) fits (all-taken form is t) id (part ++ more) after (lawful-taken form id n m)
@@ -238,8 +239,8 @@ leaves-read f form plain is id part more after t m h l fits w =
 -- over the limits it is 7
 pub leaves-over : (f : Fixed) (form : Form) → PlainForm form → (is : List Item) (id : ℕ) (part more after : List ℕ) → AllLawful form is →
     LawfulElement form id (length (part ++ more)) → rtp.Lawful (strayed f form is (leaves id (length (part ++ more)) part)) →
-    Fits (rtp.octets (strayed f form is (leaves id (length (part ++ more)) part)) ++ (more ++ after)) → Within (elementsOf is) →
-    Over (elementsOf is ++ (record { id = id; bytes = part ++ more } ∷ [])) →
+    Fits (rtp.octets (strayed f form is (leaves id (length (part ++ more)) part)) ++ (more ++ after)) → Within (elementsAmong is) →
+    Over (elementsAmong is ++ (record { id = id; bytes = part ++ more } ∷ [])) →
     readHeader (rtp.octets (strayed f form is (leaves id (length (part ++ more)) part)) ++ (more ++ after)) ≡ refuse 7
 leaves-over f form plain is id part more after t m l fits w o =
     let n : ℕ = length (part ++ more) in
@@ -249,7 +250,7 @@ leaves-over f form plain is id part more after t m l fits w o =
 -- past the packet it is 3
 pub leaves-past : (f : Fixed) (form : Form) → PlainForm form → (is : List Item) (id n : ℕ) (part payload : List ℕ) → AllLawful form is →
     LawfulElement form id n → length (part ++ payload) < n → rtp.Lawful (strayed f form is (leaves id n part)) →
-    Fits (rtp.octets (strayed f form is (leaves id n part)) ++ payload) → Within (elementsOf is) →
+    Fits (rtp.octets (strayed f form is (leaves id n part)) ++ payload) → Within (elementsAmong is) →
     readHeader (rtp.octets (strayed f form is (leaves id n part)) ++ payload) ≡ refuse 3
 leaves-past f form plain is id n part payload t m h l fits w =
     element-past f form plain is (leaves id n part) l payload fits (all-taken form is t)
@@ -262,16 +263,16 @@ leaves-past f form plain is id n part payload t m h l fits w =
 pub alone-read : (f : Fixed) (is : List Item) (id : ℕ) (bytes after : List ℕ) → AllLawful (two-byte 0) is → 1 ≤ id →
     rtp.Lawful (strayed f (two-byte 0) is (alone id)) →
     Fits (rtp.octets (strayed f (two-byte 0) is (alone id)) ++ (length bytes ∷ (bytes ++ after))) →
-    Within (elementsOf is ++ (record { id = id; bytes = bytes } ∷ [])) →
+    Within (elementsAmong is ++ (record { id = id; bytes = bytes } ∷ [])) →
     ReadAs (rtp.octets (strayed f (two-byte 0) is (alone id)) ++ (length bytes ∷ (bytes ++ after))) f 0x1000
-    (elementsOf is ++ (record { id = id; bytes = bytes } ∷ [])) (padsOf is) after
+    (elementsAmong is ++ (record { id = id; bytes = bytes } ∷ [])) (padsAmong is) after
 alone-read f is id bytes after t h l fits w =
     element-last f (two-byte 0) refl is (alone id) l (length bytes ∷ (bytes ++ after)) fits (all-taken (two-byte 0) is t) id bytes after h refl
     (omega arith) (omega arith) w
 
 -- past the packet it is 3: no length octet, or fewer octets than it says
 pub alone-last : (f : Fixed) (is : List Item) (id : ℕ) → AllLawful (two-byte 0) is → 1 ≤ id →
-    rtp.Lawful (strayed f (two-byte 0) is (alone id)) → Fits (rtp.octets (strayed f (two-byte 0) is (alone id)) ++ []) → Within (elementsOf is) →
+    rtp.Lawful (strayed f (two-byte 0) is (alone id)) → Fits (rtp.octets (strayed f (two-byte 0) is (alone id)) ++ []) → Within (elementsAmong is) →
     readHeader (rtp.octets (strayed f (two-byte 0) is (alone id)) ++ []) ≡ refuse 3
 unfolding twoByte
 alone-last f is id t h l fits w =
@@ -279,7 +280,7 @@ alone-last f is id t h l fits w =
 
 pub alone-past : (f : Fixed) (is : List Item) (id n : ℕ) (rest : List ℕ) → AllLawful (two-byte 0) is → 1 ≤ id → length rest < n →
     rtp.Lawful (strayed f (two-byte 0) is (alone id)) → Fits (rtp.octets (strayed f (two-byte 0) is (alone id)) ++ (n ∷ rest)) →
-    Within (elementsOf is) → readHeader (rtp.octets (strayed f (two-byte 0) is (alone id)) ++ (n ∷ rest)) ≡ refuse 3
+    Within (elementsAmong is) → readHeader (rtp.octets (strayed f (two-byte 0) is (alone id)) ++ (n ∷ rest)) ≡ refuse 3
 alone-past f is id n rest t h over l fits w =
     element-past f (two-byte 0) refl is (alone id) l (n ∷ rest) fits (all-taken (two-byte 0) is t) (past-seen (two-byte 0) id n rest h over) (omega arith) w
 
@@ -295,32 +296,32 @@ pub zero-id-read : (f : Fixed) (is js : List Item) (bytes payload : List ℕ) �
     2 ≤ length bytes → length bytes ≤ 16 →
     rtp.Lawful (strayed f one-byte is (zero-id (length bytes - 1) (bytes ++ blockOctets one-byte js))) →
     Fits (rtp.octets (strayed f one-byte is (zero-id (length bytes - 1) (bytes ++ blockOctets one-byte js))) ++ payload) →
-    Within (elementsOf is ++ (record { id = 0; bytes = bytes } ∷ elementsOf js)) →
+    Within (elementsAmong is ++ (record { id = 0; bytes = bytes } ∷ elementsAmong js)) →
     ReadAs (rtp.octets (strayed f one-byte is (zero-id (length bytes - 1) (bytes ++ blockOctets one-byte js))) ++ payload) f 0xBEDE
-    (elementsOf is ++ (record { id = 0; bytes = bytes } ∷ elementsOf js)) (padsOf is + padsOf js) payload
+    (elementsAmong is ++ (record { id = 0; bytes = bytes } ∷ elementsAmong js)) (padsAmong is + padsAmong js) payload
 zero-id-read f is js bytes payload t u low high l fits w =
-    read-as f one-byte tt is (zero-id (length bytes - 1) tail) l payload fits ((length bytes - 1) ∷ tail) payload 0 es (padsOf is + padsOf js) refl
+    read-as f one-byte tt is (zero-id (length bytes - 1) tail) l payload fits ((length bytes - 1) ∷ tail) payload 0 es (padsAmong is + padsAmong js) refl
     (after-items one-byte is (all-taken one-byte is t) (((length bytes - 1) ∷ tail) ++ payload) (suc (length tail))
-    (within-front (elementsOf is) (record { id = 0; bytes = bytes } ∷ elementsOf js) w)
-    (says (now payload 0 es (padsOf is + padsOf js)))
-    (λ k enough. ap (λ (v : List ℕ). reads one-byte k (now v (suc (length tail)) (elementsOf is) (padsOf is))) (zero-octet (length bytes) (tail ++ payload))
+    (within-front (elementsAmong is) (record { id = 0; bytes = bytes } ∷ elementsAmong js) w)
+    (says (now payload 0 es (padsAmong is + padsAmong js)))
+    (λ k enough. ap (λ (v : List ℕ). reads one-byte k (now v (suc (length tail)) (elementsAmong is) (padsAmong is))) (zero-octet (length bytes) (tail ++ payload))
     ∙ read-off one-byte (element 0 bytes ∷ js) (zero-taken (length bytes) low high, all-taken one-byte js u) payload 0 (suc (length tail))
-    (elementsOf is) (padsOf is) k (omega arith) enough w (says (now payload 0 es (padsOf is + padsOf js)))
-    (λ m h. read-end one-byte payload es (padsOf is + padsOf js) m h)))
+    (elementsAmong is) (padsAmong is) k (omega arith) enough w (says (now payload 0 es (padsAmong is + padsAmong js)))
+    (λ m h. read-end one-byte payload es (padsAmong is + padsAmong js) m h)))
   where
     tail : List ℕ
     tail = bytes ++ blockOctets one-byte js
 
     es : List Element
-    es = elementsOf is ++ (record { id = 0; bytes = bytes } ∷ elementsOf js)
+    es = elementsAmong is ++ (record { id = 0; bytes = bytes } ∷ elementsAmong js)
 
 -- it leaves the block as any other element does
 pub zero-id-leaves : (f : Fixed) (is : List Item) (part more after : List ℕ) → AllLawful one-byte is → 2 ≤ length (part ++ more) →
     length (part ++ more) ≤ 16 → rtp.Lawful (strayed f one-byte is (zero-id (length (part ++ more) - 1) part)) →
     Fits (rtp.octets (strayed f one-byte is (zero-id (length (part ++ more) - 1) part)) ++ (more ++ after)) →
-    Within (elementsOf is ++ (record { id = 0; bytes = part ++ more } ∷ [])) →
+    Within (elementsAmong is ++ (record { id = 0; bytes = part ++ more } ∷ [])) →
     ReadAs (rtp.octets (strayed f one-byte is (zero-id (length (part ++ more) - 1) part)) ++ (more ++ after)) f 0xBEDE
-    (elementsOf is ++ (record { id = 0; bytes = part ++ more } ∷ [])) (padsOf is) after
+    (elementsAmong is ++ (record { id = 0; bytes = part ++ more } ∷ [])) (padsAmong is) after
 zero-id-leaves f is part more after t low high l fits w =
     let n : ℕ = length (part ++ more) in
     element-last f one-byte tt is (zero-id (n - 1) part) l (more ++ after) fits (all-taken one-byte is t) 0 (part ++ more) after (zero-taken n low high)
@@ -329,7 +330,7 @@ zero-id-leaves f is part more after t low high l fits w =
 
 pub zero-id-past : (f : Fixed) (is : List Item) (n : ℕ) (part payload : List ℕ) → AllLawful one-byte is → 2 ≤ n → n ≤ 16 →
     length (part ++ payload) < n → rtp.Lawful (strayed f one-byte is (zero-id (n - 1) part)) →
-    Fits (rtp.octets (strayed f one-byte is (zero-id (n - 1) part)) ++ payload) → Within (elementsOf is) →
+    Fits (rtp.octets (strayed f one-byte is (zero-id (n - 1) part)) ++ payload) → Within (elementsAmong is) →
     readHeader (rtp.octets (strayed f one-byte is (zero-id (n - 1) part)) ++ payload) ≡ refuse 3
 zero-id-past f is n part payload t low high over l fits w =
     element-past f one-byte tt is (zero-id (n - 1) part) l payload fits (all-taken one-byte is t)
@@ -343,7 +344,7 @@ pub appbits-read : (f : Fixed) → LawfulFixed f → (profile : ℕ) → AppBits
     ≡ says (readingAt f true profile (wholeElement words ∷ []) 0 (length (rtp.octets (extended f (extensionWith profile words)))))
 appbits-read f l profile a words payload k fits w =
     other-within f l payload profile words
-    (form-other profile (λ e. omega (arith, a .to)) (λ e. omega (arith, a .from)))
+    (form-other {p = profile} (λ e. omega (arith, a .to)) (λ e. omega (arith, a .from)))
     k fits w
 
 -- ---- what RFC 8285 leaves open, and RFC 3550's version
@@ -352,17 +353,17 @@ appbits-read f l profile a words payload k fits w =
 pub duplicates-kept : (f : Fixed) (form : Form) (id : ℕ) (a b : List ℕ) (is : List Item) (payload : List ℕ) → PlainForm form →
     Lawful (record { fixed = f; content = some (laid form (element id a ∷ element id b ∷ is)) }) →
     Fits (octets (record { fixed = f; content = some (laid form (element id a ∷ element id b ∷ is)) }) ++ payload) →
-    Within (record { id = id; bytes = a } ∷ record { id = id; bytes = b } ∷ elementsOf is) →
+    Within (record { id = id; bytes = a } ∷ record { id = id; bytes = b } ∷ elementsAmong is) →
     readHeader (octets (record { fixed = f; content = some (laid form (element id a ∷ element id b ∷ is)) }) ++ payload)
     ≡ says
-    (readingAt f true (profileOf form) (record { id = id; bytes = a } ∷ record { id = id; bytes = b } ∷ elementsOf is) (padsOf is)
+    (readingAt f true (profileOf form) (record { id = id; bytes = a } ∷ record { id = id; bytes = b } ∷ elementsAmong is) (padsAmong is)
     (length (octets (record { fixed = f; content = some (laid form (element id a ∷ element id b ∷ is)) }))))
 duplicates-kept f form id a b is payload plain l fits w =
     complete .within (record { fixed = f; content = some (laid form (element id a ∷ element id b ∷ is)) }) payload l plain fits w
 
 -- RFC 3550 5.1, a version that is not 2: the header is read like any other, and says its version
 pub version-kept : (p : Plan) (payload : List ℕ) → (p .fixed .version ≡ 2 → ⊥) → Lawful p → Plain (p .content) → Fits (octets p ++ payload) →
-    Within (elementsIn (p .content)) →
-    (readHeader (octets p ++ payload) ≡ says (readingOf p)) × (readingOf p .fields .version ≡ p .fixed .version)
+    Within (elementsSaid (p .content)) →
+    (readHeader (octets p ++ payload) ≡ says (readingSaid p)) × (readingSaid p .fields .version ≡ p .fixed .version)
 unfolding fieldsWith
 version-kept p payload v l plain fits w = (complete .within p payload l plain fits w, refl)

@@ -14,15 +14,16 @@ use lib.Seq.{take-at, drop-at, drop-drop}
 use borrow.Author.Tests.{ne-eqb, le-ltb, lt-ltb}
 use Rattle.error.specs.Said.{Said, says, refuse}
 use Rattle.wire.specs.Turns.{run, more, done}
+use Rattle.wire.proofs.Each.{each-by}
 use Rattle.wire.proofs.Turns.{run-more, run-done}
-use Rattle.rfc3550.specs.Rfc8285.{Form, one-byte, two-byte, Item, padding, element, headOctets, blockOctets, LawfulElement, AllLawful}
 use Rattle.elements.specs.Elements.{Element, dataOf, roomFor}
 use Rattle.elements.proofs.Elements.{dataOf-append, room, no-room}
 use Rattle.block.specs.Read.{Block, within, oneByte, twoByte, itemsBy, taken, turn, with-element, skip}
 use Rattle.block.specs.Read as paper
 use Rattle.block.proofs.Reading.{block-path, zero-first}
-use Rattle.header_rfc.specs.Says.{elementsOf, padsOf, Within, Over}
-use Rattle.header_rfc.specs.Taken.{TakenElement, AllTaken}
+use Rattle.rfc3550.specs.Rfc8285.{Form, one-byte, two-byte, Item, padding, element, headOctets, blockOctets, LawfulElement, LawfulItem, AllLawful}
+use Rattle.header_rfc.specs.Says.{elementsAmong, padsAmong, Within, Over}
+use Rattle.header_rfc.specs.Taken.{TakenElement, TakenItem, AllTaken}
 
 -- ---- the forms, as the reader knows them
 
@@ -40,9 +41,11 @@ lawful-taken one-byte id n l = record { id-fits = l .id-fits; enough = l .enough
 lawful-taken (two-byte appbits) id n l = l .not-padding
 
 pub all-taken : (form : Form) (is : List Item) → AllLawful form is → AllTaken form is
-all-taken form [] l = tt
-all-taken form (padding ∷ is) l = (tt, all-taken form is (l .1))
-all-taken form (element id bytes ∷ is) l = (lawful-taken form id (length bytes) (l .0), all-taken form is (l .1))
+all-taken form is l = each-by (TakenItem form) (LawfulItem form) one is l
+  where
+    one : (i : Item) → LawfulItem form i → TakenItem form i
+    one padding m = tt
+    one (element id bytes) m = lawful-taken form id (length bytes) m
 
 -- ---- what stands in front
 
@@ -170,20 +173,20 @@ front-length (two-byte appbits) id bytes others = omega (arith, length-append by
 
 -- items in front of a block are read off: `goal` is what comes of the rest, with their elements and their padding
 pub read-off : (form : Form) (is : List Item) → AllTaken form is → (rest : List ℕ) (left n : ℕ) (es : List Element) (pads fuel : ℕ) →
-    n ≡ length (blockOctets form is) + left → n < fuel → Within (es ++ elementsOf is) → (goal : Said Block) →
-    ((k : ℕ) → left < k → reads form k (now rest left (es ++ elementsOf is) (pads + padsOf is)) ≡ goal) →
+    n ≡ length (blockOctets form is) + left → n < fuel → Within (es ++ elementsAmong is) → (goal : Said Block) →
+    ((k : ℕ) → left < k → reads form k (now rest left (es ++ elementsAmong is) (pads + padsAmong is)) ≡ goal) →
     reads form fuel (now (blockOctets form is ++ rest) n es pads) ≡ goal
 read-off form [] t rest left n es pads fuel sum enough w goal go =
     ap (reads form fuel)
     (block-path (now rest n es pads) (now rest left (es ++ []) (pads + 0)) refl (omega arith) (sym (append-nil es)) (omega arith))
     ∙ go fuel (omega arith)
 read-off form (padding ∷ is) t rest left n es pads fuel sum enough w goal go =
-    let same : pads + 1 + padsOf is ≡ pads + suc (padsOf is) = omega arith in
+    let same : pads + 1 + padsAmong is ≡ pads + suc (padsAmong is) = omega arith in
     run-more (turn (itemsBy (isTwo form))) (refuse 3) fuel (now (0 ∷ (blockOctets form is ++ rest)) n es pads)
     (now (blockOctets form is ++ rest) (n - 1) es (pads + 1)) (omega arith)
     (after-pad form (blockOctets form is ++ rest) n es pads (omega arith))
     ∙ read-off form is (t .1) rest left (n - 1) es (pads + 1) (fuel - 1) (omega arith) (omega arith) w goal
-    (λ k h. ap (λ (p : ℕ). reads form k (now rest left (es ++ elementsOf is) p)) same ∙ go k h)
+    (λ k h. ap (λ (p : ℕ). reads form k (now rest left (es ++ elementsAmong is) p)) same ∙ go k h)
 read-off form (element id bytes ∷ is) t rest left n es pads fuel sum enough w goal go =
     let e : Element = record { id = id; bytes = bytes } in
     let tail : List ℕ = blockOctets form is ++ rest in
@@ -195,10 +198,10 @@ read-off form (element id bytes ∷ is) t rest left n es pads fuel sum enough w 
     ap (λ (l : List ℕ). reads form fuel (now l n es pads)) octets
     ∙ run-more (turn (itemsBy (isTwo form))) (refuse 3) fuel (now (headOctets form id (length bytes) ++ (bytes ++ tail)) n es pads)
     (now tail (n - (headSize form + length bytes)) (es ++ (e ∷ [])) pads) (omega arith)
-    (after-element form id bytes tail n es pads (t .0) (omega arith) (fits-front es e (elementsOf is) w))
+    (after-element form id bytes tail n es pads (t .0) (omega arith) (fits-front es e (elementsAmong is) w))
     ∙ read-off form is (t .1) rest left (n - (headSize form + length bytes)) (es ++ (e ∷ [])) pads (fuel - 1) (omega arith) (omega arith)
-    (rw (one-on es e (elementsOf is)) w) goal
-    (λ k h. ap (λ (l : List Element). reads form k (now rest left l (pads + padsOf is))) (one-on es e (elementsOf is)) ∙ go k h)
+    (rw (one-on es e (elementsAmong is)) w) goal
+    (λ k h. ap (λ (l : List Element). reads form k (now rest left l (pads + padsAmong is))) (one-on es e (elementsAmong is)) ∙ go k h)
 
 pub not-both : (es : List Element) → Within es → Over es → ⊥
 not-both es w (inl many) = omega (arith, w .few)
@@ -222,7 +225,7 @@ one-more es e w =
 
 -- items in front of a block whose elements pass the limits: 7
 pub read-over : (form : Form) (is : List Item) → AllTaken form is → (rest : List ℕ) (left n : ℕ) (es : List Element) (pads fuel : ℕ) →
-    n ≡ length (blockOctets form is) + left → n < fuel → Within es → Over (es ++ elementsOf is) →
+    n ≡ length (blockOctets form is) + left → n < fuel → Within es → Over (es ++ elementsAmong is) →
     reads form fuel (now (blockOctets form is ++ rest) n es pads) ≡ refuse 7
 read-over form [] t rest left n es pads fuel sum enough w o = absurd (not-both es w (rw append-nil at o))
 read-over form (padding ∷ is) t rest left n es pads fuel sum enough w o =
@@ -234,7 +237,7 @@ read-over form (element id bytes ∷ is) t rest left n es pads fuel sum enough w
     ap (λ (l : List ℕ). reads form fuel (now l n es pads)) (front-octets form id bytes (blockOctets form is) rest)
     ∙ go (one-more es e w)
     (λ w′. read-over form is (t .1) rest left (n - (headSize form + length bytes)) (es ++ (e ∷ [])) pads (fuel - 1) (omega (arith, long)) (omega (arith, long, head-some form)) w′
-    (rw (one-on es e (elementsOf is)) o))
+    (rw (one-on es e (elementsAmong is)) o))
   where
     e : Element
     e = record { id = id; bytes = bytes }
@@ -271,14 +274,14 @@ read-end form rest es pads k h = run-done (turn (itemsBy (isTwo form))) (refuse 
 abbrev pub blockOf : Form → List Item → List ℕ → Block
 blockOf form is rest = now (blockOctets form is ++ rest) (length (blockOctets form is)) [] 0
 
-pub read-items : (form : Form) (is : List Item) (rest : List ℕ) → AllTaken form is → Within (elementsOf is) →
-    paper.items (itemsBy (isTwo form)) (blockOf form is rest) ≡ says (now rest 0 (elementsOf is) (padsOf is))
+pub read-items : (form : Form) (is : List Item) (rest : List ℕ) → AllTaken form is → Within (elementsAmong is) →
+    paper.items (itemsBy (isTwo form)) (blockOf form is rest) ≡ says (now rest 0 (elementsAmong is) (padsAmong is))
 read-items form is rest t w =
     let n : ℕ = length (blockOctets form is) in
-    read-off form is t rest 0 n [] 0 (n + 1) (omega arith) (omega arith) w (says (now rest 0 (elementsOf is) (padsOf is)))
-    (λ k h. read-end form rest (elementsOf is) (0 + padsOf is) k h ∙ ap (λ (p : ℕ). says (now rest 0 (elementsOf is) p)) (zero-add (padsOf is)))
+    read-off form is t rest 0 n [] 0 (n + 1) (omega arith) (omega arith) w (says (now rest 0 (elementsAmong is) (padsAmong is)))
+    (λ k h. read-end form rest (elementsAmong is) (0 + padsAmong is) k h ∙ ap (λ (p : ℕ). says (now rest 0 (elementsAmong is) p)) (zero-add (padsAmong is)))
 
-pub read-items-over : (form : Form) (is : List Item) (rest : List ℕ) → AllTaken form is → Over (elementsOf is) →
+pub read-items-over : (form : Form) (is : List Item) (rest : List ℕ) → AllTaken form is → Over (elementsAmong is) →
     paper.items (itemsBy (isTwo form)) (blockOf form is rest) ≡ refuse 7
 read-items-over form is rest t o =
     let n : ℕ = length (blockOctets form is) in

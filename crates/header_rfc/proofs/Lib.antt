@@ -9,4 +9,5 @@ pub mod Deviations
 pub mod Yields
 pub mod Rewritten
 pub mod Refusals
+pub mod Writers
 pub mod Main

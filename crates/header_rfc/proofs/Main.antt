@@ -2,38 +2,40 @@
 --
 -- The words. A plan is what a header says: the fields of RFC 3550 5.1, and for an extension its items, each an element or an octet of padding
 -- (RFC 8285), or the words of another profile. `octets p` are the plan's octets; they are defined in crate `rfc3550` from the RFCs alone. A plan is
--- `Lawful` where each field is in the RFCs' range. `readHeader s` is the paper's reading of the bytes s, and `octetsOf f` what the paper has written
--- for the fields f: the code of crate `header` is proved equal to both. `readingOf p` is what the plan says, in the header's own fields, with the
--- payload's place behind the header; `refuse n` is the paper's refusal n.
+-- `Lawful` where each field is in the RFCs' range. `readHeader s` is the paper's reading of the bytes s, and `writeHeader h room` its answer for the
+-- record h and a buffer of `room` bytes, the octets written or a refusal: the code of crate `header` is proved equal to both. `octetsOf f` are the
+-- octets that the paper has for the fields f. `readingSaid p` is what the plan says, in the header's own fields, with the payload's place behind the
+-- header; `refuse n` is the paper's refusal n.
 --
 -- The paper's limits are `Fits` (65,535 bytes) and `Within` (32 elements, 1,024 data bytes). The crate's deviations are told in `Deviations`,
 -- `Rewritten` and `Yields`, one theorem for each row of docs/DIFFERENCES.md; the one that COMPLETE has to leave out is `Plain`: of the two-byte
 -- form's profiles 0x1000 to 0x100F only 0x1000 is read as such.
 use mathlib.Core.Path.{_≡_, ap, _∙_}
+use mathlib.Core.Bool.{true}
 use mathlib.Core.List.{List, _++_}
 use mathlib.Core.Logic.{_⊎_}
-use Prim.Native.Nat.{ℕ}
+use Prim.Native.Nat.{ℕ, _≤_}
 use lib.ListN.{length}
 use Rattle.error.specs.Refusal.{Refusal}
 use Rattle.error.specs.Said.{Said, says, refused, refuse}
+use Rattle.header.specs.declared.Header.{Header}
 use Rattle.header.specs.declared.Unmarshalled.{Unmarshalled}
-use Rattle.header.specs.Fields.{Fields, layOut}
+use Rattle.header.specs.Fields.{Fields, fieldsOf, layOut, inDomain}
 use Rattle.header.specs.Read.{Reading, readHeader}
-use Rattle.header.specs.Write.{octetsOf}
+use Rattle.header.specs.Size.{headerSize}
+use Rattle.header.specs.Write.{inWritingDomain, writeHeader}
 use Rattle.header.specs.Said.{heard, readingHeard}
 use Rattle.rfc3550.specs.Rfc3550.{Octets, Extension, LawfulExtension, Begins, CutShort}
 use Rattle.rfc3550.specs.Rfc8285.{Plan, Lawful, octets, Conforms, Strays}
 use Rattle.rfc3550.proofs.Parse as parse
 use Rattle.rfc3550.proofs.Blocks as blocks
-use Rattle.header_rfc.specs.Says.{elementsIn, fieldsIn, Within, Plain, AppBits, Fits, Complete, Sound}
-use Rattle.header_rfc.specs.RoundTrip.{Writable, ReadsBack, readBack, WrittenAs, Trailing}
+use Rattle.header_rfc.specs.Says.{elementsSaid, fieldsSaid, Within, Plain, AppBits, Fits, Complete, Sound}
+use Rattle.header_rfc.specs.RoundTrip.{InRange, ReadsBack, WrittenAs, Writes, WrittenAndRead, AsTyped, Trailing}
 use Rattle.header_rfc.proofs.Complete as complete
 use Rattle.header_rfc.proofs.Readers as readers
 use Rattle.header_rfc.proofs.Sound as sound
 use Rattle.header_rfc.proofs.Refusals as refusals
-use Rattle.header_rfc.proofs.RoundTrip as round-trip
-use Rattle.header_rfc.proofs.Rewritten as rewritten
-use Rattle.header_rfc.proofs.Yields as yields
+use Rattle.header_rfc.proofs.Writers as writers
 
 -- ---- reading
 
@@ -44,8 +46,8 @@ COMPLETE = complete.complete
 
 -- The same of the code: whatever `unmarshal` answers under its contract
 pub CODE-COMPLETE : (u : Unmarshalled) (p : Plan) (payload : List ℕ) → heard u ≡ readingHeard (readHeader (octets p ++ payload)) →
-    Lawful p → Plain (p .content) → Fits (octets p ++ payload) → Within (elementsIn (p .content)) →
-    heard u ≡ record { answer = says (length (octets p)); header = layOut (fieldsIn p) }
+    Lawful p → Plain (p .content) → Fits (octets p ++ payload) → Within (elementsSaid (p .content)) →
+    heard u ≡ record { answer = says (length (octets p)); header = layOut (fieldsSaid p) }
 CODE-COMPLETE u p payload contract l plain fits w = contract ∙ ap readingHeard (COMPLETE .within p payload l plain fits w)
 
 -- COMPLETE shuts out "a reader that refuses all" ..
@@ -93,24 +95,45 @@ NEVER-BOTH = blocks.not-both
 
 -- ---- writing
 
--- WRITER. Under the paper's conditions for the round trip the written octets are those of a lawful plan, which says the record. (A profile 0x1001 to
--- 0x100F is RFC 8285's two-byte form; the crate writes any words there.)
-pub WRITER : (f : Fields) → Writable f → ReadsBack f → (AppBits (f .profile) → ⊥) → WrittenAs f
-WRITER = round-trip.writer
+-- WRITES. Every record in the domain that meets the paper's conditions for the round trip is written, wherever there is room for its size, and as
+-- the octets that the paper has for its fields.
+pub WRITES : Writes writeHeader
+WRITES = writers.writes
 
--- ROUND TRIP. "Fields and elements read back equal; extensions_padding reads back as the zeros written."
-pub ROUND-TRIP : (f : Fields) → Writable f → ReadsBack f → (payload : List ℕ) → Fits (octetsOf f ++ payload) →
-    readHeader (octetsOf f ++ payload) ≡ says (record { fields = readBack f; place = length (octetsOf f) })
-ROUND-TRIP = round-trip.round-trip
+-- WRITES shuts out a writer that refuses every record with extensions.
+pub NO-REFUSING-WRITER : (write : Header → ℕ → Said (List ℕ)) (why : Header → ℕ → Refusal) →
+    ((h : Header) (room : ℕ) → h .extension ≡ true → write h room ≡ refused (why h room)) → Writes write → ⊥
+NO-REFUSING-WRITER = writers.no-refusing-writer
 
--- The other way round: what was read from any octets can be written, and reads back ..
-pub READ-WRITE-READ : (s : List ℕ) → Octets s → (r : Reading) → readHeader s ≡ says r → (payload : List ℕ) → Fits (octetsOf (r .fields) ++ payload) →
-    readHeader (octetsOf (r .fields) ++ payload) ≡ says (record { fields = readBack (r .fields); place = length (octetsOf (r .fields)) })
-READ-WRITE-READ = yields.reads-again
+-- Those conditions lie in the domain of writing ..
+pub IN-DOMAIN : (h : Header) → inDomain h ≡ true → InRange (fieldsOf h) → ReadsBack (fieldsOf h) → inWritingDomain h ≡ true
+IN-DOMAIN = writers.kept-in-domain
 
--- .. and a well-formed header whose padding stands behind its elements, and only fills the last word, is written as the octets that were read.
-pub SAME-OCTETS : (p : Plan) → Lawful p → Plain (p .content) → Trailing (p .content) → octetsOf (fieldsIn p) ≡ octets p
-SAME-OCTETS = rewritten.written-again
+-- .. and every record of that domain has its fields in those ranges.
+pub IN-RANGE : (h : Header) → AsTyped h → inWritingDomain h ≡ true → InRange (fieldsOf h)
+IN-RANGE = writers.only-in-range
+
+-- WRITER. What is written so is the octets of a lawful plan, which says the record. (A profile 0x1001 to 0x100F is RFC 8285's two-byte form; the crate
+-- writes any words there.)
+pub WRITER : (h : Header) → inDomain h ≡ true → InRange (fieldsOf h) → ReadsBack (fieldsOf h) → (AppBits (fieldsOf h .profile) → ⊥) → (room : ℕ) →
+    headerSize (fieldsOf h) ≤ room → WrittenAs (fieldsOf h) (writeHeader h room)
+WRITER = writers.written-as
+
+-- ROUND TRIP. The call writes, and of what it wrote: "Fields and elements read back equal; extensions_padding reads back as the zeros written."
+pub ROUND-TRIP : (h : Header) → inDomain h ≡ true → InRange (fieldsOf h) → ReadsBack (fieldsOf h) → (room : ℕ) → headerSize (fieldsOf h) ≤ room →
+    WrittenAndRead (fieldsOf h) (writeHeader h room)
+ROUND-TRIP = writers.round-trip
+
+-- The other way round: the record that was read from any octets is written, and reads back ..
+pub READ-WRITE-READ : (s : List ℕ) → Octets s → (r : Reading) → readHeader s ≡ says r → (room : ℕ) → headerSize (r .fields) ≤ room →
+    WrittenAndRead (r .fields) (writeHeader (layOut (r .fields)) room)
+READ-WRITE-READ = writers.reads-again
+
+-- .. and that of a well-formed header whose padding stands behind its elements, and only fills the last word, is written as the octets that were
+-- read.
+pub SAME-OCTETS : (p : Plan) → Lawful p → Plain (p .content) → Trailing (p .content) → Within (elementsSaid (p .content)) → (room : ℕ) →
+    headerSize (fieldsSaid p) ≤ room → writeHeader (layOut (fieldsSaid p)) room ≡ says (octets p)
+SAME-OCTETS = writers.same-octets
 
 -- ---- where the crate leaves the RFCs, each with the theorem that says exactly what it does
 --
@@ -122,7 +145,9 @@ SAME-OCTETS = rewritten.written-again
 -- RFC 8285 4.2, id 15                             the rest of the block is payload: Deviations.reserved-read
 -- RFC 8285 4.3, an id as the block's last octet   length and data from the payload: Deviations.alone-read; past the packet 3: .alone-last, .alone-past
 -- RFC 8285 4.3, application bits not 0            one element of id 0, the whole block: Deviations.appbits-read
+-- RFC 8285 4.2, 4.3, ids 15 and 0                 written, as everything in the domain: Writers.form-written
 -- RFC 8285 4.2, id 15 written                     what is written from there on is payload: Rewritten.fifteen-written; never read: Yields.fifteen-never
--- RFC 8285 4.2, id 0 written, one byte            the octets of padding and that byte: Rewritten.zero-octets; never read: Yields.zero-never
+-- RFC 8285 4.2, id 0 written, one byte            as the octets of padding and that byte: Rewritten.zero-octets; never read: Yields.zero-never
 -- RFC 8285 4.2, id 0 written, 2 to 16 bytes       reads back as id 0: Rewritten.zero-reads-back
--- RFC 8285 4.3, id 0 written                      the octets of padding, length, data: Rewritten.two-byte-zero-octets; never read: Yields.two-byte-zero-never
+-- RFC 8285 4.3, id 0 written                      as the octets of padding, length, data: Rewritten.two-byte-zero-octets; never read:
+--                                                 Yields.two-byte-zero-never

@@ -13,7 +13,7 @@ use Rattle.wire.specs.Net.{be16, be32}
 use Rattle.rfc3550.specs.Rfc3550.{fixedOctets}
 use Rattle.rfc3550.specs.Rfc3550 as rtp
 use Rattle.rfc3550.specs.Rfc8285.{Plan, Lawful, octets}
-use Rattle.header_rfc.specs.Says.{fieldsWith, readingOf, Fits, Complete}
+use Rattle.header_rfc.specs.Says.{fieldsWith, readingSaid, Fits, Complete}
 
 -- the shortest header, of a padding bit and a payload type
 abbrev pub shortest : Bool → ℕ → Plan
@@ -56,14 +56,14 @@ shortest-fits type = omega arith
 
 -- a complete reader reads the shortest header
 read-shortest : (read : List ℕ → Said Reading) → Complete read → (type : ℕ) → type < 128 →
-    read (octets (shortest false type) ++ []) ≡ says (readingOf (shortest false type))
+    read (octets (shortest false type) ++ []) ≡ says (readingSaid (shortest false type))
 read-shortest read c type h =
     c .within (shortest false type) [] (shortest-lawful false type h) tt (shortest-fits type) (record { few = omega arith; small = omega arith })
 
 -- "a reader that refuses all"
 pub no-refuser : (why : List ℕ → Refusal) → Complete (λ (s : List ℕ). refused (why s)) → ⊥
 no-refuser why c =
-    let e : refused (why (octets (shortest false 0) ++ [])) ≡ says (readingOf (shortest false 0)) = read-shortest (λ s. refused (why s)) c 0 (omega arith) in
+    let e : refused (why (octets (shortest false 0) ++ [])) ≡ says (readingSaid (shortest false 0)) = read-shortest (λ s. refused (why s)) c 0 (omega arith) in
     let z : _≡_ {A = ℕ} 0 1 = cc in
     omega arith
 
@@ -72,7 +72,7 @@ pub no-fixed-record : (f : Fields) (read : List ℕ → Said Reading) → ((s : 
 unfolding fieldsWith
 no-fixed-record f read always c =
     let zero-type : 0 ≡ f .type =
-    ap (λ (g : Fields). g .type) (always (octets (shortest false 0) ++ []) (readingOf (shortest false 0)) (read-shortest read c 0 (omega arith))) in
+    ap (λ (g : Fields). g .type) (always (octets (shortest false 0) ++ []) (readingSaid (shortest false 0)) (read-shortest read c 0 (omega arith))) in
     let one-type : 1 ≡ f .type =
-    ap (λ (g : Fields). g .type) (always (octets (shortest false 1) ++ []) (readingOf (shortest false 1)) (read-shortest read c 1 (omega arith))) in
+    ap (λ (g : Fields). g .type) (always (octets (shortest false 1) ++ []) (readingSaid (shortest false 1)) (read-shortest read c 1 (omega arith))) in
     omega arith

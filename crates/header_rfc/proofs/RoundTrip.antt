@@ -1,31 +1,35 @@
 -- What is written reads back: the written octets are those of a plan that says the record, and every such plan is read as what it says.
 -- Assumes nothing.
 use mathlib.Core.Path.{_≡_, refl, sym, ap, ap₂, _∙_, subst}
-use mathlib.Core.Bool.{Bool, true, false, cond}
+use mathlib.Core.Bool.{Bool, true, false, cond, _&&_}
 use mathlib.Core.List.{List, [], _∷_, _++_, append-nil}
 use mathlib.Core.Option.{none, some}
 use Prim.Native.Nat.{ℕ, zero, suc, _-_, _*_, _%_}
 use native.Mathlib.Decide.{ℕ-discrete}
 use native.Mathlib.Omega.{arith}
 use lib.ListN.{length, replicate}
-use Rattle.error.specs.Said.{says}
-use Rattle.rfc3550.specs.Rfc3550.{Extension, LawfulExtension}
-use Rattle.rfc3550.specs.Rfc3550 as rtp
-use Rattle.rfc3550.specs.Rfc8285.{Form, one-byte, two-byte, LawfulForm, profileOf, Item, padding, highestId, leastData, mostData, AllLawful, laid, other, extensionOf, extensionWith}
-use Rattle.rfc3550.proofs.Places.{plain-octets}
+use borrow.Author.Tests.{le-leb}
+use Rattle.error.specs.Said.{Said, says}
+use Rattle.wire.proofs.Each.{each-append}
 use Rattle.elements.specs.Elements.{Element, dataOf}
 use Rattle.block.specs.Form.{formOf, wordsFor}
+use Rattle.block.specs.Write.{fits, allWritable}
 use Rattle.block.specs.Form as forms
+use Rattle.block.proofs.Form.{form-other}
 use Rattle.header.specs.Fields.{Fields}
 use Rattle.header.specs.Read.{Reading, readHeader}
 use Rattle.header.specs.Size.{payloadLength}
 use Rattle.header.specs.Write.{octetsOf}
-use Rattle.header_rfc.specs.Says.{elementsOf, padsOf, wholeElement, fieldsWith, PlainForm, AppBits, Fits}
-use Rattle.header_rfc.specs.Taken.{AllTaken}
-use Rattle.header_rfc.specs.RoundTrip.{Writable, AllKept, KeptIn, KeptBy, ReadsBack, zerosWritten, readBack, WrittenAs, itemsFor, itemsWith}
-use Rattle.header_rfc.proofs.Items.{all-taken}
+use Rattle.rfc3550.specs.Rfc3550.{Extension, LawfulExtension}
+use Rattle.rfc3550.specs.Rfc3550 as rtp
+use Rattle.rfc3550.proofs.Places.{plain-octets}
+use Rattle.rfc3550.specs.Rfc8285.{Form, one-byte, two-byte, LawfulForm, profileOf, Item, padding, highestId, leastData, mostData, LawfulElement, LawfulItem, AllLawful, laid, other, extensionOf, extensionWith}
+use Rattle.header_rfc.specs.Says.{elementsAmong, padsAmong, wholeElement, fieldsWith, PlainForm, AppBits, Fits}
+use Rattle.header_rfc.specs.Taken.{OneTaken, TakenItem, AllTaken}
+use Rattle.header_rfc.specs.RoundTrip.{InRange, AllKept, KeptIn, KeptBy, ReadsBack, zerosWritten, readBack, WrittenAs, itemsFor}
+use Rattle.header_rfc.proofs.Items.{lawful-taken, all-taken}
 use Rattle.header_rfc.proofs.Fixed.{readingAt, read-plain, extended}
-use Rattle.header_rfc.proofs.Complete.{laid-within, other-within, form-other}
+use Rattle.header_rfc.proofs.Complete.{laid-within, other-within}
 use Rattle.header_rfc.proofs.Written.{fixedFor, fixed-lawful, inPaper, zerosFor, filled, filled-lawful, filled-words, filled-items, itemsIn, elements-with, pads-with, octets-plain, octets-extended}
 
 -- ---- how a profile is known
@@ -39,7 +43,7 @@ pub known : (profile : ℕ) → Known profile
 known profile =
     elim (ℕ-discrete profile 0xBEDE) [
       | yes e ↦ is-one-byte e
-      | no a ↦ elim (ℕ-discrete profile 0x1000) [ yes e ↦ is-two-byte e | no b ↦ is-other (form-other profile a b) a b ]
+      | no a ↦ elim (ℕ-discrete profile 0x1000) [ yes e ↦ is-two-byte e | no b ↦ is-other (form-other a b) a b ]
     ]
 
 -- ---- the record that is read back
@@ -81,7 +85,7 @@ zeros-filled f g on e =
 -- ---- the plan of a record
 
 -- the elements as items of a form
-module _ (f : Fields) (w : Writable f) (form : Form) (on : f .extension ≡ true) (p : f .profile ≡ profileOf form)
+module _ (f : Fields) (w : InRange f) (form : Form) (on : f .extension ≡ true) (p : f .profile ≡ profileOf form)
     (g : formOf (f .profile) ≡ inPaper form) where
   abbrev laidItems : List Item
   laidItems = itemsIn form (f .elements)
@@ -95,16 +99,16 @@ module _ (f : Fields) (w : Writable f) (form : Form) (on : f .extension ≡ true
   pub laid-lawful : LawfulExtension (extensionOf (laid form laidItems))
   laid-lawful = subst LawfulExtension lay (filled-lawful (inPaper form) (f .profile) (f .elements) (w .profile) (w .within))
 
-  pub laid-elements : elementsOf laidItems ≡ f .elements
+  pub laid-elements : elementsAmong laidItems ≡ f .elements
   laid-elements = elements-with (f .elements) (zerosFor (inPaper form) (f .elements))
 
-  pub laid-said : (n : ℕ) → readingAt (fixedFor f) true (profileOf form) (elementsOf laidItems) (padsOf laidItems) n ≡ record { fields = readBack f; place = n }
+  pub laid-said : (n : ℕ) → readingAt (fixedFor f) true (profileOf form) (elementsAmong laidItems) (padsAmong laidItems) n ≡ record { fields = readBack f; place = n }
   laid-said n =
-      reading-back f true (profileOf form) (elementsOf laidItems) (padsOf laidItems) n (sym on) (sym p) laid-elements
+      reading-back f true (profileOf form) (elementsAmong laidItems) (padsAmong laidItems) n (sym on) (sym p) laid-elements
       (pads-with (f .elements) (zerosFor (inPaper form) (f .elements)) ∙ zeros-filled f (inPaper form) on g)
 
 -- one element of whole words
-module _ (f : Fields) (w : Writable f) (words : List ℕ) (on : f .extension ≡ true) (g : formOf (f .profile) ≡ forms.other)
+module _ (f : Fields) (w : InRange f) (words : List ℕ) (on : f .extension ≡ true) (g : formOf (f .profile) ≡ forms.other)
     (e : f .elements ≡ wholeElement words ∷ []) (m : length words % 4 ≡ 0) where
   all : filled forms.other (f .elements) ≡ words
   all = ap (filled forms.other) e ∙ filled-words words m
@@ -130,9 +134,55 @@ pub plain-said : (f : Fields) → f .extension ≡ false → f .profile ≡ 0 �
     readingAt (fixedFor f) false 0 [] 0 n ≡ record { fields = readBack f; place = n }
 plain-said f off p e n = reading-back f false 0 [] 0 n (sym off) (sym p) (sym e) (no-zeros f off)
 
--- ---- the three ways
+-- ---- the three ways in which the extension of a record that is written and reads back can stand
 
-module _ (f : Fields) (w : Writable f) (payload : List ℕ) (fits : Fits (octetsOf f ++ payload)) where
+-- none; elements of a form, of which P is so; or one element of whole words
+pub data Ways (P : Form → List Element → Type 0) (f : Fields) : Type 0 where
+  without : f .extension ≡ false → f .profile ≡ 0 → f .elements ≡ [] → Ways P f
+  in-form : (form : Form) → PlainForm form → f .extension ≡ true → f .profile ≡ profileOf form → formOf (f .profile) ≡ inPaper form →
+      P form (f .elements) → Ways P f
+  whole : (words : List ℕ) → f .extension ≡ true → formOf (f .profile) ≡ forms.other → f .elements ≡ wholeElement words ∷ [] →
+      length words % 4 ≡ 0 → (f .profile ≡ 0xBEDE → ⊥) → (f .profile ≡ 0x1000 → ⊥) → Ways P f
+
+pub ways-by : (P Q : Form → List Element → Type 0) → ((form : Form) (es : List Element) → P form es → Q form es) → (f : Fields) → Ways P f → Ways Q f
+ways-by P Q h f (without off p e) = without off p e
+ways-by P Q h f (in-form form plain on p g k) = in-form form plain on p g (h form (f .elements) k)
+ways-by P Q h f (whole words on g e m a b) = whole words on g e m a b
+
+-- elements that are lawful ..
+abbrev pub LawfulIn : Form → List Element → Type 0
+LawfulIn form es = AllLawful form (itemsFor es)
+
+-- .. whose heads the reader takes for elements ..
+abbrev pub TakenIn : Form → List Element → Type 0
+TakenIn form es = AllTaken form (itemsFor es)
+
+-- .. and that the writing domain allows too
+pub record BothWays (form : Form) (es : List Element) : Type 0 where
+  pub taken : TakenIn form es
+  pub allowed : allWritable (inPaper form) es ≡ true
+
+pub one-allowed : (id n : ℕ) → OneTaken id n → fits forms.one-byte id n ≡ true
+one-allowed id n t = rw (le-leb id 15 (omega (arith, t .id-fits)), le-leb 1 n (t .enough), le-leb n 16 (t .fits))
+
+pub lawful-both : (form : Form) (es : List Element) → LawfulIn form es → BothWays form es
+lawful-both form es l = record { taken = all-taken form (itemsFor es) l; allowed = all es l }
+  where
+    one : (g : Form) (id n : ℕ) → LawfulElement g id n → fits (inPaper g) id n ≡ true
+    one one-byte id n m = one-allowed id n (lawful-taken one-byte id n m)
+    one (two-byte appbits) id n m = le-leb n 255 (m .data-fits)
+
+    all : (fs : List Element) → LawfulIn form fs → allWritable (inPaper form) fs ≡ true
+    all [] k = refl
+    all (e ∷ fs) k = ap₂ (λ (a b : Bool). a && b) (one form (e .id) (length (e .bytes)) (k .0)) (all fs (k .1))
+
+-- ---- what stands so reads back
+
+lawful-padding : (form : Form) (z : ℕ) → AllLawful form (replicate z padding)
+lawful-padding form zero = tt
+lawful-padding form (suc z) = (tt, lawful-padding form z)
+
+module _ (f : Fields) (w : InRange f) (payload : List ℕ) (fits : Fits (octetsOf f ++ payload)) where
   -- what is to be shown
   abbrev Back : Type 0
   Back = readHeader (octetsOf f ++ payload) ≡ says (record { fields = readBack f; place = length (octetsOf f) })
@@ -145,24 +195,22 @@ module _ (f : Fields) (w : Writable f) (payload : List ℕ) (fits : Fits (octets
       ∙ h (rw e at fits)
       ∙ ap (λ (t : List ℕ). says (record { fields = readBack f; place = length t })) (sym e)
 
-  pub back-off : f .extension ≡ false → f .profile ≡ 0 → f .elements ≡ [] → Back
-  back-off off p e =
+  pub back : Ways TakenIn f → Back
+  back (without off p e) =
       through (rtp.fixedOctets (fixedFor f) false) (octets-plain f off ∙ plain-octets (fixedFor f))
       (λ h. read-plain (fixedFor f) (fixed-lawful f w) payload h ∙ ap says (plain-said f off p e (length (rtp.fixedOctets (fixedFor f) false))))
-
-  pub back-laid : (form : Form) → PlainForm form → f .extension ≡ true → f .profile ≡ profileOf form → formOf (f .profile) ≡ inPaper form →
-      AllTaken form (itemsIn form (f .elements)) → Back
-  back-laid form plain on p g t =
+  back (in-form form plain on p g t) =
+      let z : ℕ = zerosFor (inPaper form) (f .elements) in
       let is : List Item = itemsIn form (f .elements) in
+      let taken : AllTaken form is =
+      each-append (TakenItem form) (itemsFor (f .elements)) (replicate z padding) t
+      (all-taken form (replicate z padding) (lawful-padding form z)) in
       let s : List ℕ = rtp.octets (extended (fixedFor f) (extensionOf (laid form is))) in
       through s (laid-same f w form on p g)
-      (λ h. laid-within (fixedFor f) (fixed-lawful f w) payload form is plain t (laid-lawful f w form on p g) h
+      (λ h. laid-within (fixedFor f) (fixed-lawful f w) payload form is plain taken (laid-lawful f w form on p g) h
       (rw (laid-elements f w form on p g) (w .within))
       ∙ ap says (laid-said f w form on p g (length s)))
-
-  pub back-other : (words : List ℕ) → f .extension ≡ true → formOf (f .profile) ≡ forms.other → f .elements ≡ wholeElement words ∷ [] →
-      length words % 4 ≡ 0 → Back
-  back-other words on g e m =
+  back (whole words on g e m a b) =
       let s : List ℕ = rtp.octets (extended (fixedFor f) (extensionWith (f .profile) words)) in
       through s (other-same f w words on g e m)
       (λ h. other-within (fixedFor f) (fixed-lawful f w) payload (f .profile) words g (other-lawful f w words on g e m) h (rw e at (w .within))
@@ -170,91 +218,68 @@ module _ (f : Fields) (w : Writable f) (payload : List ℕ) (fits : Fits (octets
 
 -- ---- the paper's conditions
 
--- the items are lawful where the elements are kept
-lawful-padding : (form : Form) (z : ℕ) → AllLawful form (replicate z padding)
-lawful-padding form zero = tt
-lawful-padding form (suc z) = (tt, lawful-padding form z)
-
-pub lawful-items : (form : Form) (es : List Element) (z : ℕ) → AllKept (highestId form) (leastData form) (mostData form) es → AllLawful form (itemsWith es z)
-lawful-items form [] z k = lawful-padding form z
-lawful-items form (e ∷ es) z k = (
+pub kept-lawful : (form : Form) (es : List Element) → AllKept (highestId form) (leastData form) (mostData form) es → LawfulIn form es
+kept-lawful form [] k = tt
+kept-lawful form (e ∷ es) k = (
   record { not-padding = k .0 .id-from; id-fits = k .0 .id-to; enough = k .0 .len-from; data-fits = k .0 .len-to },
-  lawful-items form es z (k .1),
+  kept-lawful form es (k .1),
 )
 
-pub taken-with : (form : Form) (es : List Element) (z : ℕ) → AllTaken form (itemsFor es) → AllTaken form (itemsWith es z)
-taken-with form [] z t = all-taken form (replicate z padding) (lawful-padding form z)
-taken-with form (e ∷ es) z t = (t .0, taken-with form es z (t .1))
-
--- "Round trip: .. Fields and elements read back equal; extensions_padding reads back as the zeros written."
-pub round-trip : (f : Fields) → Writable f → ReadsBack f → (payload : List ℕ) → Fits (octetsOf f ++ payload) →
-    readHeader (octetsOf f ++ payload) ≡ says (record { fields = readBack f; place = length (octetsOf f) })
-round-trip f w r payload fits = go (f .extension) refl r
+pub ways-kept : (f : Fields) → ReadsBack f → Ways LawfulIn f
+ways-kept f r = go (f .extension) refl r
   where
-    on-known : Known (f .profile) → f .extension ≡ true → KeptIn (formOf (f .profile)) (f .elements) →
-        readHeader (octetsOf f ++ payload) ≡ says (record { fields = readBack f; place = length (octetsOf f) })
-    on-known (is-one-byte p) on k =
-        back-laid f w payload fits one-byte tt on p (ap formOf p) (all-taken one-byte (itemsIn one-byte (f .elements)) (lawful-items one-byte (f .elements) (zerosFor forms.one-byte (f .elements)) (rw p at k)))
-    on-known (is-two-byte p) on k =
-        back-laid f w payload fits (two-byte 0) refl on p (ap formOf p) (all-taken (two-byte 0) (itemsIn (two-byte 0) (f .elements)) (lawful-items (two-byte 0) (f .elements) (zerosFor forms.two-byte (f .elements)) (rw p at k)))
-    on-known (is-other g a b) on k = whole (rw g at k)
+    on-known : Known (f .profile) → f .extension ≡ true → KeptIn (formOf (f .profile)) (f .elements) → Ways LawfulIn f
+    on-known (is-one-byte p) on k = in-form one-byte tt on p (ap formOf p) (kept-lawful one-byte (f .elements) (rw p at k))
+    on-known (is-two-byte p) on k = in-form (two-byte 0) refl on p (ap formOf p) (kept-lawful (two-byte 0) (f .elements) (rw p at k))
+    on-known (is-other g a b) on k = words (rw g at k)
       where
-        whole : KeptIn forms.other (f .elements) →
-            readHeader (octetsOf f ++ payload) ≡ says (record { fields = readBack f; place = length (octetsOf f) })
-        whole k = back-other f w payload fits (k .0) on g (k .1) (k .2)
+        words : KeptIn forms.other (f .elements) → Ways LawfulIn f
+        words k = whole (k .0) on g (k .1) (k .2) a b
 
-    go : (x : Bool) → f .extension ≡ x → KeptBy x (f .profile) (f .elements) →
-        readHeader (octetsOf f ++ payload) ≡ says (record { fields = readBack f; place = length (octetsOf f) })
-    go false off k = back-off f w payload fits off (k .0) (k .1)
+    go : (x : Bool) → f .extension ≡ x → KeptBy x (f .profile) (f .elements) → Ways LawfulIn f
+    go false off k = without off (k .0) (k .1)
     go true on k = on-known (known (f .profile)) on k
 
 -- ---- WRITER
 
 -- the written octets are those of a lawful plan that says the record
-pub writer : (f : Fields) → Writable f → ReadsBack f → (AppBits (f .profile) → ⊥) → WrittenAs f
-writer f w r bits = go (f .extension) refl r
+pub writer : (f : Fields) → InRange f → ReadsBack f → (AppBits (f .profile) → ⊥) → (answer : Said (List ℕ)) → answer ≡ says (octetsOf f) →
+    WrittenAs f answer
+writer f w r bits answer e = go (ways-kept f r)
   where
-    lawful-laid : (form : Form) → LawfulForm form → f .extension ≡ true → (p : f .profile ≡ profileOf form) → formOf (f .profile) ≡ inPaper form →
-        AllKept (highestId form) (leastData form) (mostData form) (f .elements) → WrittenAs f
-    lawful-laid form l on p g k =
-        let is : List Item = itemsIn form (f .elements) in
-        record {
-          plan = record { fixed = fixedFor f; content = some (laid form is) };
-          lawful = record {
-            header = record { fixed = fixed-lawful f w; extension = laid-lawful f w form on p g };
-            content = (l, lawful-items form (f .elements) (zerosFor (inPaper form) (f .elements)) k);
-          };
-          same = laid-same f w form on p g;
-          said = ap (λ (t : Reading). t .fields) (laid-said f w form on p g 0);
-        }
+    lawful-form : (form : Form) → PlainForm form → LawfulForm form
+    lawful-form one-byte plain = tt
+    lawful-form (two-byte appbits) plain = omega arith
 
-    lawful-other : (words : List ℕ) → f .extension ≡ true → formOf (f .profile) ≡ forms.other → f .elements ≡ wholeElement words ∷ [] →
-        length words % 4 ≡ 0 → (f .profile ≡ 0xBEDE → ⊥) → (f .profile ≡ 0x1000 → ⊥) → WrittenAs f
-    lawful-other words on g e m a b =
-        record {
-          plan = record { fixed = fixedFor f; content = some (other (f .profile) words) };
-          lawful = record {
-            header = record { fixed = fixed-lawful f w; extension = other-lawful f w words on g e m };
-            content = (a, λ q. bits (record { from = omega arith; to = omega arith }));
-          };
-          same = other-same f w words on g e m;
-          said = ap (λ (t : Reading). t .fields) (other-said f w words on g e m 0);
-        }
-
-    on-known : Known (f .profile) → f .extension ≡ true → KeptIn (formOf (f .profile)) (f .elements) → WrittenAs f
-    on-known (is-one-byte p) on k = lawful-laid one-byte tt on p (ap formOf p) (rw p at k)
-    on-known (is-two-byte p) on k = lawful-laid (two-byte 0) (omega arith) on p (ap formOf p) (rw p at k)
-    on-known (is-other g a b) on k = whole (rw g at k)
-      where
-        whole : KeptIn forms.other (f .elements) → WrittenAs f
-        whole k = lawful-other (k .0) on g (k .1) (k .2) a b
-
-    go : (x : Bool) → f .extension ≡ x → KeptBy x (f .profile) (f .elements) → WrittenAs f
-    go false off k =
+    go : Ways LawfulIn f → WrittenAs f answer
+    go (without off p none-there) =
         record {
           plan = record { fixed = fixedFor f; content = none };
           lawful = record { header = record { fixed = fixed-lawful f w; extension = tt }; content = tt };
-          same = octets-plain f off;
-          said = ap (λ (t : Reading). t .fields) (plain-said f off (k .0) (k .1) 0);
+          same = e ∙ ap says (octets-plain f off);
+          said = ap (λ (t : Reading). t .fields) (plain-said f off p none-there 0);
         }
-    go true on k = on-known (known (f .profile)) on k
+    go (in-form form plain on p g l) =
+        let z : ℕ = zerosFor (inPaper form) (f .elements) in
+        record {
+          plan = record { fixed = fixedFor f; content = some (laid form (itemsIn form (f .elements))) };
+          lawful = record {
+            header = record { fixed = fixed-lawful f w; extension = laid-lawful f w form on p g };
+            content = (
+              lawful-form form plain,
+              each-append (LawfulItem form) (itemsFor (f .elements)) (replicate z padding) l (lawful-padding form z),
+            );
+          };
+          same = e ∙ ap says (laid-same f w form on p g);
+          said = ap (λ (t : Reading). t .fields) (laid-said f w form on p g 0);
+        }
+    go (whole words on g is m a b) =
+        record {
+          plan = record { fixed = fixedFor f; content = some (other (f .profile) words) };
+          lawful = record {
+            header = record { fixed = fixed-lawful f w; extension = other-lawful f w words on g is m };
+            content = (a, λ q. bits (record { from = omega arith; to = omega arith }));
+          };
+          same = e ∙ ap says (other-same f w words on g is m);
+          said = ap (λ (t : Reading). t .fields) (other-said f w words on g is m 0);
+        }

@@ -12,6 +12,12 @@ use native.Mathlib.Omega.{arith}
 use lib.ListN.{length}
 use Rattle.error.specs.Said.{Said, says, refused, refuse}
 use Rattle.wire.specs.Net.{be16}
+use Rattle.elements.specs.Elements.{Element, dataOf}
+use Rattle.block.specs.Read.{Block, readBlock}
+use Rattle.block.specs.Form.{formOf}
+use Rattle.header.specs.Fields.{Fields}
+use Rattle.header.specs.Read.{Reading, readHeader}
+use Rattle.header.proofs.Reading.{header-long, header-short, header-cut, header-extended, extension-cut, block-cut}
 use Rattle.rfc3550.specs.Rfc3550.{Octets, Fixed, LawfulFixed, Extension, LawfulExtension, extensionOctets, fixedOctets, LawfulPart, Begins, CutShort, fixed-cut, csrcs-cut, head-cut, content-cut}
 use Rattle.rfc3550.specs.Rfc3550 as rtp
 use Rattle.rfc3550.specs.Rfc8285.{one-byte, two-byte, Content, laid, other, LawfulContent, Plan, Lawful, octets, extensionOf, Conforms, Strays}
@@ -19,13 +25,7 @@ use Rattle.rfc3550.proofs.Octets.{below-left, below-right}
 use Rattle.rfc3550.proofs.Places.{extended-octets}
 use Rattle.rfc3550.proofs.Parse.{begins-or-cut}
 use Rattle.rfc3550.proofs.Blocks.{conforms-or-strays}
-use Rattle.elements.specs.Elements.{Element, dataOf}
-use Rattle.block.specs.Read.{Block, readBlock}
-use Rattle.block.specs.Form.{formOf}
-use Rattle.header.specs.Fields.{Fields}
-use Rattle.header.specs.Read.{Reading, readHeader}
-use Rattle.header.proofs.Reading.{header-long, header-short, header-cut, header-extended, extension-cut, block-cut}
-use Rattle.header_rfc.specs.Says.{elementsIn, fieldsWith, readingOf, Within, Over, Plain, AppBits, Fits, Conforming, Deviating, Sound}
+use Rattle.header_rfc.specs.Says.{elementsSaid, fieldsWith, readingSaid, Within, Over, Plain, Fits, Conforming, Departs, Deviating, Sound}
 use Rattle.header_rfc.proofs.Items.{now}
 use Rattle.header_rfc.proofs.Fixed.{readingAt, extended, read-content}
 use Rattle.header_rfc.proofs.Complete.{complete}
@@ -120,7 +120,7 @@ of-plan : (p : Plan) (payload : List ℕ) (r : Reading) → Lawful p → Plain (
 unfolding fieldsWith
 of-plan p payload r l plain e v =
     let fits : Fits (octets p ++ payload) = fits-accepted (octets p ++ payload) r e in
-    let said : r ≡ readingOf p = go fits (within-or-over (elementsIn (p .content))) in
+    let said : r ≡ readingSaid p = go fits (within-or-over (elementsSaid (p .content))) in
     record {
       plan = p;
       lawful = l;
@@ -130,12 +130,12 @@ of-plan p payload r l plain e v =
       said = said;
     }
   where
-    go : Fits (octets p ++ payload) → Within (elementsIn (p .content)) ⊎ Over (elementsIn (p .content)) → r ≡ readingOf p
-    go fits (inl w) = same-answer (readHeader (octets p ++ payload)) r (readingOf p) e (complete .within p payload l plain fits w)
+    go : Fits (octets p ++ payload) → Within (elementsSaid (p .content)) ⊎ Over (elementsSaid (p .content)) → r ≡ readingSaid p
+    go fits (inl w) = same-answer (readHeader (octets p ++ payload)) r (readingSaid p) e (complete .within p payload l plain fits w)
     go fits (inr o) = absurd (not-refused (readHeader (octets p ++ payload)) 7 r (complete .over p payload l plain fits o) e)
 
 module _ (f : Fixed) (l : LawfulFixed f) (payload : List ℕ) (r : Reading) (v : r .fields .version ≡ 2) where
-  deviates : (x : Extension) → LawfulExtension x → readHeader (rtp.octets (extended f x) ++ payload) ≡ says r → Strays x ⊎ AppBits (x .profile) →
+  deviates : (x : Extension) → LawfulExtension x → readHeader (rtp.octets (extended f x) ++ payload) ≡ says r → Departs x →
       Deviating (rtp.octets (extended f x) ++ payload) r
   unfolding fieldsWith
   deviates x k e why =

@@ -6,23 +6,23 @@ use mathlib.Core.List.{List, [], _∷_, _++_, append-assoc, append-nil}
 use mathlib.Core.Option.{none}
 use Prim.Native.Nat.{ℕ, zero, suc, _+_, _-_, _*_, _/_, _%_, _<_, _≤_}
 use native.Mathlib.Omega.{arith}
-use native.Mathlib.Nat.{suc-mul}
 use lib.ListN.{length, replicate, length-append, length-replicate}
 use Rattle.wire.specs.Net.{be16, be32}
-use Rattle.rfc3550.specs.Rfc3550.{Fixed, LawfulFixed, bit, LawfulExtension}
-use Rattle.rfc3550.specs.Rfc3550 as rtp
-use Rattle.rfc3550.specs.Rfc8285.{Form, one-byte, two-byte, Item, padding, blockOctets, extensionWith}
-use Rattle.rfc3550.proofs.Places.{plain-octets}
 use Rattle.elements.specs.Elements.{Element, dataOf}
 use Rattle.block.specs.Form.{formOf, perElement, wordsFor}
 use Rattle.block.specs.Form as forms
 use Rattle.block.specs.Write as blocks
+use Rattle.block.proofs.Octets.{length-blockOctets}
 use Rattle.header.specs.Fields.{Fields}
 use Rattle.header.specs.Size.{payloadLength}
 use Rattle.header.specs.Write.{flag, octetsOf}
 use Rattle.header.specs.Write as written
-use Rattle.header_rfc.specs.Says.{elementsOf, padsOf, Within}
-use Rattle.header_rfc.specs.RoundTrip.{Writable, itemsWith}
+use Rattle.rfc3550.specs.Rfc3550.{Fixed, LawfulFixed, bit, LawfulExtension}
+use Rattle.rfc3550.specs.Rfc3550 as rtp
+use Rattle.rfc3550.proofs.Places.{plain-octets}
+use Rattle.rfc3550.specs.Rfc8285.{Form, one-byte, two-byte, Item, padding, blockOctets, extensionWith}
+use Rattle.header_rfc.specs.Says.{elementsAmong, padsAmong, Within}
+use Rattle.header_rfc.specs.RoundTrip.{InRange, itemsWith}
 use Rattle.header_rfc.proofs.Fixed.{extended}
 
 -- ---- the fixed header
@@ -40,7 +40,7 @@ fixedFor f =
       csrcs = f .csrcs;
     }
 
-pub fixed-lawful : (f : Fields) → Writable f → LawfulFixed (fixedFor f)
+pub fixed-lawful : (f : Fields) → InRange f → LawfulFixed (fixedFor f)
 fixed-lawful f w =
     record {
       version = omega (arith, w .version);
@@ -90,30 +90,13 @@ zerosFor g es = 4 * wordsFor (packedLength g es) - packedLength g es
 abbrev pub filled : forms.Form → List Element → List ℕ
 filled g es = blocks.blockOctets g es ++ replicate (zerosFor g es) 0
 
-element-length : (g : forms.Form) (e : Element) → length (blocks.elementOctets g e) ≡ length (e .bytes) + perElement g
-element-length forms.one-byte e = omega arith
-element-length forms.two-byte e = omega arith
-element-length forms.other e = omega arith
-
-pub block-length : (g : forms.Form) (es : List Element) → length (blocks.blockOctets g es) ≡ packedLength g es
-block-length g [] = omega arith
-block-length g (e ∷ es) =
-    omega (
-      arith,
-      length-append (blocks.elementOctets g e) (blocks.blockOctets g es),
-      length-append (e .bytes) (dataOf es),
-      element-length g e,
-      block-length g es,
-      suc-mul (length es) (perElement g),
-    )
-
 pub filled-length : (g : forms.Form) (es : List Element) → length (filled g es) ≡ 4 * wordsFor (packedLength g es)
 filled-length g es =
     omega (
       arith,
       length-append (blocks.blockOctets g es) (replicate (zerosFor g es) 0),
       length-replicate {A = ℕ} (zerosFor g es) 0,
-      block-length g es,
+      length-blockOctets g es,
     )
 
 -- the written extension is one of RFC 3550, whose content is the filled block
@@ -143,12 +126,12 @@ octets-extended f g on e =
 
 -- ---- the items
 
-pub elements-with : (es : List Element) (z : ℕ) → elementsOf (itemsWith es z) ≡ es
+pub elements-with : (es : List Element) (z : ℕ) → elementsAmong (itemsWith es z) ≡ es
 elements-with [] zero = refl
 elements-with [] (suc z) = elements-with [] z
 elements-with (e ∷ es) z = ap (λ (l : List Element). e ∷ l) (elements-with es z)
 
-pub pads-with : (es : List Element) (z : ℕ) → padsOf (itemsWith es z) ≡ z
+pub pads-with : (es : List Element) (z : ℕ) → padsAmong (itemsWith es z) ≡ z
 pads-with [] zero = refl
 pads-with [] (suc z) = ap suc (pads-with [] z)
 pads-with (e ∷ es) z = pads-with es z

@@ -5,19 +5,23 @@ use mathlib.Core.List.{List, [], _∷_, _++_}
 use mathlib.Core.Option.{Option, none, some}
 use Prim.Native.Nat.{ℕ, _-_, _*_, _%_, _<_, _≤_}
 use lib.ListN.{length, replicate}
+use Rattle.error.specs.Said.{Said, says}
+use Rattle.wire.specs.Each.{Each}
+use Rattle.elements.specs.Elements.{Element}
+use Rattle.block.specs.Form.{Form, one-byte, two-byte, other, formOf, wordsFor}
+use Rattle.header.specs.declared.Header.{Header}
+use Rattle.header.specs.Fields.{Fields, fieldsOf, inDomain}
+use Rattle.header.specs.Read.{readHeader}
+use Rattle.header.specs.Size.{payloadLength, headerSize}
+use Rattle.header.specs.Write.{octetsOf}
 use Rattle.rfc3550.specs.Rfc3550.{AllBelow}
 use Rattle.rfc3550.specs.Rfc8285.{Item, padding, element, Content, laid, Plan, Lawful, octets}
 use Rattle.rfc3550.specs.Rfc8285
-use Rattle.elements.specs.Elements.{Element}
-use Rattle.block.specs.Form.{Form, one-byte, two-byte, other, formOf, wordsFor}
-use Rattle.header.specs.Fields.{Fields}
-use Rattle.header.specs.Size.{payloadLength}
-use Rattle.header.specs.Write.{octetsOf}
-use Rattle.header_rfc.specs.Says.{Within, wholeElement, fieldsIn}
+use Rattle.header_rfc.specs.Says.{Within, Fits, wholeElement, fieldsSaid}
 
 -- "A record to be written has version 0 to 3, payload type 0 to 127", "15 CSRCs; 32 extension elements holding 1,024 data bytes in
 -- all"; the other numbers are as wide as the record's types make them
-pub record Writable (f : Fields) : Type 0 where
+pub record InRange (f : Fields) : Type 0 where
   pub version : f .version ≤ 3
   pub type : f .type ≤ 127
   pub number : f .number < 65536
@@ -35,9 +39,9 @@ pub record Kept (highest least most : ℕ) (e : Element) : Type 0 where
   pub len-from : least ≤ length (e .bytes)
   pub len-to : length (e .bytes) ≤ most
 
+-- each element by itself: ids may come twice, in any order
 abbrev pub AllKept : ℕ → ℕ → ℕ → List Element → Type 0
-AllKept highest least most [] = Unit
-AllKept highest least most (e ∷ es) = Kept highest least most e × AllKept highest least most es
+AllKept highest least most es = Each (Kept highest least most) es
 
 -- "ids 1..14 (one-byte), 1..255 (two-byte), or one id-0 element of whole words", with the lengths of a record to be written: "in the
 -- one-byte profile .. lengths 1 to 16, in the two-byte profile lengths 0 to 255"
@@ -51,6 +55,7 @@ abbrev pub KeptBy : Bool → ℕ → List Element → Type 0
 KeptBy false profile es = (profile ≡ 0) × (es ≡ [])
 KeptBy true profile es = KeptIn (formOf profile) es
 
+-- the paper's conditions for the round trip, by the fields that they name
 abbrev pub ReadsBack : Fields → Type 0
 ReadsBack f = KeptBy (f .extension) (f .profile) (f .elements)
 
@@ -76,15 +81,42 @@ readBack f =
       pads = zerosWritten f;
     }
 
--- the octets that are written for f are those of a lawful plan that says what reads back
-pub record WrittenAs (f : Fields) : Type 0 where
+-- ---- what is asked of a writer
+
+-- every record in the domain that meets the conditions of the round trip is written, wherever there is room for its size
+abbrev pub Writes : (Header → ℕ → Said (List ℕ)) → Type 0
+Writes write =
+    (h : Header) → inDomain h ≡ true → InRange (fieldsOf h) → ReadsBack (fieldsOf h) → (room : ℕ) → headerSize (fieldsOf h) ≤ room →
+    write h room ≡ says (octetsOf (fieldsOf h))
+
+-- the answer is that the octets of a lawful plan were written, which says what reads back of f
+pub record WrittenAs (f : Fields) (answer : Said (List ℕ)) : Type 0 where
   pub plan : Plan
   pub lawful : Lawful plan
-  pub same : octetsOf f ≡ octets plan
-  pub said : fieldsIn plan ≡ readBack f
+  pub same : answer ≡ says (octets plan)
+  pub said : fieldsSaid plan ≡ readBack f
+
+-- the answer is that octets were written, and these read back as f does, whatever payload follows them
+pub record WrittenAndRead (f : Fields) (answer : Said (List ℕ)) : Type 0 where
+  pub octets : List ℕ
+  pub written : answer ≡ says octets
+  pub back : (payload : List ℕ) → Fits (octets ++ payload) → readHeader (octets ++ payload) ≡ says (record { fields = readBack f; place = length octets })
+
+-- what the record's types make sure of: numbers of 16 and 32 bits, arrays of 15, 32, 32 and 1,024 places
+pub record AsTyped (h : Header) : Type 0 where
+  pub number : h .«sequence_number» < 65536
+  pub time : h .timestamp < 4294967296
+  pub source : h .ssrc < 4294967296
+  pub csrcs : AllBelow 4294967296 (h .csrc)
+  pub profile : h .«extension_profile» < 65536
+  pub sources : length (h .csrc) ≡ 15
+  pub ids : length (h .extensions .ids) ≡ 32
+  pub lens : length (h .extensions .lens) ≡ 32
+  pub bytes : length (h .extensions .bytes) ≡ 1024
 
 -- ---- the other way round
 
+-- the elements without any padding
 abbrev pub itemsFor : List Element → List Item
 itemsFor [] = []
 itemsFor (e ∷ es) = element (e .id) (e .bytes) ∷ itemsFor es

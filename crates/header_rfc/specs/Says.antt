@@ -17,36 +17,39 @@ use Rattle.header.specs.Read.{Reading}
 
 -- ---- what a plan says
 
-abbrev pub elementsOf : List Item → List Element
-elementsOf [] = []
-elementsOf (padding ∷ is) = elementsOf is
-elementsOf (element id bytes ∷ is) = record { id = id; bytes = bytes } ∷ elementsOf is
+-- padding says nothing of the elements
+abbrev pub elementsAmong : List Item → List Element
+elementsAmong [] = []
+elementsAmong (padding ∷ is) = elementsAmong is
+elementsAmong (element id bytes ∷ is) = record { id = id; bytes = bytes } ∷ elementsAmong is
 
 -- how many octets of padding there are, wherever they stand
-abbrev pub padsOf : List Item → ℕ
-padsOf [] = 0
-padsOf (padding ∷ is) = suc (padsOf is)
-padsOf (element id bytes ∷ is) = padsOf is
+abbrev pub padsAmong : List Item → ℕ
+padsAmong [] = 0
+padsAmong (padding ∷ is) = suc (padsAmong is)
+padsAmong (element id bytes ∷ is) = padsAmong is
 
 -- "Other profiles: one element, id 0, the whole block."
 abbrev pub wholeElement : List ℕ → Element
 wholeElement words = record { id = 0; bytes = words }
 
-abbrev pub elementsIn : Option Content → List Element
-elementsIn none = []
-elementsIn (some (laid form items)) = elementsOf items
-elementsIn (some (other profile words)) = wholeElement words ∷ []
+-- without an extension there are no elements
+abbrev pub elementsSaid : Option Content → List Element
+elementsSaid none = []
+elementsSaid (some (laid form items)) = elementsAmong items
+elementsSaid (some (other profile words)) = wholeElement words ∷ []
 
-abbrev pub padsIn : Option Content → ℕ
-padsIn none = 0
-padsIn (some (laid form items)) = padsOf items
-padsIn (some (other profile words)) = 0
+-- words of another profile hold no padding
+abbrev pub padsSaid : Option Content → ℕ
+padsSaid none = 0
+padsSaid (some (laid form items)) = padsAmong items
+padsSaid (some (other profile words)) = 0
 
 -- without an extension the header's profile field is 0
-abbrev pub profileIn : Option Content → ℕ
-profileIn none = 0
-profileIn (some (laid form items)) = profileOf form
-profileIn (some (other profile words)) = profile
+abbrev pub profileSaid : Option Content → ℕ
+profileSaid none = 0
+profileSaid (some (laid form items)) = profileOf form
+profileSaid (some (other profile words)) = profile
 
 -- the header's fields: those of the fixed header, and what is said of the extension
 unfoldable pub fieldsWith : Fixed → Bool → ℕ → List Element → ℕ → Fields
@@ -66,13 +69,14 @@ fieldsWith f x profile es pads =
       pads = pads;
     }
 
-abbrev pub fieldsIn : Plan → Fields
-fieldsIn p =
-    fieldsWith (p .fixed) (present (p .content)) (profileIn (p .content)) (elementsIn (p .content)) (padsIn (p .content))
+-- the extension bit says whether there is an extension
+abbrev pub fieldsSaid : Plan → Fields
+fieldsSaid p =
+    fieldsWith (p .fixed) (present (p .content)) (profileSaid (p .content)) (elementsSaid (p .content)) (padsSaid (p .content))
 
 -- the fields, and the payload's place: it is what lies behind the header
-abbrev pub readingOf : Plan → Reading
-readingOf p = record { fields = fieldsIn p; place = length (octets p) }
+abbrev pub readingSaid : Plan → Reading
+readingSaid p = record { fields = fieldsSaid p; place = length (octets p) }
 
 -- ---- the paper's limits and the crate's deviation
 
@@ -81,6 +85,7 @@ pub record Within (es : List Element) : Type 0 where
   pub few : length es ≤ 32
   pub small : length (dataOf es) ≤ 1024
 
+-- more of either is 7
 abbrev pub Over : List Element → Type 0
 Over es = (32 < length es) ⊎ (1024 < length (dataOf es))
 
@@ -89,6 +94,7 @@ abbrev pub PlainForm : Form → Type 0
 PlainForm one-byte = Unit
 PlainForm (two-byte appbits) = appbits ≡ 0
 
+-- what COMPLETE has to leave out is a form, not another profile
 abbrev pub Plain : Option Content → Type 0
 Plain none = Unit
 Plain (some (laid form items)) = PlainForm form
@@ -108,9 +114,9 @@ Fits s = length s ≤ 65535
 -- every well-formed header within the limits is read as what its plan says; over the limits it is 7
 pub record Complete (read : List ℕ → Said Reading) : Type 0 where
   pub within : (p : Plan) (payload : List ℕ) → Lawful p → Plain (p .content) → Fits (octets p ++ payload) →
-      Within (elementsIn (p .content)) → read (octets p ++ payload) ≡ says (readingOf p)
+      Within (elementsSaid (p .content)) → read (octets p ++ payload) ≡ says (readingSaid p)
   pub over : (p : Plan) (payload : List ℕ) → Lawful p → Plain (p .content) → Fits (octets p ++ payload) →
-      Over (elementsIn (p .content)) → read (octets p ++ payload) ≡ refuse 7
+      Over (elementsSaid (p .content)) → read (octets p ++ payload) ≡ refuse 7
 
 -- r is what a well-formed header of version 2 in front of s says
 pub record Conforming (s : List ℕ) (r : Reading) : Type 0 where
@@ -119,10 +125,14 @@ pub record Conforming (s : List ℕ) (r : Reading) : Type 0 where
   pub version : plan .fixed .version ≡ 2
   pub payload : List ℕ
   pub same : octets plan ++ payload ≡ s
-  pub said : r ≡ readingOf plan
+  pub said : r ≡ readingSaid plan
 
--- s has a lawful header of version 2, as RFC 3550 has it, in front, with r's fixed fields; but its extension strays from the form that its
--- profile asks for, or its profile is one of the two-byte form that the crate does not read as such
+-- where an extension leaves RFC 8285: it strays from the form that its profile asks for, or its profile is one of the two-byte form that the
+-- crate does not read as such
+abbrev pub Departs : Extension → Type 0
+Departs x = Strays x ⊎ AppBits (x .profile)
+
+-- s has a lawful header of version 2, as RFC 3550 has it, in front, with r's fixed fields; but its extension leaves RFC 8285
 pub record Deviating (s : List ℕ) (r : Reading) : Type 0 where
   pub fixed : Fixed
   pub extension : Extension
@@ -133,7 +143,7 @@ pub record Deviating (s : List ℕ) (r : Reading) : Type 0 where
   pub elements : List Element
   pub pads : ℕ
   pub said : r .fields ≡ fieldsWith fixed true (extension .profile) elements pads
-  pub why : Strays extension ⊎ AppBits (extension .profile)
+  pub why : Departs extension
 
 -- whatever is accepted with version 2 is well-formed with those fields, or strays
 abbrev pub Sound : (List ℕ → Said Reading) → Type 0

@@ -38,5 +38,6 @@ abbrev pub behind : List ℕ → Said Reading → Said PacketReading
 behind s (says r) = with-fields (r .fields) (payloadAt s r)
 behind s (refused r) = refused r
 
+-- "The packet reader takes the header's answer apart first."
 unfoldable pub readPacket : List ℕ → Said PacketReading
 readPacket s = behind s (readHeader s)

@@ -1,84 +1,140 @@
--- The round trip of the two public calls: what `marshal_to` left in front of the buffer is what the writer's definition says, so that `unmarshal` of it
--- answers what reads back. Assumes nothing.
-use mathlib.Core.Path.{_≡_, refl, sym, ap, _∙_, subst}
-use mathlib.Core.Bool.{Bool, true, false, cond, _&&_}
-use mathlib.Core.List.{List}
-use Prim.Native.Nat.{ℕ, _+_, _%_, _≤_}
+-- The calls write: where the header's call writes, the packet's does, and what `marshal_to` left in front of the buffer is what was written; so what is
+-- shown of the octets is shown of the calls. Assumes nothing.
+use mathlib.Core.Path.{_≡_, refl, sym, ap, _∙_}
+use mathlib.Core.Bool.{true}
+use mathlib.Core.List.{List, []}
+use Prim.Native.Nat.{ℕ, _+_, _≤_}
 use native.Mathlib.Omega.{arith}
-use lib.Dec.{ltb, eqb}
 use lib.ListN.{length, take, drop}
 use lib.Seq.{take-at}
-use Rattle.error.specs.Said.{Said, says, refused, refuse}
+use borrow.Author.Tests.{le-leb}
+use Rattle.error.specs.Refusal.{Refusal}
+use Rattle.error.specs.Said.{Said, says, refused}
 use Rattle.wire.specs.Part.{splice}
-use Rattle.block.specs.Form.{Form, one-byte, two-byte, other, formOf}
+use Rattle.wire.proofs.Part.{length-part}
 use Rattle.header.specs.declared.Header.{Header}
 use Rattle.header.specs.declared.Length.{Length}
 use Rattle.header.specs.declared.Length.the-variants as len
-use Rattle.header.specs.Fields.{fieldsOf, layOut}
-use Rattle.header.specs.Size.{payloadLength}
-use Rattle.header.specs.Write.{inWritingDomain, judged}
-use Rattle.header.specs.Said.{heardWritten, written}
-use Rattle.header.proofs.Writing.{WrittenOut, written-out}
-use Rattle.header_rfc.specs.RoundTrip.{Writable, ReadsBack, readBack}
-use Rattle.packet.specs.declared.Unmarshalled.{Unmarshalled}
-use Rattle.packet.specs.Read.{readPacket}
-use Rattle.packet.specs.Write.{packetOctets, packetSize, shortEnough, writePacket}
-use Rattle.packet.specs.Said.{heard, readingHeard}
-use Rattle.packet_rfc.specs.RoundTrip.{packetBack}
-use Rattle.packet_rfc.proofs.RoundTrip.{round-trip}
+use Rattle.header.specs.Fields.{Fields, fieldsOf, layOut, inDomain}
+use Rattle.header.specs.Read.{readHeader}
+use Rattle.header.specs.Write.{octetsOf, inWritingDomain, writeHeader}
+use Rattle.header.specs.Said.{saidLength, Written, heardWritten, written}
+use Rattle.header.proofs.Sizes.{never}
+use Rattle.rfc3550.specs.Rfc3550.{Octets}
+use Rattle.rfc3550.specs.Packet.{Packet, LawfulPacket, packetOctets}
+use Rattle.header_rfc.specs.Says.{elementsSaid, fieldsSaid, Within, Plain, AppBits}
+use Rattle.header_rfc.specs.RoundTrip.{InRange, ReadsBack, Trailing}
+use Rattle.header_rfc.proofs.Sound.{fits-accepted}
+use Rattle.header_rfc.proofs.Yields.{YieldedAs, as-yielded}
+use Rattle.header_rfc.proofs.Writers as header
+use Rattle.packet.specs.Read.{PacketReading, readPacket}
+use Rattle.packet.specs.Write.{packetSize, writePacket}
+use Rattle.packet.specs.Write as paper
+use Rattle.packet.specs.Said.{readingHeard}
+use Rattle.packet.proofs.Reading.{payload-inside}
+use Rattle.packet.proofs.Writing.{header-fits, header-says}
+use Rattle.packet_rfc.specs.Says.{headerOf, payloadIn}
+use Rattle.packet_rfc.specs.RoundTrip.{FillingEnd, Writes, WrittenAs, WrittenAndRead, CodeWrittenAndRead, ReadsAgain}
+use Rattle.packet_rfc.proofs.Behind.{accepted}
+use Rattle.packet_rfc.proofs.RoundTrip.{writer, back, written-again}
 
--- ---- if octets are said, they are these
+-- ---- the call writes
 
-module _ (o : List ℕ) where
-  abbrev These : Said (List ℕ) → Type 0
-  These (says s) = s ≡ o
-  These (refused r) = Unit
+module _ (h : Header) (payload : List ℕ) (room : ℕ) (short : length payload ≤ 65535) (fits : packetSize (fieldsOf h) payload ≤ room)
+    (d : inWritingDomain h ≡ true) where
+  -- where the header's call does
+  as-header : writeHeader h room ≡ says (octetsOf (fieldsOf h)) → writePacket h payload room ≡ says (paper.packetOctets (fieldsOf h) payload)
+  as-header e = header-says h payload room d (le-leb (length payload) 65535 short) fits (octetsOf (fieldsOf h)) e .1
 
-  either : (t : Bool) (x y : Said (List ℕ)) → These x → These y → These (cond t x y)
-  either true x y a b = a
-  either false x y a b = b
+pub writes : Writes writePacket
+writes h payload d w r short room fits =
+    let allowed : inWritingDomain h ≡ true = header.kept-in-domain h d w r in
+    as-header h payload room short fits allowed
+    (header.writes h d w r room (header-fits h payload room allowed (le-leb (length payload) 65535 short) fits))
 
-  judged-these : (form : Form) (n count : ℕ) → These (judged form n count (says o))
-  judged-these one-byte n count = refl
-  judged-these two-byte n count = refl
-  judged-these other n count =
-      either (eqb (n % 4) 0) (cond (eqb count 1) (says o) (refuse 10)) (refuse 9) (either (eqb count 1) (says o) (refuse 10) refl tt) tt
+pub written-as : (h : Header) (payload : List ℕ) → inDomain h ≡ true → InRange (fieldsOf h) → ReadsBack (fieldsOf h) →
+    (AppBits (fieldsOf h .profile) → ⊥) → length payload ≤ 65535 → (room : ℕ) → packetSize (fieldsOf h) payload ≤ room →
+    WrittenAs (fieldsOf h) payload (writePacket h payload room)
+written-as h payload d w r bits short room fits =
+    writer (fieldsOf h) payload w r bits (writePacket h payload room) (writes h payload d w r short room fits)
 
-writes-these : (h : Header) (payload : List ℕ) (room : ℕ) → These (packetOctets (fieldsOf h) payload) (writePacket h payload room)
-unfolding writePacket
-writes-these h payload room =
-    let o : List ℕ = packetOctets (fieldsOf h) payload in
-    let block : Said (List ℕ) = judged (formOf (h .«extension_profile»)) (payloadLength (fieldsOf h)) (length (fieldsOf h .elements)) (says o) in
-    let asked : Said (List ℕ) = cond (h .extension) block (says o) in
-    let size : ℕ = packetSize (fieldsOf h) payload in
-    either o (inWritingDomain h && shortEnough payload) (cond (ltb room size) (refuse 5) asked) (refuse 8)
-    (either o (ltb room size) (refuse 5) asked tt
-    (either o (h .extension) block (says o)
-    (judged-these o (formOf (h .«extension_profile»)) (payloadLength (fieldsOf h)) (length (fieldsOf h .elements))) refl))
-    tt
+-- "A whole packet reads back so too"
+pub round-trip : (h : Header) (payload : List ℕ) → inDomain h ≡ true → InRange (fieldsOf h) → ReadsBack (fieldsOf h) → length payload ≤ 65535 →
+    (room : ℕ) → packetSize (fieldsOf h) payload ≤ room → WrittenAndRead (fieldsOf h) payload (writePacket h payload room)
+round-trip h payload d w r short room fits =
+    back (fieldsOf h) payload w (header.kept-both (fieldsOf h) r) (writePacket h payload room) (writes h payload d w r short room fits)
 
--- the n bytes in front of the buffer
-in-front : (h : Header) (payload buf exit : List ℕ) (a : Length) (n : ℕ) →
-    heardWritten a exit ≡ written buf (writePacket h payload (length buf)) → a ≡ len.Bytes n →
-    (take n exit ≡ packetOctets (fieldsOf h) payload) × (n ≡ length (packetOctets (fieldsOf h) payload))
-unfolding splice
-in-front h payload buf exit a n contract bytes =
-    let w : WrittenOut buf (writePacket h payload (length buf)) n exit = written-out a buf exit (writePacket h payload (length buf)) n contract bytes in
-    let these : w .octets ≡ packetOctets (fieldsOf h) payload =
-    subst (These (packetOctets (fieldsOf h) payload)) (w .asks) (writes-these h payload (length buf)) in (
-      ap (take n) (w .buffer) ∙ take-at (w .octets) (drop (0 + length (w .octets)) buf) n (sym (w .count)) ∙ these,
-      w .count ∙ ap length these,
-    )
+-- ---- a record that was read
 
--- ---- one call after the other
+layOut-written : (f : Fields) (payload : List ℕ) → YieldedAs f → length payload ≤ 65535 → (room : ℕ) → packetSize f payload ≤ room →
+    writePacket (layOut f) payload room ≡ says (paper.packetOctets f payload)
+layOut-written f payload y short room fits =
+    let same : fieldsOf (layOut f) ≡ f = header.fieldsOf-layOut f in
+    let allowed : inWritingDomain (layOut f) ≡ true = header.layOut-in-domain f y in
+    let room-too : packetSize (fieldsOf (layOut f)) payload ≤ room = rw same fits in
+    as-header (layOut f) payload room short room-too allowed
+    (header.layOut-written f y room (rw same at (header-fits (layOut f) payload room allowed (le-leb (length payload) 65535 short) room-too))
+    ∙ ap (λ (g : Fields). says (octetsOf g)) (sym same))
+    ∙ ap (λ (g : Fields). says (paper.packetOctets g payload)) same
 
-pub code-round-trip : (h : Header) (payload buf exit : List ℕ) (a : Length) (n : ℕ) (u : Unmarshalled) →
-    heardWritten a exit ≡ written buf (writePacket h payload (length buf)) → a ≡ len.Bytes n → heard u ≡ readingHeard (readPacket (take n exit)) →
-    Writable (fieldsOf h) → ReadsBack (fieldsOf h) → n ≤ 65535 →
-    heard u ≡ record { answer = says (packetBack (fieldsOf h) payload .payload); header = layOut (readBack (fieldsOf h)) }
-code-round-trip h payload buf exit a n u wrote bytes read w r few =
-    let front : (take n exit ≡ packetOctets (fieldsOf h) payload) × (n ≡ length (packetOctets (fieldsOf h) payload)) =
-    in-front h payload buf exit a n wrote bytes in
-    read
-    ∙ ap (λ (s : List ℕ). readingHeard (readPacket s)) (front .0)
-    ∙ ap readingHeard (round-trip (fieldsOf h) payload w r (omega (arith, front .1)) .read)
+pub reads-again : (s : List ℕ) → Octets s → (r : PacketReading) → readPacket s ≡ says r → (room : ℕ) → packetSize (r .fields) (payloadIn s r) ≤ room →
+    ReadsAgain s r room
+reads-again s o r e room fits =
+    let read : readHeader s ≡ says (headerOf r) = accepted s r o e .header in
+    let y : YieldedAs (r .fields) = as-yielded s o (headerOf r) read in
+    let inside : r .payload .place + r .payload .len ≤ length s = payload-inside s r e in
+    let long : length (payloadIn s r) ≡ r .payload .len = length-part s (r .payload .place) (r .payload .len) inside in
+    record {
+      back = back (r .fields) (payloadIn s r) (y .range) (y .way) (writePacket (layOut (r .fields)) (payloadIn s r) room)
+          (layOut-written (r .fields) (payloadIn s r) y (omega (arith, fits-accepted s (headerOf r) read)) room fits);
+      len = long;
+    }
+
+-- a packet whose header and padding are laid out as the writer lays them out is written as the octets that were read
+pub same-octets : (p : Packet) → LawfulPacket p → Plain (p .header .content) → Trailing (p .header .content) → FillingEnd (length (p .payload)) (p .padding) →
+    Within (elementsSaid (p .header .content)) → length (p .payload) ≤ 65535 → (room : ℕ) → packetSize (fieldsSaid (p .header)) (p .payload) ≤ room →
+    writePacket (layOut (fieldsSaid (p .header))) (p .payload) room ≡ says (packetOctets p)
+same-octets p l plain t fill w short room fits =
+    layOut-written (fieldsSaid (p .header)) (p .payload) (header.plan-yielded (p .header) (l .header) plain t w) short room fits
+    ∙ ap says (written-again p l plain t fill)
+
+-- ---- the code
+
+bytes-said : (a : Length) (n : ℕ) → saidLength a ≡ says n → a ≡ len.Bytes n
+bytes-said (len.Bytes m) n e = let same : m ≡ n = cc in ap (λ (k : ℕ). len.Bytes k) same
+bytes-said (len.Refused k) n e = absurd (never (sym e))
+
+-- octets that were written are counted in the answer, and stand in front of the buffer
+left-by : (a : Length) (buf exit s : List ℕ) → heardWritten a exit ≡ written buf (says s) → (a ≡ len.Bytes (length s)) × (exit ≡ splice buf 0 s)
+left-by a buf exit s e = (bytes-said a (length s) (ap (λ (x : Written). x .answer) e), ap (λ (x : Written). x .buffer) e)
+
+module _ (h : Header) (payload buf exit : List ℕ) (a : Length) (contract : heardWritten a exit ≡ written buf (writePacket h payload (length buf)))
+    (d : inDomain h ≡ true) (w : InRange (fieldsOf h)) (r : ReadsBack (fieldsOf h)) (short : length payload ≤ 65535)
+    (fits : packetSize (fieldsOf h) payload ≤ length buf) where
+  pub code-writes : (a ≡ len.Bytes (length (paper.packetOctets (fieldsOf h) payload))) × (exit ≡ splice buf 0 (paper.packetOctets (fieldsOf h) payload))
+  code-writes =
+      left-by a buf exit (paper.packetOctets (fieldsOf h) payload) (contract ∙ ap (written buf) (writes h payload d w r short (length buf) fits))
+
+  pub code-round-trip : CodeWrittenAndRead h payload exit a
+  unfolding splice
+  code-round-trip =
+      let whole : WrittenAndRead (fieldsOf h) payload (writePacket h payload (length buf)) = round-trip h payload d w r short (length buf) fits in
+      let octets : List ℕ = whole .octets in
+      let left : (a ≡ len.Bytes (length octets)) × (exit ≡ splice buf 0 octets) = left-by a buf exit octets (contract ∙ ap (written buf) (whole .written)) in
+      let front : take (length octets) exit ≡ octets =
+      ap (take (length octets)) (left .1) ∙ take-at octets (drop (0 + length octets) buf) (length octets) refl in
+      record {
+        count = length octets;
+        answer = left .0;
+        back = λ few u read. read ∙ ap (λ (s : List ℕ). readingHeard (readPacket s)) front ∙ ap readingHeard (whole .back few);
+      }
+
+-- ---- writers that are shut out
+
+-- a writer that refuses every record with extensions
+pub no-refusing-writer : (write : Header → List ℕ → ℕ → Said (List ℕ)) (why : Header → List ℕ → ℕ → Refusal) →
+    ((h : Header) (payload : List ℕ) (room : ℕ) → h .extension ≡ true → write h payload room ≡ refused (why h payload room)) → Writes write → ⊥
+no-refusing-writer write why refuses w =
+    let x : header.WithExtension = header.one-element in
+    let room : ℕ = packetSize (fieldsOf (x .header)) [] in
+    never (sym (w (x .header) [] (x .domain) (x .range) (x .kept) (omega arith) room (omega arith)) ∙ refuses (x .header) [] room (x .on))

@@ -13,10 +13,10 @@ use Rattle.header.specs.Read.{readHeader}
 use Rattle.rfc3550.specs.Rfc3550.{present}
 use Rattle.rfc3550.specs.Rfc8285.{octets}
 use Rattle.rfc3550.specs.Packet.{Padding, Packet, LawfulPacket, endOctets, packetOctets}
-use Rattle.header_rfc.specs.Says.{elementsIn, fieldsIn, fieldsWith, Within, Over, Plain, Fits}
+use Rattle.header_rfc.specs.Says.{elementsSaid, fieldsSaid, fieldsWith, Within, Over, Plain, Fits}
 use Rattle.header_rfc.proofs.Complete as header
 use Rattle.packet.specs.Read.{behind, readPacket}
-use Rattle.packet_rfc.specs.Says.{readingOf, payloadIn, Complete}
+use Rattle.packet_rfc.specs.Says.{readingSaid, payloadIn, Complete}
 use Rattle.packet_rfc.proofs.Behind.{readingAt, read-all, read-padded}
 
 -- ---- a payload and what may follow it, behind the octets of a header
@@ -39,14 +39,14 @@ module _ (front payload : List ℕ) where
 
 -- ---- COMPLETE
 
-within : (p : Packet) → LawfulPacket p → Plain (p .header .content) → Fits (packetOctets p) → Within (elementsIn (p .header .content)) →
-    readPacket (packetOctets p) ≡ says (readingOf p)
+within : (p : Packet) → LawfulPacket p → Plain (p .header .content) → Fits (packetOctets p) → Within (elementsSaid (p .header .content)) →
+    readPacket (packetOctets p) ≡ says (readingSaid p)
 unfolding packetOctets fieldsWith
 within p l plain fits w =
-    read-end (octets (p .header)) (p .payload) (p .padding) (fieldsIn (p .header)) (l .bit)
+    read-end (octets (p .header)) (p .payload) (p .padding) (fieldsSaid (p .header)) (l .bit)
     (header.complete .within (p .header) (p .payload ++ endOctets (p .padding)) (l .header) plain fits w)
 
-over : (p : Packet) → LawfulPacket p → Plain (p .header .content) → Fits (packetOctets p) → Over (elementsIn (p .header .content)) →
+over : (p : Packet) → LawfulPacket p → Plain (p .header .content) → Fits (packetOctets p) → Over (elementsSaid (p .header .content)) →
     readPacket (packetOctets p) ≡ refuse 7
 unfolding packetOctets readPacket
 over p l plain fits o =
@@ -57,6 +57,6 @@ pub complete : Complete readPacket
 complete = record { within = within; over = over }
 
 -- the bytes at the place that the plan says are the payload
-pub payload-bytes : (p : Packet) → payloadIn (packetOctets p) (readingOf p) ≡ p .payload
+pub payload-bytes : (p : Packet) → payloadIn (packetOctets p) (readingSaid p) ≡ p .payload
 unfolding packetOctets
 payload-bytes p = part-end (octets (p .header)) (p .payload) (endOctets (p .padding))

@@ -1,43 +1,49 @@
--- What the packet reader does where a packet leaves RFC 3550, one theorem for each way: a padding count of 0, and a header that strays, behind
--- which the payload is measured from wherever its reading ended. Assumes nothing.
+-- What the packet reader does where a packet leaves RFC 3550, one theorem for each way: a padding count of 0, padding alone, which the writer makes
+-- too, and a header that strays, behind which the payload is measured from wherever its reading ended. Assumes nothing.
 use mathlib.Core.Path.{_≡_, refl, sym, ap, _∙_, subst}
-use mathlib.Core.Bool.{true, false}
+use mathlib.Core.Bool.{Bool, true, false}
 use mathlib.Core.List.{List, [], _∷_, _++_}
 use mathlib.Core.Option.{Option, none, some}
-use Prim.Native.Nat.{ℕ, _+_, _<_}
+use Prim.Native.Nat.{ℕ, _+_, _<_, _≤_}
 use native.Mathlib.Omega.{arith}
 use lib.ListN.{length, take, length-append}
 use lib.Seq.{take-at, take-length, drop-at}
 use Rattle.error.specs.Said.{says, refuse}
+use Rattle.elements.specs.Elements.{Element}
+use Rattle.header.specs.declared.Header.{Header}
+use Rattle.header.specs.Fields.{fieldsOf, inDomain}
+use Rattle.header.specs.Write.{octetsOf}
 use Rattle.rfc3550.specs.Rfc3550.{Fixed, LawfulFixed, LawfulExtension, present}
 use Rattle.rfc3550.specs.Rfc3550 as rtp
 use Rattle.rfc3550.specs.Rfc8285.{one-byte, Item, AllLawful, reserved, extensionWith, Plan, Lawful, octets}
 use Rattle.rfc3550.specs.Packet.{Padding, LawfulPadding, paddingOctets, Packet, LawfulPacket, LawfulEnd, endOctets, packetOctets, lastOctet, Short}
 use Rattle.rfc3550.proofs.Blocks.{unambiguous-elements}
 use Rattle.rfc3550.proofs.Packets.{count-last, length-padding, padded-counted}
-use Rattle.elements.specs.Elements.{Element}
-use Rattle.header_rfc.specs.Says.{elementsOf, padsOf, elementsIn, wholeElement, fieldsIn, fieldsWith, Within, Plain, AppBits, Fits}
+use Rattle.header_rfc.specs.Says.{elementsAmong, padsAmong, elementsSaid, wholeElement, fieldsSaid, fieldsWith, Within, Plain, AppBits, Fits}
 use Rattle.header_rfc.specs.Taken.{strayed, ReadAs}
+use Rattle.header_rfc.specs.RoundTrip.{InRange, ReadsBack}
 use Rattle.header_rfc.proofs.Fixed.{extended}
 use Rattle.header_rfc.proofs.Complete as header
 use Rattle.header_rfc.proofs.Deviations as header-strays
 use Rattle.packet.specs.Read.{readPacket}
+use Rattle.packet.specs.Write as written
 use Rattle.packet_rfc.specs.Says.{PacketReadAs}
 use Rattle.packet_rfc.proofs.Behind.{readingAt, read-all, read-padded, read-uncounted, read-short}
 use Rattle.packet_rfc.proofs.Complete.{read-end, part-end, complete}
+use Rattle.packet_rfc.proofs.Calls.{writes}
 
 -- ---- RFC 3550 5.1, a padding count of 0
 
 -- "n = 0 strips nothing": all that is behind the header is payload, the 0 with it
 pub zero-kept : (p : Plan) (before : List ℕ) → Lawful p → Plain (p .content) → p .fixed .padding ≡ true → Fits (octets p ++ (before ++ (0 ∷ []))) →
-    Within (elementsIn (p .content)) →
-    readPacket (octets p ++ (before ++ (0 ∷ []))) ≡ says (readingAt (fieldsIn p) (length (octets p)) (length before + 1))
+    Within (elementsSaid (p .content)) →
+    readPacket (octets p ++ (before ++ (0 ∷ []))) ≡ says (readingAt (fieldsSaid p) (length (octets p)) (length before + 1))
 unfolding fieldsWith
 zero-kept p before l plain bit fits w =
     read-uncounted (octets p ++ (before ++ (0 ∷ []))) (before ++ (0 ∷ [])) (length (octets p))
-    (drop-at (octets p) (before ++ (0 ∷ [])) (length (octets p)) refl) (fieldsIn p)
+    (drop-at (octets p) (before ++ (0 ∷ [])) (length (octets p)) refl) (fieldsSaid p)
     (header.complete .within p (before ++ (0 ∷ [])) l plain fits w) bit before refl
-    ∙ ap (λ (n : ℕ). says (readingAt (fieldsIn p) (length (octets p)) n)) (length-append before (0 ∷ []))
+    ∙ ap (λ (n : ℕ). says (readingAt (fieldsSaid p) (length (octets p)) n)) (length-append before (0 ∷ []))
 
 -- and these are the octets of no packet of the RFC
 pub zero-no-packet : (p : Plan) (before : List ℕ) → Lawful p → p .fixed .padding ≡ true → (q : Packet) → LawfulPacket q →
@@ -57,14 +63,22 @@ zero-no-packet p before l bit q m e = go (q .padding) (m .padding) (sym (m .bit)
 
 -- section 5.1 does not forbid it, and the check of A.1 asks for a count less than the octets behind the header; it is taken, with an empty payload
 pub only-padding : (p : Plan) (q : Padding) → Lawful p → LawfulPadding q → Plain (p .content) → p .fixed .padding ≡ true →
-    Fits (octets p ++ paddingOctets q) → Within (elementsIn (p .content)) →
-    (readPacket (octets p ++ paddingOctets q) ≡ says (readingAt (fieldsIn p) (length (octets p)) 0))
+    Fits (octets p ++ paddingOctets q) → Within (elementsSaid (p .content)) →
+    (readPacket (octets p ++ paddingOctets q) ≡ says (readingAt (fieldsSaid p) (length (octets p)) 0))
     × (lastOctet (paddingOctets q) ≡ length (paddingOctets q))
 unfolding packetOctets
 only-padding p q l k plain bit fits w = (
   complete .within (record { header = p; payload = []; padding = some q }) (record { header = l; bit = bit; padding = k }) plain fits w,
   count-last [] q ∙ sym (length-padding q),
 )
+
+-- and an empty payload with the padding bit is written so
+pub empty-written : (h : Header) → inDomain h ≡ true → InRange (fieldsOf h) → ReadsBack (fieldsOf h) → h .padding ≡ true → (room : ℕ) →
+    written.packetSize (fieldsOf h) [] ≤ room → written.writePacket h [] room ≡ says (octetsOf (fieldsOf h) ++ (0 ∷ 0 ∷ 0 ∷ 4 ∷ []))
+unfolding fieldsOf written.packetOctets written.payloadOctets
+empty-written h d w r bit room fits =
+    writes h [] d w r (omega arith) room fits
+    ∙ ap (λ (b : Bool). says (octetsOf (fieldsOf h) ++ written.paddingOctets (written.paddingLength b 0))) bit
 
 -- ---- headers that stray: `ReadAs` is what the header's theorems say of each way, with the octets from the payload's place on
 
@@ -109,11 +123,11 @@ module _ (s : List ℕ) (f : Fixed) (profile : ℕ) (es : List Element) (pads : 
 -- RFC 8285 4.2, id 15, and RFC 3550 5.1: the rest of the block is payload, and the padding may stand in it
 pub reserved-padded : (f : Fixed) (is : List Item) (len : ℕ) (rest payload body : List ℕ) (p : Padding) → rest ++ payload ≡ body ++ paddingOctets p →
     f .padding ≡ true → AllLawful one-byte is → len < 16 → rtp.Lawful (strayed f one-byte is (reserved len rest)) →
-    Fits (rtp.octets (strayed f one-byte is (reserved len rest)) ++ payload) → Within (elementsOf is) →
-    PacketReadAs (rtp.octets (strayed f one-byte is (reserved len rest)) ++ payload) f 0xBEDE (elementsOf is) (padsOf is) body
+    Fits (rtp.octets (strayed f one-byte is (reserved len rest)) ++ payload) → Within (elementsAmong is) →
+    PacketReadAs (rtp.octets (strayed f one-byte is (reserved len rest)) ++ payload) f 0xBEDE (elementsAmong is) (padsAmong is) body
 reserved-padded f is len rest payload body p same on t h l fits w =
-    stray-padded (rtp.octets (strayed f one-byte is (reserved len rest)) ++ payload) f 0xBEDE (elementsOf is) (padsOf is) body p on
-    (subst (ReadAs (rtp.octets (strayed f one-byte is (reserved len rest)) ++ payload) f 0xBEDE (elementsOf is) (padsOf is)) same
+    stray-padded (rtp.octets (strayed f one-byte is (reserved len rest)) ++ payload) f 0xBEDE (elementsAmong is) (padsAmong is) body p on
+    (subst (ReadAs (rtp.octets (strayed f one-byte is (reserved len rest)) ++ payload) f 0xBEDE (elementsAmong is) (padsAmong is)) same
     (header-strays.reserved-read f is len rest payload t h l fits w))
 
 -- RFC 8285 4.3, application bits not 0: the elements are told otherwise, and the payload is that of the packet

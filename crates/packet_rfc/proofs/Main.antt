@@ -3,9 +3,10 @@
 -- The words. A packet of RFC 3550 is a plan: a header's plan (RFC 3550 and RFC 8285, as crate `header_rfc` has it), a payload, and padding exactly
 -- where the P bit is set. `packetOctets p` are the plan's octets; they are defined in crate `rfc3550` from the RFC alone. A plan is `LawfulPacket`
 -- where its header is lawful, P says whether there is padding, and the padding's last octet counts 1 to 255 octets, itself included.
--- `readPacket s` is the paper's reading of the bytes s, and `written.packetOctets f payload` what the paper has written for the fields f and a payload:
--- the code of crate `packet` is proved equal to both. `readingOf p` is what the plan says, in the reader's own terms: the header's fields, elements and
--- count of padding in the extension, and the payload's place and length; `refuse n` is the paper's refusal n.
+-- `readPacket s` is the paper's reading of the bytes s, and `written.writePacket h payload room` its answer for the record h, a payload and a buffer of
+-- `room` bytes, the octets written or a refusal: the code of crate `packet` is proved equal to both. `written.packetOctets f payload` are the octets that
+-- the paper has for the fields f and a payload. `readingSaid p` is what the plan says, in the reader's own terms: the header's fields, elements and count of
+-- padding in the extension, and the payload's place and length; `refuse n` is the paper's refusal n.
 --
 -- The paper's limits are `Fits` (65,535 bytes) and `Within` (32 elements, 1,024 data bytes). Of the crate's deviations COMPLETE has to leave one out:
 -- `Plain`, of the two-byte form's profiles 0x1000 to 0x100F only 0x1000 is read as such.
@@ -14,25 +15,26 @@ use mathlib.Core.Bool.{true}
 use mathlib.Core.List.{List}
 use mathlib.Core.Logic.{_⊎_}
 use Prim.Native.Nat.{ℕ, _+_, _≤_}
-use lib.ListN.{length, take}
+use lib.ListN.{length}
 use Rattle.error.specs.Refusal.{Refusal}
 use Rattle.error.specs.Said.{Said, says, refused, refuse}
+use Rattle.wire.specs.Part.{splice}
 use Rattle.header.specs.declared.Header.{Header}
 use Rattle.header.specs.declared.Length.{Length}
 use Rattle.header.specs.declared.Length.the-variants as len
-use Rattle.header.specs.Fields.{Fields, fieldsOf, layOut}
+use Rattle.header.specs.Fields.{Fields, fieldsOf, layOut, inDomain}
 use Rattle.header.specs.Said as answers
 use Rattle.rfc3550.specs.Rfc3550.{Octets}
 use Rattle.rfc3550.specs.Packet.{Packet, LawfulPacket, packetOctets, Padded, Uncounted, Short}
 use Rattle.rfc3550.proofs.Packets as packets
-use Rattle.header_rfc.specs.Says.{elementsIn, fieldsIn, Within, Plain, AppBits, Fits}
-use Rattle.header_rfc.specs.RoundTrip.{Writable, ReadsBack, readBack, Trailing}
+use Rattle.header_rfc.specs.Says.{elementsSaid, fieldsSaid, Within, Plain, AppBits, Fits}
+use Rattle.header_rfc.specs.RoundTrip.{InRange, ReadsBack, Trailing}
 use Rattle.packet.specs.declared.Unmarshalled.{Unmarshalled}
 use Rattle.packet.specs.Read.{Payload, PacketReading, readPacket}
 use Rattle.packet.specs.Write as written
 use Rattle.packet.specs.Said.{heard, readingHeard}
-use Rattle.packet_rfc.specs.Says.{readingOf, payloadIn, Complete, Sound, CutInPadding}
-use Rattle.packet_rfc.specs.RoundTrip.{Chosen, FillingEnd, WrittenAs, packetBack, PacketReadsBack, ReadsAgain}
+use Rattle.packet_rfc.specs.Says.{readingSaid, payloadIn, Complete, Sound, CutInPadding}
+use Rattle.packet_rfc.specs.RoundTrip.{Chosen, FillingEnd, WrittenAs, Writes, WrittenAndRead, CodeWrittenAndRead, ReadsAgain}
 use Rattle.packet_rfc.proofs.Complete as complete
 use Rattle.packet_rfc.proofs.Readers as readers
 use Rattle.packet_rfc.proofs.Sound as sound
@@ -48,13 +50,13 @@ pub COMPLETE : Complete readPacket
 COMPLETE = complete.complete
 
 -- The bytes at that place are the payload.
-pub PAYLOAD : (p : Packet) → payloadIn (packetOctets p) (readingOf p) ≡ p .payload
+pub PAYLOAD : (p : Packet) → payloadIn (packetOctets p) (readingSaid p) ≡ p .payload
 PAYLOAD = complete.payload-bytes
 
 -- The same of the code: whatever `unmarshal` answers under its contract
 pub CODE-COMPLETE : (u : Unmarshalled) (p : Packet) → heard u ≡ readingHeard (readPacket (packetOctets p)) →
-    LawfulPacket p → Plain (p .header .content) → Fits (packetOctets p) → Within (elementsIn (p .header .content)) →
-    heard u ≡ record { answer = says (readingOf p .payload); header = layOut (fieldsIn (p .header)) }
+    LawfulPacket p → Plain (p .header .content) → Fits (packetOctets p) → Within (elementsSaid (p .header .content)) →
+    heard u ≡ record { answer = says (readingSaid p .payload); header = layOut (fieldsSaid (p .header)) }
 CODE-COMPLETE u p contract l plain fits w = contract ∙ ap readingHeard (COMPLETE .within p l plain fits w)
 
 -- COMPLETE shuts out "a reader that refuses all" ..
@@ -120,42 +122,64 @@ UNCOUNTED-ROOM = packets.uncounted-room
 
 -- ---- writing
 
--- WRITER. Under the paper's conditions for the round trip the written octets are those of a lawful packet, which says the record and has the payload. (A
--- profile 0x1001 to 0x100F is RFC 8285's two-byte form; the crate writes any words there.)
-pub WRITER : (f : Fields) (payload : List ℕ) → Writable f → ReadsBack f → (AppBits (f .profile) → ⊥) → WrittenAs f payload
-WRITER = round-trip.writer
+-- WRITES. Every record in the domain that meets the paper's conditions for the round trip is written with any payload of the domain, wherever there is
+-- room for both and the padding, and as the octets that the paper has for them.
+pub WRITES : Writes written.writePacket
+WRITES = calls.writes
+
+-- WRITES shuts out a writer that refuses every record with extensions.
+pub NO-REFUSING-WRITER : (write : Header → List ℕ → ℕ → Said (List ℕ)) (why : Header → List ℕ → ℕ → Refusal) →
+    ((h : Header) (payload : List ℕ) (room : ℕ) → h .extension ≡ true → write h payload room ≡ refused (why h payload room)) → Writes write → ⊥
+NO-REFUSING-WRITER = calls.no-refusing-writer
+
+-- WRITER. What is written so is the octets of a lawful packet, which says the record and has the payload. (A profile 0x1001 to 0x100F is RFC 8285's
+-- two-byte form; the crate writes any words there.)
+pub WRITER : (h : Header) (payload : List ℕ) → inDomain h ≡ true → InRange (fieldsOf h) → ReadsBack (fieldsOf h) → (AppBits (fieldsOf h .profile) → ⊥) →
+    length payload ≤ 65535 → (room : ℕ) → written.packetSize (fieldsOf h) payload ≤ room → WrittenAs (fieldsOf h) payload (written.writePacket h payload room)
+WRITER = calls.written-as
 
 -- What the writer chooses, behind n bytes of payload, is lawful padding: zeros and a count of 1 to 4, up to a multiple of 4; "an aligned payload gets 4".
 pub WRITER-PADDING : (n : ℕ) → Chosen n (written.paddingOctets (written.paddingLength true n))
 WRITER-PADDING = round-trip.padding-chosen
 
--- ROUND TRIP. "A whole packet reads back so too, where at most 65,535 bytes were written": the fields as in the header's round trip, the payload at its
--- place with its length, and the bytes there.
-pub ROUND-TRIP : (f : Fields) (payload : List ℕ) → Writable f → ReadsBack f → Fits (written.packetOctets f payload) → PacketReadsBack f payload
-ROUND-TRIP = round-trip.round-trip
+-- ROUND TRIP. The call writes, and "A whole packet reads back so too, where at most 65,535 bytes were written": the fields as in the header's round trip,
+-- the payload at its place with its length, and the bytes there.
+pub ROUND-TRIP : (h : Header) (payload : List ℕ) → inDomain h ≡ true → InRange (fieldsOf h) → ReadsBack (fieldsOf h) → length payload ≤ 65535 →
+    (room : ℕ) → written.packetSize (fieldsOf h) payload ≤ room → WrittenAndRead (fieldsOf h) payload (written.writePacket h payload room)
+ROUND-TRIP = calls.round-trip
 
--- The same of the code: whatever `marshal_to` leaves in front of a buffer, where it answers that n bytes were written, and `unmarshal` answers of them
-pub CODE-ROUND-TRIP : (h : Header) (payload buf exit : List ℕ) (a : Length) (n : ℕ) (u : Unmarshalled) →
-    answers.heardWritten a exit ≡ answers.written buf (written.writePacket h payload (length buf)) → a ≡ len.Bytes n →
-    heard u ≡ readingHeard (readPacket (take n exit)) → Writable (fieldsOf h) → ReadsBack (fieldsOf h) → n ≤ 65535 →
-    heard u ≡ record { answer = says (packetBack (fieldsOf h) payload .payload); header = layOut (readBack (fieldsOf h)) }
+-- The same of the code: under these conditions `marshal_to` answers how many bytes it wrote, whatever the buffer held ..
+pub CODE-WRITES : (h : Header) (payload buf exit : List ℕ) (a : Length) →
+    answers.heardWritten a exit ≡ answers.written buf (written.writePacket h payload (length buf)) →
+    inDomain h ≡ true → InRange (fieldsOf h) → ReadsBack (fieldsOf h) → length payload ≤ 65535 → written.packetSize (fieldsOf h) payload ≤ length buf →
+    (a ≡ len.Bytes (length (written.packetOctets (fieldsOf h) payload))) × (exit ≡ splice buf 0 (written.packetOctets (fieldsOf h) payload))
+CODE-WRITES = calls.code-writes
+
+-- .. and whatever `unmarshal` answers of these bytes is what reads back.
+pub CODE-ROUND-TRIP : (h : Header) (payload buf exit : List ℕ) (a : Length) →
+    answers.heardWritten a exit ≡ answers.written buf (written.writePacket h payload (length buf)) →
+    inDomain h ≡ true → InRange (fieldsOf h) → ReadsBack (fieldsOf h) → length payload ≤ 65535 → written.packetSize (fieldsOf h) payload ≤ length buf →
+    CodeWrittenAndRead h payload exit a
 CODE-ROUND-TRIP = calls.code-round-trip
 
--- The other way round: what was read from any octets, written again with its own padding bit and payload, reads back with the same payload ..
-pub READ-WRITE-READ : (s : List ℕ) → Octets s → (r : PacketReading) → readPacket s ≡ says r →
-    Fits (written.packetOctets (r .fields) (payloadIn s r)) → ReadsAgain s r
-READ-WRITE-READ = round-trip.reads-again
+-- The other way round: the record that was read from any octets, written again with its own padding bit and payload, is written and reads back with the
+-- same payload ..
+pub READ-WRITE-READ : (s : List ℕ) → Octets s → (r : PacketReading) → readPacket s ≡ says r → (room : ℕ) →
+    written.packetSize (r .fields) (payloadIn s r) ≤ room → ReadsAgain s r room
+READ-WRITE-READ = calls.reads-again
 
--- .. and a well-formed packet whose header and padding are laid out as the writer lays them out is written as the octets that were read.
+-- .. and that of a well-formed packet whose header and padding are laid out as the writer lays them out is written as the octets that were read.
 pub SAME-OCTETS : (p : Packet) → LawfulPacket p → Plain (p .header .content) → Trailing (p .header .content) →
-    FillingEnd (length (p .payload)) (p .padding) → written.packetOctets (fieldsIn (p .header)) (p .payload) ≡ packetOctets p
-SAME-OCTETS = round-trip.written-again
+    FillingEnd (length (p .payload)) (p .padding) → Within (elementsSaid (p .header .content)) → length (p .payload) ≤ 65535 → (room : ℕ) →
+    written.packetSize (fieldsSaid (p .header)) (p .payload) ≤ room →
+    written.writePacket (layOut (fieldsSaid (p .header))) (p .payload) room ≡ says (packetOctets p)
+SAME-OCTETS = calls.same-octets
 
 -- ---- where the crate leaves the RFC, each with the theorem that says exactly what it does; those of the header stand in header_rfc/proofs/Main.antt
 --
 -- RFC 3550 5.1, a padding count of 0              nothing is stripped: Deviations.zero-kept; no packet of the RFC: .zero-no-packet
 -- RFC 3550 5.1, padding of 1 to 255 octets        read whatever they are: COMPLETE; written 1 to 4, zeros and the count: WRITER-PADDING
--- RFC 3550 A.1, a count that leaves no payload    taken, the payload is empty: Deviations.only-padding
+-- RFC 3550 A.1, a count that leaves no payload    taken, the payload is empty: Deviations.only-padding; written for an empty payload: .empty-written
 -- RFC 3550 5.3.1, a header that strays            what is left of the packet behind what was read of it is judged by the same rule:
 --                                                 Deviations.stray-plain, .stray-padded, .stray-zero, .stray-short
 -- RFC 8285 4.2, id 15, with the P bit             the padding may stand in the rest of the block: Deviations.reserved-padded

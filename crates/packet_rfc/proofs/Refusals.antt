@@ -14,14 +14,15 @@ use lib.ListN.{length, drop, getD}
 use lib.Seq.{drop-at}
 use Rattle.error.specs.Said.{Said, says, refused, refuse}
 use Rattle.wire.specs.Net.{u16At}
+use Rattle.block.specs.Read.{Block, blockAt, readBlock}
+use Rattle.block.specs.Form.{formOf}
+use Rattle.block.proofs.Form.{form-other}
+use Rattle.header.specs.Read.{Reading, bit, countOf, fixedLength, readingOf, readExtension, readFixed, readHeader}
 use Rattle.rfc3550.specs.Rfc3550.{Fixed, present}
 use Rattle.rfc3550.specs.Rfc8285.{one-byte, two-byte, Item, blockOctets, Content, laid, other, Plan, Lawful, octets}
 use Rattle.rfc3550.specs.Packet.{Padding, Packet, LawfulPacket, LawfulEnd, endOctets, packetOctets, lastOctet, Short, nothing-there, over-counted}
 use Rattle.rfc3550.proofs.Packets.{padded-room}
-use Rattle.block.specs.Read.{Block, blockAt, readBlock}
-use Rattle.block.specs.Form.{formOf}
-use Rattle.header.specs.Read.{Reading, bit, countOf, fixedLength, readingOf, readExtension, readFixed, readHeader}
-use Rattle.header_rfc.specs.Says.{elementsIn, wholeElement, fieldsWith, Within, Over, Plain, AppBits}
+use Rattle.header_rfc.specs.Says.{elementsSaid, wholeElement, fieldsWith, Within, Over, Plain, AppBits}
 use Rattle.header_rfc.specs.Says as header
 use Rattle.header_rfc.proofs.Fixed as header-fixed
 use Rattle.header_rfc.proofs.Complete as header-read
@@ -118,15 +119,15 @@ module _ (f : Fixed) (body : List ℕ) (r : Reading) where
   plain-told : (c : Option Content) → Lawful (record { fixed = f; content = c }) → Plain c →
       readHeader (octets (record { fixed = f; content = c }) ++ body) ≡ says r → Told c
   unfolding fieldsWith
-  plain-told c l plain e = go (within-or-over (elementsIn c))
+  plain-told c l plain e = go (within-or-over (elementsSaid c))
     where
       p : Plan
       p = record { fixed = f; content = c }
 
-      go : Within (elementsIn c) ⊎ Over (elementsIn c) → Told c
+      go : Within (elementsSaid c) ⊎ Over (elementsSaid c) → Told c
       go (inl w) =
-          let said : r ≡ header.readingOf p =
-          same-answer (readHeader (octets p ++ body)) r (header.readingOf p) e
+          let said : r ≡ header.readingSaid p =
+          same-answer (readHeader (octets p ++ body)) r (header.readingSaid p) e
           (header-read.complete .within p body l plain (fits-accepted (octets p ++ body) r e) w) in
           (ap (λ (t : Reading). t .place) said, ap (λ (t : Reading). t .fields .padding) said)
       go (inr o) =
@@ -163,7 +164,7 @@ module _ (f : Fixed) (body : List ℕ) (r : Reading) where
           absurd
           (not-refused (readHeader s) 7 r
           (header-read.other-over f (l .header .fixed) body (0x1000 + appbits) words
-          (header-read.form-other (0x1000 + appbits) (λ z. omega (arith, l .content .0)) (λ z. some-bits (omega arith)))
+          (form-other {p = 0x1000 + appbits} (λ z. omega (arith, l .content .0)) (λ z. some-bits (omega arith)))
           (l .header .extension) (fits-accepted s r e) o) e)
 
   told : (c : Option Content) → Lawful (record { fixed = f; content = c }) →

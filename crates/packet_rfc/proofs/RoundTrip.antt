@@ -4,30 +4,27 @@ use mathlib.Core.Path.{_≡_, refl, sym, ap, ap₂, _∙_, subst}
 use mathlib.Core.Bool.{Bool, true, false}
 use mathlib.Core.List.{List, [], _∷_, _++_}
 use mathlib.Core.Option.{Option, none, some}
-use Prim.Native.Nat.{ℕ, _+_, _-_, _%_}
+use Prim.Native.Nat.{ℕ, _-_, _%_}
 use native.Mathlib.Omega.{arith}
 use lib.ListN.{length, replicate, length-replicate}
-use Rattle.error.specs.Said.{says}
+use Rattle.error.specs.Said.{Said, says}
 use Rattle.wire.specs.Part.{part}
-use Rattle.wire.proofs.Part.{length-part}
 use Rattle.header.specs.Fields.{Fields}
-use Rattle.header.specs.Read.{readHeader}
 use Rattle.header.specs.Write.{octetsOf}
-use Rattle.rfc3550.specs.Rfc3550.{Octets, present}
+use Rattle.rfc3550.specs.Rfc3550.{present}
+use Rattle.rfc3550.specs.Rfc8285.{octets}
 use Rattle.rfc3550.specs.Packet.{Padding, countIn, paddingOctets, Packet, LawfulPacket, LawfulEnd, endOctets, packetOctets}
-use Rattle.header_rfc.specs.Says.{fieldsIn, fieldsWith, Plain, AppBits, Fits}
-use Rattle.header_rfc.specs.RoundTrip.{Writable, ReadsBack, readBack, Trailing}
+use Rattle.header_rfc.specs.Says.{fieldsSaid, fieldsWith, Plain, AppBits, Fits}
+use Rattle.header_rfc.specs.RoundTrip.{InRange, ReadsBack, readBack, Trailing}
 use Rattle.header_rfc.specs.RoundTrip as header
+use Rattle.header_rfc.proofs.RoundTrip.{Ways, BothWays}
 use Rattle.header_rfc.proofs.RoundTrip as header-written
 use Rattle.header_rfc.proofs.Rewritten as header-rewritten
-use Rattle.header_rfc.proofs.Yields as header-read
-use Rattle.packet.specs.Read.{PacketReading, readPacket}
+use Rattle.header_rfc.proofs.Writers.{octets-back}
+use Rattle.packet.specs.Read.{readPacket}
 use Rattle.packet.specs.Write as written
-use Rattle.packet.proofs.Reading.{payload-inside}
 use Rattle.packet.proofs.Writing.{padding-some}
-use Rattle.packet_rfc.specs.Says.{headerOf, payloadIn}
-use Rattle.packet_rfc.specs.RoundTrip.{Filling, Chosen, FillingEnd, WrittenAs, PacketReadsBack, ReadsAgain}
-use Rattle.packet_rfc.proofs.Behind.{accepted}
+use Rattle.packet_rfc.specs.RoundTrip.{Filling, Chosen, FillingEnd, WrittenAs, WrittenAndRead}
 use Rattle.packet_rfc.proofs.Complete.{read-end, part-end}
 
 -- ---- the padding that is chosen
@@ -79,6 +76,9 @@ end-octets true n = chosen-octets n
 
 -- ---- what is written
 
+said-same : {A : Type 0} {a b : A} → says a ≡ says b → a ≡ b
+said-same e = cc
+
 module _ (f : Fields) (payload : List ℕ) where
   abbrev end : Option Padding
   end = chosenEnd (f .padding) (length payload)
@@ -88,10 +88,12 @@ module _ (f : Fields) (payload : List ℕ) where
   same-octets = ap (λ (s : List ℕ). octetsOf f ++ (payload ++ s)) (end-octets (f .padding) (length payload))
 
   -- the written octets are those of a lawful packet that says the record
-  pub writer : Writable f → ReadsBack f → (AppBits (f .profile) → ⊥) → WrittenAs f payload
+  pub writer : InRange f → ReadsBack f → (AppBits (f .profile) → ⊥) → (answer : Said (List ℕ)) → answer ≡ says (written.packetOctets f payload) →
+      WrittenAs f payload answer
   unfolding packetOctets fieldsWith
-  writer w r bits =
-      let h : header.WrittenAs f = header-written.writer f w r bits in
+  writer w r bits answer e =
+      let h : header.WrittenAs f (says (octetsOf f)) = header-written.writer f w r bits (says (octetsOf f)) refl in
+      let front : octetsOf f ≡ octets (h .plan) = said-same (h .same) in
       record {
         plan = record { header = h .plan; payload = payload; padding = end };
         lawful = record {
@@ -99,37 +101,25 @@ module _ (f : Fields) (payload : List ℕ) where
           bit = ap (λ (g : Fields). g .padding) (h .said) ∙ chosen-present (f .padding) (length payload);
           padding = chosen-lawful (f .padding) (length payload);
         };
-        same = same-octets ∙ ap (λ (s : List ℕ). s ++ (payload ++ endOctets end)) (h .same);
+        same = e ∙ ap says (same-octets ∙ ap (λ (s : List ℕ). s ++ (payload ++ endOctets end)) front);
         said = h .said;
         payload-said = refl;
       }
 
-  -- where the header reads back, the packet does
-  back : (Fits (octetsOf f ++ (payload ++ endOctets end)) →
-      readHeader (octetsOf f ++ (payload ++ endOctets end)) ≡ says (record { fields = readBack f; place = length (octetsOf f) })) →
-      Fits (written.packetOctets f payload) → PacketReadsBack f payload
-  back read fits =
+  -- where these octets were written, they read back
+  pub back : InRange f → Ways BothWays f → (answer : Said (List ℕ)) → answer ≡ says (written.packetOctets f payload) → WrittenAndRead f payload answer
+  back w s answer e =
       record {
-        read = ap readPacket same-octets
-            ∙ read-end (octetsOf f) payload end (readBack f) (chosen-present (f .padding) (length payload)) (read (subst Fits same-octets fits));
-        bytes = ap (λ (s : List ℕ). part s (length (octetsOf f)) (length payload)) same-octets ∙ part-end (octetsOf f) payload (endOctets end);
+        octets = written.packetOctets f payload;
+        written = e;
+        back = λ fits.
+            ap readPacket same-octets
+            ∙ read-end (octetsOf f) payload end (readBack f) (chosen-present (f .padding) (length payload))
+            (octets-back f w s (payload ++ endOctets end) (subst Fits same-octets fits));
+        bytes = ap (λ (t : List ℕ). part t (length (octetsOf f)) (length payload)) same-octets ∙ part-end (octetsOf f) payload (endOctets end);
       }
 
-  -- "A whole packet reads back so too, where at most 65,535 bytes were written."
-  pub round-trip : Writable f → ReadsBack f → Fits (written.packetOctets f payload) → PacketReadsBack f payload
-  round-trip w r fits = back (header-written.round-trip f w r (payload ++ endOctets end)) fits
-
 -- ---- the other way round
-
--- what was read from any octets is written, and reads back
-pub reads-again : (s : List ℕ) → Octets s → (r : PacketReading) → readPacket s ≡ says r → Fits (written.packetOctets (r .fields) (payloadIn s r)) →
-    ReadsAgain s r
-reads-again s o r e fits =
-    record {
-      back = back (r .fields) (payloadIn s r)
-          (header-read.reads-again s o (headerOf r) (accepted s r o e .header) (payloadIn s r ++ endOctets (end (r .fields) (payloadIn s r)))) fits;
-      len = length-part s (r .payload .place) (r .payload .len) (payload-inside s r e);
-    }
 
 -- zeros and a count up to a multiple of 4 are the padding that is chosen
 filling-told : (n : ℕ) (p : Padding) → Filling n p → p ≡ chosen n
@@ -140,10 +130,10 @@ filling-told n p f =
 
 -- a packet whose header and padding are laid out as the writer lays them out is written as the octets that were read
 pub written-again : (p : Packet) → LawfulPacket p → Plain (p .header .content) → Trailing (p .header .content) →
-    FillingEnd (length (p .payload)) (p .padding) → written.packetOctets (fieldsIn (p .header)) (p .payload) ≡ packetOctets p
+    FillingEnd (length (p .payload)) (p .padding) → written.packetOctets (fieldsSaid (p .header)) (p .payload) ≡ packetOctets p
 unfolding packetOctets fieldsWith
 written-again p l plain t fill =
-    same-octets (fieldsIn (p .header)) (p .payload)
+    same-octets (fieldsSaid (p .header)) (p .payload)
     ∙ ap₂ (λ (s : List ℕ) (e : Option Padding). s ++ (p .payload ++ endOctets e))
     (header-rewritten.written-again (p .header) (l .header) plain t)
     (go (p .header .fixed .padding) (p .padding) (l .bit) fill)

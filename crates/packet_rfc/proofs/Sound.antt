@@ -10,7 +10,7 @@ use lib.Seq.{drop-at}
 use Rattle.header.specs.Read.{Reading}
 use Rattle.rfc3550.specs.Rfc8285.{Plan, octets}
 use Rattle.rfc3550.specs.Packet.{packetOctets}
-use Rattle.header_rfc.specs.Says.{fieldsWith, fieldsIn, Deviating}
+use Rattle.header_rfc.specs.Says.{fieldsWith, fieldsSaid, Deviating}
 use Rattle.header_rfc.specs.Says as header
 use Rattle.header_rfc.proofs.Sound as header-read
 use Rattle.packet.specs.Read.{PacketReading, readPacket}
@@ -32,7 +32,7 @@ module _ (s : List ℕ) (r : PacketReading) (c : header.Conforming s (headerOf r
       ∙ ap (drop (length (octets h))) (sym (c .same))
       ∙ drop-at (octets h) (c .payload) (length (octets h)) refl
 
-  said : (n : ℕ) → r .payload .len ≡ n → r ≡ readingAt (fieldsIn h) (length (octets h)) n
+  said : (n : ℕ) → r .payload .len ≡ n → r ≡ readingAt (fieldsSaid h) (length (octets h)) n
   said n e i = record { fields = c .said i .fields; payload = record { place = c .said i .place; len = e i } }
 
   conforms : Measured (r .fields .padding) (c .payload) (r .payload .len) → Conforming s r ⊎ ZeroCount s r

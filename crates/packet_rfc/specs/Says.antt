@@ -8,21 +8,21 @@ use Prim.Native.Nat.{ℕ, _+_}
 use lib.ListN.{length, drop}
 use Rattle.error.specs.Said.{Said, says, refuse}
 use Rattle.wire.specs.Part.{part}
+use Rattle.elements.specs.Elements.{Element}
+use Rattle.header.specs.Read.{Reading, readHeader}
 use Rattle.rfc3550.specs.Rfc3550.{Octets, Fixed}
 use Rattle.rfc3550.specs.Rfc8285.{Plan, Lawful, octets}
 use Rattle.rfc3550.specs.Packet.{Packet, LawfulPacket, packetOctets, Padded, Uncounted, Short}
-use Rattle.elements.specs.Elements.{Element}
-use Rattle.header.specs.Read.{Reading, readHeader}
-use Rattle.header_rfc.specs.Says.{elementsIn, fieldsIn, fieldsWith, Within, Over, Plain, Fits, Deviating}
+use Rattle.header_rfc.specs.Says.{elementsSaid, fieldsSaid, fieldsWith, Within, Over, Plain, Fits, Deviating}
 use Rattle.packet.specs.Read.{PacketReading, readPacket}
 
 -- ---- what a plan says
 
 -- the header's fields; the payload stands behind the header, and is as long as the plan has it, without the padding
-abbrev pub readingOf : Packet → PacketReading
-readingOf p =
+abbrev pub readingSaid : Packet → PacketReading
+readingSaid p =
     record {
-      fields = fieldsIn (p .header);
+      fields = fieldsSaid (p .header);
       payload = record { place = length (octets (p .header)); len = length (p .payload) };
     }
 
@@ -38,9 +38,9 @@ payloadIn s r = part s (r .payload .place) (r .payload .len)
 
 -- every well-formed packet within the limits is read as what its plan says; over the header's limits it is 7
 pub record Complete (read : List ℕ → Said PacketReading) : Type 0 where
-  pub within : (p : Packet) → LawfulPacket p → Plain (p .header .content) → Fits (packetOctets p) → Within (elementsIn (p .header .content)) →
-      read (packetOctets p) ≡ says (readingOf p)
-  pub over : (p : Packet) → LawfulPacket p → Plain (p .header .content) → Fits (packetOctets p) → Over (elementsIn (p .header .content)) →
+  pub within : (p : Packet) → LawfulPacket p → Plain (p .header .content) → Fits (packetOctets p) → Within (elementsSaid (p .header .content)) →
+      read (packetOctets p) ≡ says (readingSaid p)
+  pub over : (p : Packet) → LawfulPacket p → Plain (p .header .content) → Fits (packetOctets p) → Over (elementsSaid (p .header .content)) →
       read (packetOctets p) ≡ refuse 7
 
 -- s is a packet of the RFC, of version 2, and r is what it says
@@ -49,7 +49,7 @@ pub record Conforming (s : List ℕ) (r : PacketReading) : Type 0 where
   pub lawful : LawfulPacket plan
   pub version : plan .header .fixed .version ≡ 2
   pub same : packetOctets plan ≡ s
-  pub said : r ≡ readingOf plan
+  pub said : r ≡ readingSaid plan
 
 -- s is a lawful header of version 2 with the P bit, and octets of which the last is 0: r has the header's fields, and all those octets as payload
 pub record ZeroCount (s : List ℕ) (r : PacketReading) : Type 0 where
@@ -59,7 +59,7 @@ pub record ZeroCount (s : List ℕ) (r : PacketReading) : Type 0 where
   pub bit : plan .fixed .padding ≡ true
   pub before : List ℕ
   pub same : octets plan ++ (before ++ (0 ∷ [])) ≡ s
-  pub said : r ≡ record { fields = fieldsIn plan; payload = record { place = length (octets plan); len = length before + 1 } }
+  pub said : r ≡ record { fields = fieldsSaid plan; payload = record { place = length (octets plan); len = length before + 1 } }
 
 -- what becomes of the octets behind what was read of the header: `len` of them are payload
 pub data Measured (padding : Bool) (rest : List ℕ) (len : ℕ) : Type 0 where

@@ -26,6 +26,7 @@ countIn p = length (p .before) + 1
 abbrev pub LawfulPadding : Padding → Type 0
 LawfulPadding p = countIn p < 256
 
+-- the count stands at the padding's end
 abbrev pub paddingOctets : Padding → List ℕ
 paddingOctets p = p .before ++ (countIn p ∷ [])
 
@@ -37,16 +38,19 @@ pub record Packet : Type 0 where
   pub payload : List ℕ
   pub padding : Option Padding
 
+-- a packet may end without padding
 abbrev pub LawfulEnd : Option Padding → Type 0
 LawfulEnd none = Unit
 LawfulEnd (some p) = LawfulPadding p
 
+-- a lawful header, and lawful padding where its P bit says that there is some
 pub record LawfulPacket (p : Packet) : Type 0 where
   pub header : Lawful (p .header)
   -- P is set exactly where there is padding
   pub bit : p .header .fixed .padding ≡ present (p .padding)
   pub padding : LawfulEnd (p .padding)
 
+-- nothing follows the payload of a packet without padding
 abbrev pub endOctets : Option Padding → List ℕ
 endOctets none = []
 endOctets (some p) = paddingOctets p
@@ -69,6 +73,7 @@ pub record Uncounted (s : List ℕ) : Type 0 where
   pub before : List ℕ
   pub same : before ++ (0 ∷ []) ≡ s
 
+-- where the count stands
 abbrev pub lastOctet : List ℕ → ℕ
 lastOctet s = getD s (length s - 1) 0
 

@@ -6,12 +6,12 @@ use mathlib.Core.List.{List, [], _∷_, _++_}
 use mathlib.Core.Option.{Option, none, some}
 use Prim.Native.Nat.{ℕ, _+_, _*_, _/_, _%_, _<_, _≤_}
 use lib.ListN.{length, getD}
+use Rattle.wire.specs.Each.{Each}
 use Rattle.wire.specs.Net.{be16, be32, u16At}
 
 -- each number of a list is below n
 abbrev pub AllBelow : ℕ → List ℕ → Type 0
-AllBelow n [] = Unit
-AllBelow n (x ∷ xs) = (x < n) × AllBelow n xs
+AllBelow n xs = Each (λ (x : ℕ). x < n) xs
 
 -- a list of octets
 abbrev pub Octets : List ℕ → Type 0
@@ -65,6 +65,7 @@ firstOctet f x = f .version * 64 + bit (f .padding) * 32 + bit x * 16 + length (
 abbrev pub secondOctet : Fixed → ℕ
 secondOctet f = bit (f .marker) * 128 + f .payload-type
 
+-- 0 to 15 CSRCs, each of 32 bits, in the list's order
 abbrev pub csrcOctets : List ℕ → List ℕ
 csrcOctets [] = []
 csrcOctets (c ∷ cs) = be32 c ++ csrcOctets cs
@@ -99,6 +100,7 @@ pub record LawfulExtension (x : Extension) : Type 0 where
   pub words : x .words < 65536
   pub content : length (x .content) ≡ 4 * x .words
 
+-- the octets of the figure
 unfoldable pub extensionOctets : Extension → List ℕ
 extensionOctets x = be16 (x .profile) ++ (be16 (x .words) ++ x .content)
 
@@ -109,22 +111,27 @@ pub record Plan : Type 0 where
   pub fixed : Fixed
   pub extension : Option Extension
 
+-- what the bits X and P say of the part that may follow
 abbrev pub present : {A : Type 0} → Option A → Bool
 present none = false
 present (some a) = true
 
+-- a header may have no extension
 abbrev pub LawfulPart : Option Extension → Type 0
 LawfulPart none = Unit
 LawfulPart (some x) = LawfulExtension x
 
+-- every field fits its bits, and the extension has the length that it tells
 pub record Lawful (p : Plan) : Type 0 where
   pub fixed : LawfulFixed (p .fixed)
   pub extension : LawfulPart (p .extension)
 
+-- without an extension nothing follows the CSRC list
 abbrev pub partOctets : Option Extension → List ℕ
 partOctets none = []
 partOctets (some x) = extensionOctets x
 
+-- the extension follows the CSRC list
 unfoldable pub octets : Plan → List ℕ
 octets p = fixedOctets (p .fixed) (present (p .extension)) ++ partOctets (p .extension)
 
@@ -146,6 +153,7 @@ pub record IsRtp (s : List ℕ) : Type 0 where
 abbrev pub countAt : List ℕ → ℕ
 countAt s = getD s 0 0 % 16
 
+-- X, the fourth bit
 abbrev pub extensionBit : List ℕ → ℕ
 extensionBit s = getD s 0 0 / 16 % 2
 
@@ -153,6 +161,7 @@ extensionBit s = getD s 0 0 / 16 % 2
 abbrev pub extensionAt : List ℕ → ℕ
 extensionAt s = 12 + 4 * countAt s
 
+-- the length field, behind the 16 bits defined by profile
 abbrev pub wordsAt : List ℕ → ℕ
 wordsAt s = u16At s (extensionAt s + 2)
 

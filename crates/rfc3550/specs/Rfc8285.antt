@@ -7,6 +7,7 @@ use mathlib.Core.Logic.{_≢_}
 use mathlib.Core.Option.{Option, none, some}
 use Prim.Native.Nat.{ℕ, _+_, _-_, _*_, _/_, _<_, _≤_}
 use lib.ListN.{length}
+use Rattle.wire.specs.Each.{Each}
 use Rattle.rfc3550.specs.Rfc3550.{Fixed, Extension}
 use Rattle.rfc3550.specs.Rfc3550 as rtp
 
@@ -17,6 +18,7 @@ pub data Form : Type 0 where
   one-byte : Form
   two-byte : (appbits : ℕ) → Form
 
+-- appbits is four bits wide
 abbrev pub LawfulForm : Form → Type 0
 LawfulForm one-byte = Unit
 LawfulForm (two-byte appbits) = appbits < 16
@@ -34,6 +36,7 @@ profileOf (two-byte appbits) = 0x1000 + appbits
 
 -- ---- items
 
+-- an octet of padding, or an element: a local identifier and its data
 pub data Item : Type 0 where
   padding : Item
   element : (id : ℕ) (bytes : List ℕ) → Item
@@ -48,6 +51,7 @@ abbrev pub leastData : Form → ℕ
 leastData one-byte = 1
 leastData (two-byte appbits) = 0
 
+-- the longest data that the length field can tell
 abbrev pub mostData : Form → ℕ
 mostData one-byte = 16
 mostData (two-byte appbits) = 255
@@ -59,13 +63,14 @@ pub record LawfulElement (form : Form) (id n : ℕ) : Type 0 where
   pub enough : leastData form ≤ n
   pub data-fits : n ≤ mostData form
 
+-- nothing is asked of padding; an element has an id and a length of its form
 abbrev pub LawfulItem : Form → Item → Type 0
 LawfulItem form padding = Unit
 LawfulItem form (element id bytes) = LawfulElement form id (length bytes)
 
+-- nothing is asked of the items together: no order, and no limit to their number
 abbrev pub AllLawful : Form → List Item → Type 0
-AllLawful form [] = Unit
-AllLawful form (i ∷ is) = LawfulItem form i × AllLawful form is
+AllLawful form is = Each (LawfulItem form) is
 
 -- what stands in front of an element's n bytes of data. Section 4.2, where the length is that of the data less one, and section 4.3:
 --
@@ -83,6 +88,7 @@ abbrev pub itemOctets : Form → Item → List ℕ
 itemOctets form padding = 0 ∷ []
 itemOctets form (element id bytes) = headOctets form id (length bytes) ++ bytes
 
+-- each item stands directly behind the one before it
 abbrev pub blockOctets : Form → List Item → List ℕ
 blockOctets form [] = []
 blockOctets form (i ∷ is) = itemOctets form i ++ blockOctets form is
@@ -94,6 +100,7 @@ pub data Content : Type 0 where
   laid : Form → List Item → Content
   other : (profile : ℕ) → List ℕ → Content
 
+-- 0xBEDE and 0x1000 to 0x100F belong to the two forms, and are no other profile
 abbrev pub LawfulContent : Content → Type 0
 LawfulContent (laid form items) = LawfulForm form × AllLawful form items
 LawfulContent (other profile words) = (profile ≢ 0xBEDE) × (profile / 16 ≢ 0x100)
@@ -102,6 +109,7 @@ LawfulContent (other profile words) = (profile ≢ 0xBEDE) × (profile / 16 ≢ 
 abbrev pub extensionWith : ℕ → List ℕ → Extension
 extensionWith profile s = record { profile = profile; words = length s / 4; content = s }
 
+-- the profile tells the form
 abbrev pub extensionOf : Content → Extension
 extensionOf (laid form items) = extensionWith (profileOf form) (blockOctets form items)
 extensionOf (other profile words) = extensionWith profile words
@@ -114,17 +122,21 @@ pub record Conforms (x : Extension) : Type 0 where
 
 -- ---- the header
 
+-- the fixed header, and what its extension says, if it has one
 pub record Plan : Type 0 where
   pub fixed : Fixed
   pub content : Option Content
 
+-- the extension as RFC 3550 has it: a profile and octets
 abbrev pub extensionIn : Option Content → Option Extension
 extensionIn none = none
 extensionIn (some c) = some (extensionOf c)
 
+-- the header as RFC 3550 has it
 abbrev pub planOf : Plan → rtp.Plan
 planOf p = record { fixed = p .fixed; extension = extensionIn (p .content) }
 
+-- a header may have no extension
 abbrev pub LawfulPart : Option Content → Type 0
 LawfulPart none = Unit
 LawfulPart (some c) = LawfulContent c
@@ -134,6 +146,7 @@ pub record Lawful (p : Plan) : Type 0 where
   pub header : rtp.Lawful (planOf p)
   pub content : LawfulPart (p .content)
 
+-- RFC 8285 changes nothing of RFC 3550's header: its octets are those
 abbrev pub octets : Plan → List ℕ
 octets p = rtp.octets (planOf p)
 
@@ -150,6 +163,7 @@ pub data Stray : Type 0 where
   -- two-byte form: an id as the block's last octet
   alone : (id : ℕ) → Stray
 
+-- which of these can stand in which form, and with which fields
 abbrev pub LawfulStray : Form → Stray → Type 0
 LawfulStray one-byte (reserved len rest) = len < 16
 LawfulStray one-byte (zero-id len rest) = (1 ≤ len) × (len < 16)
@@ -160,6 +174,7 @@ LawfulStray (two-byte appbits) (zero-id len rest) = ⊥
 LawfulStray (two-byte appbits) (leaves id n part) = LawfulElement (two-byte appbits) id n × (length part < n)
 LawfulStray (two-byte appbits) (alone id) = (1 ≤ id) × (id < 256)
 
+-- the octet that begins no lawful item, and all of the block behind it
 abbrev pub strayOctets : Form → Stray → List ℕ
 strayOctets form (reserved len rest) = (15 * 16 + len) ∷ rest
 strayOctets form (zero-id len rest) = len ∷ rest
