@@ -29,7 +29,7 @@ use Rattle.joiner.specs.Sent.{Sent, Lawful, groupsOf, handedLength}
 use Rattle.joiner.proofs.OneCall.{one-close, closed-after, shut-is}
 use Rattle.joiner.proofs.SentGroups.{Gathered, owes-all, Small, small-enough, all-small}
 use Rattle.delivery.specs.Show.{Show, payloads, count, payload, packet, longest, largest}
-use Rattle.delivery.specs.Play.{arriving, played, closing, handedOut, joinerAfter}
+use Rattle.delivery.specs.Play.{ourJoiner, arriving, played, closing, handedOut, joinerAfter}
 use Rattle.delivery.specs.Demand.{Foreign, OthersForeign, AllShort, Premises, Delivered, wasAccepted, missed}
 use Rattle.delivery.proofs.Playing.{accepted-as, refused-as, handed-as, rooms, Plays, plays}
 
@@ -120,9 +120,9 @@ module _ (w : Show) (p : Premises w) where
   said = answers general rooms-of start (arriving w)
 
   -- closing, seen as the other joiner's
-  closing-seen : closingSeen (closing w) ≡ shut (missed w) (any-delivered .atEnd)
+  closing-seen : closingSeen (closing ourJoiner w) ≡ shut (missed w) (any-delivered .atEnd)
   closing-seen =
-      one-close (joinerAfter (opened (w .source) (w .first)) (w .gather) (w .outs) (arriving w)) (as-played .last) (w .outs 0)
+      one-close (joinerAfter ourJoiner (opened (w .source) (w .first)) (w .gather) (w .outs) (arriving w)) (as-played .last) (w .outs 0)
       (as-played .not-closed) (as-played .inside) (number (count w))
       ∙ ap₂ (λ (source : ℕ) (s : any.State ℕ Run). close (parts false source) k s (number (count w))) (as-played .same-source) (as-played .state)
       ∙ any-delivered .closes k (record { gather = omega (arith, p .gather-room, as-played .same-length); out = p .out-room 0 })
@@ -130,29 +130,29 @@ module _ (w : Show) (p : Premises w) where
       k : Room
       k = record { gather = length (as-played .last); out = length (w .outs 0) }
 
-  shuts : (a : Accepted) × (closing w .answer ≡ says a) × (closing w .joiner .missed ≡ missed w) × (any-delivered .atEnd ≡ [])
-  shuts = shut-is (closing w) (missed w) (any-delivered .atEnd) closing-seen
+  shuts : (a : Accepted) × (closing ourJoiner w .answer ≡ says a) × (closing ourJoiner w .joiner .missed ≡ missed w) × (any-delivered .atEnd ≡ [])
+  shuts = shut-is (closing ourJoiner w) (missed w) (any-delivered .atEnd) closing-seen
 
   -- closing hands nothing out
   handed-before : any.handedOut said ≡ any.handedOut said ++ any-delivered .atEnd
   handed-before = sym (ap (λ (l : List Units). any.handedOut said ++ l) (shuts .3) ∙ append-nil (any.handedOut said))
 
-  pub all-delivered : Delivered w
+  pub all-delivered : Delivered ourJoiner w
   all-delivered =
       record {
-        accepts = accepted-as (played w) said (as-played .tells) ∙ any-delivered .accepts;
+        accepts = accepted-as (played ourJoiner w) said (as-played .tells) ∙ any-delivered .accepts;
         handsOut =
-            handed-as (played w) said (as-played .tells)
+            handed-as (played ourJoiner w) said (as-played .tells)
             ∙ ap (map (prefixed false)) (handed-before ∙ any-delivered .handsOut);
         answer = shuts .0;
         closes = shuts .1;
         closed =
-            closed-after (joinerAfter (opened (w .source) (w .first)) (w .gather) (w .outs) (arriving w)) (number (count w)) (shuts .0)
+            closed-after (joinerAfter ourJoiner (opened (w .source) (w .first)) (w .gather) (w .outs) (arriving w)) (number (count w)) (shuts .0)
             (shuts .1);
         counts = shuts .2;
         complete =
-            λ none. handed-as (played w) said (as-played .tells)
+            λ none. handed-as (played ourJoiner w) said (as-played .tells)
             ∙ ap (map (prefixed false)) (handed-before ∙ any-delivered .complete (sym (shuts .2) ∙ none));
         within = as-played .lies;
-        refuses = refused-as (played w) said (as-played .tells) ∙ any-delivered .refusesOthers;
+        refuses = refused-as (played ourJoiner w) said (as-played .tells) ∙ any-delivered .refusesOthers;
       }

@@ -20,40 +20,41 @@ use Rattle.h264.specs.Groups.{keep, stapA, pairFor, unitFor, groupsFor}
 use Rattle.nal.specs.Kind.{shape}
 use Rattle.nal.specs.Unpack.{unpackTurn, unpack}
 use Rattle.nal.specs.Fed.{layBytes, layFed}
-use Rattle.sequence.specs.Arrival.{ours, other}
+use Rattle.sequence.specs.Arrival.{Arrival, ours, other, Window}
 use Rattle.joiner.specs.Codec.{feed}
 use Rattle.joiner.specs.Join.{Stepped, bySource, joinStep, closeStep, opened}
 use Rattle.joiner.specs.Sent.{fuA}
 use Rattle.joiner.specs.Sent as sent
-use Rattle.delivery.specs.Play.{isAccepted, handedOut, played, closing}
-use Rattle.delivery.specs.Demand.{Foreign, Delivered}
+use Rattle.delivery.specs.Play.{ourJoiner, isAccepted, handedOut, played, closing}
+use Rattle.delivery.specs.Demand.{Foreign, OthersForeign}
 use Rattle.delivery.specs.Frames.{Sending, showOf, SendingPremises}
-use Rattle.delivery.proofs.Main.{demand-3}
 
 -- a packet of source 9
 unfoldable pub stranger : List ℕ
 stranger = 0x80 ∷ 0x60 ∷ 0 ∷ 1 ∷ 0 ∷ 0 ∷ 0 ∷ 2 ∷ 0 ∷ 0 ∷ 0 ∷ 9 ∷ 0x65 ∷ 1 ∷ 2 ∷ []
 
 -- nine packets: a pair of sets and a unit, a unit in three fragments, another in three, a unit. The sixth bears the number 0.
--- Packet 0 comes twice, packet 1 behind packet 2, packet 6 not at all.
-unfoldable pub show : Sending
-show =
+unfoldable pub nine : List (Arrival (List ℕ)) → Sending
+nine arrivals =
     record {
       frames =
           (0 ∷ 0 ∷ 1 ∷ 0x67 ∷ 0xAA ∷ 0 ∷ 0 ∷ 1 ∷ 0x68 ∷ 0xBB ∷ 0 ∷ 0 ∷ 1 ∷ 0x65 ∷ 1 ∷ 2 ∷ [])
-          ∷ (0 ∷ 0 ∷ 0 ∷ 1 ∷ 0x65 ∷ replicate 15 7)
-          ∷ (0 ∷ 0 ∷ 0 ∷ 1 ∷ 0x41 ∷ replicate 15 8)
+          ∷ (0 ∷ 0 ∷ 0 ∷ 1 ∷ 0x65 ∷ replicate 84 7)
+          ∷ (0 ∷ 0 ∷ 0 ∷ 1 ∷ 0x41 ∷ replicate 84 8)
           ∷ (0x41 ∷ 11 ∷ 12 ∷ [])
           ∷ [];
-      mtu = 9;
+      mtu = 30;
       source = 3;
       first = 65531;
       stamps = λ i. record { marker = false; type = 96; time = 2 };
-      gather = replicate 15 0;
-      outs = λ i. replicate 20 0;
-      arrivals =
-          ours 0 ∷ ours 0 ∷ other stranger ∷ ours 2 ∷ ours 1 ∷ ours 3 ∷ ours 4 ∷ ours 5 ∷ ours 7 ∷ ours 8 ∷ [];
+      gather = replicate 84 0;
+      outs = λ i. replicate 89 0;
+      arrivals = arrivals;
     }
+
+-- packet 0 comes twice, packet 1 behind packet 2, packet 6 not at all
+unfoldable pub show : Sending
+show = nine (ours 0 ∷ ours 0 ∷ other stranger ∷ ours 2 ∷ ours 1 ∷ ours 3 ∷ ours 4 ∷ ours 5 ∷ ours 7 ∷ ours 8 ∷ [])
 
 -- ---- it meets the premises
 
@@ -65,9 +66,9 @@ of-another r e same = let nine : 9 ≡ r .fields .source = ap source-of e in ome
     source-of (says x) = x .fields .source
     source-of (refused x) = 0
 
-pub premises : SendingPremises show
-unfolding show units unitsAt keep stapA pairFor unitFor groupsFor sent.stapA fuA be16
-premises =
+pub nine-premises : (arrivals : List (Arrival (List ℕ))) → OthersForeign 3 arrivals → Window 9 0 arrivals → SendingPremises (nine arrivals)
+unfolding nine units unitsAt keep stapA pairFor unitFor groupsFor sent.stapA fuA be16
+nine-premises arrivals foreign window =
     record {
       frames = omega arith;
       mtu-low = omega arith;
@@ -78,30 +79,36 @@ premises =
       source = omega arith;
       first = omega arith;
       stamps = λ i. record { type = omega arith; time = omega arith };
-      foreign = (of-another, tt);
-      window = omega arith;
+      foreign = foreign;
+      window = window;
     }
 
--- so that the theorem speaks of it
-pub show-delivered : Delivered (showOf show)
-show-delivered = demand-3 show premises
+pub premises : SendingPremises show
+unfolding show
+premises = nine-premises _ (of-another, tt) (omega arith)
 
 -- ---- its outcome, as it computes
 
+-- what is handed out: the pair, the first fragmented unit and the last unit
+abbrev pub pairOut : List ℕ
+pairOut = 0 ∷ 0 ∷ 0 ∷ 1 ∷ 0x67 ∷ 0xAA ∷ 0 ∷ 0 ∷ 0 ∷ 1 ∷ 0x68 ∷ 0xBB ∷ []
+
+abbrev pub joinedOut : List ℕ
+joinedOut = 0 ∷ 0 ∷ 0 ∷ 1 ∷ 0x65 ∷ replicate 84 7
+
+abbrev pub lastOut : List ℕ
+lastOut = 0 ∷ 0 ∷ 0 ∷ 1 ∷ 0x41 ∷ 11 ∷ 12 ∷ []
+
 -- which calls accept, what is handed out, how many packets were missed
 pub record Outcome (accepts : List Bool) (out : List (List ℕ)) (missed : ℕ) : Type 0 where
-  pub accepts-these : map (λ (st : Stepped). isAccepted (st .answer)) (played (showOf show)) ≡ accepts
-  pub hands-out : handedOut (played (showOf show)) ≡ out
-  pub misses : closing (showOf show) .joiner .missed ≡ missed
+  pub accepts-these : map (λ (st : Stepped). isAccepted (st .answer)) (played ourJoiner (showOf show)) ≡ accepts
+  pub hands-out : handedOut (played ourJoiner (showOf show)) ≡ out
+  pub misses : closing ourJoiner (showOf show) .joiner .missed ≡ missed
 
--- the repeat, the stranger and the packet behind a later one are not accepted; the pair, the first fragmented unit and the last unit
--- are handed out; packets 1 and 6 are missed
+-- the repeat, the stranger and the packet behind a later one are not accepted; packets 1 and 6 are missed
 pub outcome : Outcome
     (true ∷ false ∷ false ∷ true ∷ false ∷ true ∷ true ∷ true ∷ true ∷ true ∷ [])
-    ((0 ∷ 0 ∷ 0 ∷ 1 ∷ 0x67 ∷ 0xAA ∷ 0 ∷ 0 ∷ 0 ∷ 1 ∷ 0x68 ∷ 0xBB ∷ [])
-    ∷ (0 ∷ 0 ∷ 0 ∷ 1 ∷ 0x65 ∷ replicate 15 7)
-    ∷ (0 ∷ 0 ∷ 0 ∷ 1 ∷ 0x41 ∷ 11 ∷ 12 ∷ [])
-    ∷ [])
+    (pairOut ∷ joinedOut ∷ lastOut ∷ [])
     2
-unfolding show stranger units unitsAt keep stapA pairFor unitFor groupsFor sent.stapA fuA joinStep closeStep bySource feed shape unpack unpackTurn run layFed layBytes splice readPacket readHeader readFixed fieldsAt u16At u32At plainPacket packetOctets payloadOctets octetsOf fixedFor be16 be32 opened
+unfolding show nine stranger units unitsAt keep stapA pairFor unitFor groupsFor sent.stapA fuA joinStep closeStep bySource feed shape unpack unpackTurn run layFed layBytes splice readPacket readHeader readFixed fieldsAt u16At u32At plainPacket packetOctets payloadOctets octetsOf fixedFor be16 be32 opened
 outcome = record { accepts-these = refl; hands-out = refl; misses = refl }

@@ -10,7 +10,7 @@ use Rattle.sequence.specs.Group.{handedOf}
 use Rattle.sequence.proofs.InOrder.{inOrder, in-order-within, in-order-accepted}
 use Rattle.joiner.specs.Sent.{groupsOf}
 use Rattle.delivery.specs.Show.{Show, count}
-use Rattle.delivery.specs.Play.{handedOut, played}
+use Rattle.delivery.specs.Play.{ourJoiner, handedOut, played}
 use Rattle.delivery.specs.Demand.{Premises, Delivered}
 use Rattle.delivery.proofs.Main.{any-sender}
 
@@ -19,11 +19,11 @@ pub window : (n : ℕ) → Window {B = List ℕ} n 0 (inOrder 0 n)
 window n = in-order-within (List ℕ) n
 
 pub all-handed-out : (w : Show) → Premises w → w .arrivals ≡ inOrder 0 (count w) →
-    handedOut (played w) ≡ map (prefixed false) (handedOf (groupsOf (w .groups)))
+    handedOut (played ourJoiner w) ≡ map (prefixed false) (handedOf (groupsOf (w .groups)))
 all-handed-out w p e =
     d .complete (d .counts ∙ ap (λ (l : List (Arrival (List ℕ))). never-in l) e ∙ in-order-accepted (List ℕ) (count w))
   where
-    d : Delivered w
+    d : Delivered ourJoiner w
     d = any-sender w p
 
     never-in : List (Arrival (List ℕ)) → ℕ

@@ -3,8 +3,9 @@
 -- handed out everything that was sent. Assumes nothing.
 --
 -- `Sending` is frames, a sender's choices, the buffers and what arrives; `SendingPremises` is what the paper asks of it. `showOf` has
--- the groups that a fresh sender sends for the frames. `played` is the joiner's calls and `closing` its closing, over `joinStep` and
--- `closeStep`, which the contracts of the joiner's code cite. `Delivered` is the five parts (a) to (e).
+-- the groups that a fresh sender sends for the frames. A `Machine` is any joiner: how it is opened, its call and its closing; `ourJoiner` is
+-- `opened`, `joinStep` and `closeStep`, which the contracts of the joiner's code cite. `Delivered` is the five parts (a) to (e) over a
+-- machine's calls (`played`) and its `closing`.
 use mathlib.Core.Path.{_≡_}
 use mathlib.Core.Bool.{true}
 use mathlib.Core.List.{List}
@@ -12,20 +13,26 @@ use mathlib.Core.Logic.{_↔_}
 use Prim.Native.Nat.{ℕ, _<_}
 use Rattle.h264.specs.Groups.{nothingSaved, packetsOf}
 use Rattle.h264.specs.Payload.{layOut}
+use Rattle.h264.specs.Frames.{groupsSent}
 use Rattle.sequence.specs.Arrival.{Arrival, ours, isAccepted}
 use Rattle.sequence.proofs.Accepting.{Arrived, accepted-sentence}
 use Rattle.delivery.specs.Show.{Show, payloads}
+use Rattle.delivery.specs.Play.{Machine, ourJoiner}
 use Rattle.delivery.specs.Demand.{Premises, Delivered}
-use Rattle.delivery.specs.Frames.{groupsSent, Sending, showOf, SendingPremises, Lent, sending, NoneRefused, written}
+use Rattle.delivery.specs.Frames.{Sending, showOf, SendingPremises, Delivers, Lent, sending, NoneRefused, written}
+use Rattle.delivery.specs.Wrong.{Silent, Advancing, Inventing}
 use Rattle.delivery.proofs.Delivering.{all-delivered}
 use Rattle.delivery.proofs.Sending.{premises-met, same-packets, calls-send}
+use Rattle.delivery.proofs.Example.{show, premises}
+use Rattle.delivery.proofs.Wrong as wrong
 
 -- frames through a fresh sender
-pub demand-3 : (x : Sending) → SendingPremises x → Delivered (showOf x)
+pub demand-3 : (x : Sending) → SendingPremises x → Delivered ourJoiner (showOf x)
 demand-3 x p = all-delivered (showOf x) (premises-met x p)
 
--- groups of any sender that keeps to RFC 6184's payloads
-pub any-sender : (w : Show) → Premises w → Delivered w
+-- groups of any sender by RFC 6184, whatever F and NRI its STAP-As and fragments have; by `Lawful` no plain unit has under 3 bytes, and no
+-- fragment is empty
+pub any-sender : (w : Show) → Premises w → Delivered ourJoiner w
 any-sender w p = all-delivered w p
 
 -- "a packet is accepted exactly when its index is above every index that arrived before it; this, read off the arrivals alone, is
@@ -42,3 +49,22 @@ payloads-sent x = same-packets (groupsSent (x .mtu) (x .frames))
 pub calls-write : (mtu : ℕ) (lent : ℕ → Lent) (frames : List (List ℕ)) → NoneRefused (sending (layOut nothingSaved) mtu lent frames) →
     sending (layOut nothingSaved) mtu lent frames ≡ written mtu nothingSaved lent frames
 calls-write mtu lent frames w = calls-send mtu nothingSaved lent frames w
+
+-- ---- it is about something, and it tells joiners apart
+
+-- a show with a loss, a repeat, a reordering, a wrap of the number and a packet of another source meets the premises
+pub show-delivered : Delivered ourJoiner (showOf show)
+show-delivered = demand-3 show premises
+
+-- `Delivers m` is demand 3 of the joiner m. It "defeats a joiner that hands out nothing" ..
+pub NO-SILENT-JOINER : (m : Machine) → Silent m → Delivers m → ⊥
+NO-SILENT-JOINER = wrong.no-silent-joiner
+
+-- .. "one that joins in the first call and later only advances its number": whose later calls hand out nothing, or what their own packet
+-- gives ..
+pub NO-ADVANCER : (m : Machine) → Advancing m → Delivers m → ⊥
+NO-ADVANCER = wrong.no-advancer
+
+-- .. "and one with an invented missed total, since missed is counted from the arrivals": one that is the same whatever arrives
+pub NO-INVENTED-TOTAL : (m : Machine) → Inventing m → Delivers m → ⊥
+NO-INVENTED-TOTAL = wrong.no-invented-total

@@ -17,7 +17,7 @@ use Rattle.joiner.specs.Join.{accepted, late, outside, Stepped, joinStep}
 use Rattle.joiner.specs.Join as join
 use Rattle.joiner.specs.General.{Units, Room, parts, standing, seenBy, asBytes}
 use Rattle.joiner.proofs.OneCall.{Stands, one-call, or-left}
-use Rattle.delivery.specs.Play.{steps, joinerAfter, isAccepted, isRefused, handedIn, handedOut}
+use Rattle.delivery.specs.Play.{ourJoiner, steps, joinerAfter, isAccepted, isRefused, handedIn, handedOut}
 use Rattle.delivery.specs.Demand.{Within}
 
 -- ---- what is seen of the answers
@@ -97,14 +97,14 @@ abbrev pub rooms : ℕ → (ℕ → List ℕ) → ℕ → Room
 rooms len outs i = record { gather = len; out = length (outs i) }
 
 pub record Plays (source len : ℕ) (j : Joiner) (gather : List ℕ) (outs : ℕ → List ℕ) (bytes : List (List ℕ)) : Type 0 where
-  pub tells : map told (steps j gather outs bytes) ≡ map (asBytes false) (answers (parts false source) (rooms len outs) (standing j gather) bytes)
-  pub lies : Within len (steps j gather outs bytes)
+  pub tells : map told (steps ourJoiner j gather outs bytes) ≡ map (asBytes false) (answers (parts false source) (rooms len outs) (standing j gather) bytes)
+  pub lies : Within len (steps ourJoiner j gather outs bytes)
   -- the record after the calls, and the gather buffer then
   pub last : List ℕ
-  pub state : standing (joinerAfter j gather outs bytes) last ≡ final (parts false source) (rooms len outs) (standing j gather) bytes
-  pub same-source : joinerAfter j gather outs bytes .source ≡ source
-  pub not-closed : joinerAfter j gather outs bytes .closed ≡ false
-  pub inside : outside (joinerAfter j gather outs bytes .gathered) last ≡ false
+  pub state : standing (joinerAfter ourJoiner j gather outs bytes) last ≡ final (parts false source) (rooms len outs) (standing j gather) bytes
+  pub same-source : joinerAfter ourJoiner j gather outs bytes .source ≡ source
+  pub not-closed : joinerAfter ourJoiner j gather outs bytes .closed ≡ false
+  pub inside : outside (joinerAfter ourJoiner j gather outs bytes .gathered) last ≡ false
   pub same-length : length last ≡ len
 
 pub plays : (bytes : List (List ℕ)) (j : Joiner) (gather : List ℕ) (outs : ℕ → List ℕ) → j .closed ≡ false → outside (j .gathered) gather ≡ false →

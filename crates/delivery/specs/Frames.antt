@@ -1,39 +1,29 @@
 -- Frames through a fresh sender, as a show: its groups are those of the sender's own definition. Assumes nothing.
 use mathlib.Core.Path.{_≡_}
-use mathlib.Core.List.{List, [], _∷_, _++_, map}
-use Prim.Native.Nat.{ℕ, suc, _≤_, _<_}
+use mathlib.Core.List.{List, [], _∷_, map}
+use Prim.Native.Nat.{ℕ, suc, _%_, _≤_, _<_}
 use lib.ListN.{length}
 use Rattle.error.specs.Said.{says}
 use Rattle.wire.specs.Each.{Each}
 use Rattle.packet.specs.Plain.{Stamp, Stampable}
-use Rattle.h264.specs.declared.kind.Kind.{Kind}
-use Rattle.h264.specs.declared.kind.Kind.the-variants.{Empty, Dropped, Sps, Pps, Coded}
 use Rattle.h264.specs.declared.send.H264Payloader.{H264Payloader}
 use Rattle.h264.specs.Units.{unitsAt}
-use Rattle.h264.specs.Groups.{Saved, nothingSaved, Group, pair, plain, fragments, kindOf, keepAll, groupsOf, packetsOf}
+use Rattle.h264.specs.Groups.{Saved, Group, pair, plain, fragments, fateOf, keepAll, groupsOf, packetsOf}
+use Rattle.h264.specs.Frames.{groupsSent, WhereCoded}
 use Rattle.h264.specs.Payload.{Counts, Left, sentAs, payloadOf}
 use Rattle.sequence.specs.Arrival.{Arrival, Window}
 use Rattle.joiner.specs.Sent.{Sent, aggregated, alone, fragmented, PlainUnit}
 use Rattle.delivery.specs.Show.{Show, count, longest, largest}
-use Rattle.delivery.specs.Demand.{OthersForeign}
+use Rattle.delivery.specs.Play.{Machine}
+use Rattle.delivery.specs.Demand.{OthersForeign, Delivered}
 
 -- ---- what is sent
 
--- the groups sent for frames in order, where v is saved
-abbrev pub groupsFrom : ℕ → Saved → List (List ℕ) → List Group
-groupsFrom mtu v [] = []
-groupsFrom mtu v (frame ∷ frames) =
-    groupsOf mtu v (unitsAt mtu frame) ++ groupsFrom mtu (keepAll v (unitsAt mtu frame)) frames
-
--- "a fresh sender"
-abbrev pub groupsSent : ℕ → List (List ℕ) → List Group
-groupsSent mtu frames = groupsFrom mtu nothingSaved frames
-
--- a group of the sender's as one of any sender's
+-- a group of the sender's as one of any sender's: "STAP-A (0x78)"; its fragments have F 0, whatever the unit's is
 abbrev pub sentOf : Group → Sent
-sentOf (pair sps pps) = aggregated sps (pps ∷ [])
+sentOf (pair sps pps) = aggregated 0x78 sps (pps ∷ [])
 sentOf (plain unit) = alone unit
-sentOf (fragments head first middle last) = fragmented head first middle last
+sentOf (fragments head first middle last) = fragmented (head % 128) first middle last
 
 -- frames, with what a show has besides
 pub record Sending : Type 0 where
@@ -60,18 +50,10 @@ showOf x =
 
 -- ---- the premises
 
--- "units .. of type 1 to 23, of 3 bytes or more unless type 7, 8, 9 or 12"
-abbrev pub UnitOf : Kind → List ℕ → Type 0
-UnitOf Empty u = Unit {0}
-UnitOf Dropped u = Unit {0}
-UnitOf Sps u = Unit {0}
-UnitOf Pps u = Unit {0}
-UnitOf Coded u = PlainUnit u
-
--- "frames up to 16,777,216", and their units
+-- "frames up to 16,777,216", and "units .. of type 1 to 23, of 3 bytes or more unless type 7, 8, 9 or 12"
 pub record FrameOk (mtu : ℕ) (frame : List ℕ) : Type 0 where
   pub short : length frame ≤ 16777216
-  pub units : Each (λ (u : List ℕ). UnitOf (kindOf u) u) (unitsAt mtu frame)
+  pub units : Each (λ (u : List ℕ). WhereCoded PlainUnit (fateOf u) u) (unitsAt mtu frame)
 
 pub record SendingPremises (x : Sending) : Type 0 where
   pub frames : Each (FrameOk (x .mtu)) (x .frames)
@@ -94,6 +76,10 @@ pub record SendingPremises (x : Sending) : Type 0 where
   -- "Window: with m one more than the largest index arrived so far (0 at first), each index is m - 32,768 to m + 32,767, and n - m is
   -- at most 32,767 at closing"
   pub window : Window (count (showOf x)) 0 (x .arrivals)
+
+-- demand 3 of the joiner m, whatever frames a fresh sender sends
+abbrev pub Delivers : Machine → Type 0
+Delivers m = (x : Sending) → SendingPremises x → Delivered m (showOf x)
 
 -- ---- the sender's calls, one for each frame
 

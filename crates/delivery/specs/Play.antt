@@ -1,4 +1,4 @@
--- A show played through the joiner, call after call. Assumes nothing.
+-- A show played through a joiner, ours or any other, call after call. Assumes nothing.
 use mathlib.Core.Bool.{Bool, true, false}
 use mathlib.Core.List.{List, [], _∷_, _++_, map}
 use Prim.Native.Nat.{ℕ, suc}
@@ -10,18 +10,30 @@ use Rattle.joiner.specs.Join.{Answer, accepted, late, Stepped, joinStep, Closin
 use Rattle.joiner.specs.General.{handedBytes}
 use Rattle.delivery.specs.Show.{Show, packet, count}
 
--- what each call leaves: record and gather buffer go from call to call, and each call brings an output of its own
-abbrev pub steps : Joiner → List ℕ → (ℕ → List ℕ) → List (List ℕ) → List Stepped
-steps j gather outs [] = []
-steps j gather outs (b ∷ bytes) =
-    joinStep j b gather (outs 0)
-    ∷ steps (joinStep j b gather (outs 0) .joiner) (joinStep j b gather (outs 0) .gather) (λ i. outs (suc i)) bytes
+-- a joiner, whatever it does: how it is opened with an SSRC and a first number, its call for a packet, and its closing
+pub record Machine : Type 0 where
+  pub opening : ℕ → ℕ → Joiner
+  -- the record, the packet, the gather buffer and the output as they come
+  pub step : Joiner → List ℕ → List ℕ → List ℕ → Stepped
+  pub close : Joiner → ℕ → ClosingStepped
 
--- the record after the calls
-abbrev pub joinerAfter : Joiner → List ℕ → (ℕ → List ℕ) → List (List ℕ) → Joiner
-joinerAfter j gather outs [] = j
-joinerAfter j gather outs (b ∷ bytes) =
-    joinerAfter (joinStep j b gather (outs 0) .joiner) (joinStep j b gather (outs 0) .gather) (λ i. outs (suc i)) bytes
+-- ours: the definitions that the contracts of `open`, `join` and `close` cite
+abbrev pub ourJoiner : Machine
+ourJoiner = record { opening = opened; step = joinStep; close = closeStep }
+
+module _ (m : Machine) where
+  -- what each call leaves: record and gather buffer go from call to call, and each call brings an output of its own
+  abbrev pub steps : Joiner → List ℕ → (ℕ → List ℕ) → List (List ℕ) → List Stepped
+  steps j gather outs [] = []
+  steps j gather outs (b ∷ bytes) =
+      m .step j b gather (outs 0)
+      ∷ steps (m .step j b gather (outs 0) .joiner) (m .step j b gather (outs 0) .gather) (λ i. outs (suc i)) bytes
+
+  -- the record after the calls
+  abbrev pub joinerAfter : Joiner → List ℕ → (ℕ → List ℕ) → List (List ℕ) → Joiner
+  joinerAfter j gather outs [] = j
+  joinerAfter j gather outs (b ∷ bytes) =
+      joinerAfter (m .step j b gather (outs 0) .joiner) (m .step j b gather (outs 0) .gather) (λ i. outs (suc i)) bytes
 
 -- ---- what a call answers
 
@@ -50,11 +62,12 @@ handedOut (st ∷ sts) = handedIn (st .answer) (st .out) ++ handedOut sts
 abbrev pub arriving : Show → List (List ℕ)
 arriving w = map (bytesOf (packet w)) (w .arrivals)
 
--- "The joiner is opened with the sender's SSRC and first"
-abbrev pub played : Show → List Stepped
-played w = steps (opened (w .source) (w .first)) (w .gather) (w .outs) (arriving w)
+module _ (m : Machine) (w : Show) where
+  -- "The joiner is opened with the sender's SSRC and first"
+  abbrev pub played : List Stepped
+  played = steps m (m .opening (w .source) (w .first)) (w .gather) (w .outs) (arriving w)
 
--- "Closing takes the number after the last sent"
-abbrev pub closing : Show → ClosingStepped
-closing w =
-    closeStep (joinerAfter (opened (w .source) (w .first)) (w .gather) (w .outs) (arriving w)) (numberOf (w .first) (count w))
+  -- "Closing takes the number after the last sent"
+  abbrev pub closing : ClosingStepped
+  closing =
+      m .close (joinerAfter m (m .opening (w .source) (w .first)) (w .gather) (w .outs) (arriving w)) (numberOf (w .first) (count w))

@@ -256,7 +256,7 @@ struct rtp_joiner {
     uint16_t awaited; /* the sequence number of the next packet */
     uint32_t missed;  /* how many packets were passed over */
     size_t gathered;  /* how many bytes of the open run stand in front of the gather buffer; 0 where no run is open */
-    bool closed;
+    bool closed;      /* closed: every call answers 22 */
 };
 
 struct rtp_joined {

@@ -11,13 +11,13 @@ use lib.ListN.{length, getD}
 use Rattle.wire.specs.Net.{be16}
 use Rattle.wire.specs.Packets.{joined}
 use Rattle.rfc6184.specs.Sending as rfc
-use Rattle.rfc6184.specs.Sending.{Each, Nal, octet, octetsOf, Part, Sending, payloadsOf, unitsOf, payloadsOfAll, unitsOfAll, FormedSending, Sized, Rules, Lawful, Packetization}
+use Rattle.rfc6184.specs.Sending.{Each, Nal, octet, octetsOf, Part, payloadsOf, unitsOf, payloadsOfAll, unitsOfAll, FormedSending, Sized, Rules, Lawful, Packetization}
 use Rattle.rfc6184.proofs.Each.{each-append, each-any, each-map}
 use Rattle.rfc6184.proofs.Octets.{formed-fields, octets-of-nal}
-use Rattle.h264.specs.declared.kind.Kind.{Kind}
-use Rattle.h264.specs.declared.kind.Kind.the-variants.{Empty, Dropped, Sps, Pps, Coded}
-use Rattle.h264.specs.Groups.{Saved, Group, pair, plain, fragments, nothingSaved, bothSaved, kindOf, keep, keepBy, stapA, fragment, pairFor, fragmentsOf, unitFor, groupsBy, groupsFor, groupsOf, packetsOfGroup, packetsOf}
-use Rattle.h264.specs.Conformance.{Octets, SavedOctets, nal, part, fragmented, sendingOf, nalsOf, nalsOfAll, Regular, Sendable}
+use Rattle.h264.specs.declared.fate.Fate.{Fate}
+use Rattle.h264.specs.declared.fate.Fate.the-variants.{Empty, Dropped, Sps, Pps, Coded}
+use Rattle.h264.specs.Groups.{Saved, Group, pair, plain, fragments, nothingSaved, bothSaved, fateOf, keep, keepBy, stapA, fragment, pairFor, fragmentsOf, unitFor, groupsBy, groupsFor, groupsOf, packetsOfGroup, packetsOf}
+use Rattle.h264.specs.Conformance.{Octets, SavedOctets, nal, part, fragmented, sendingOf, nalsOf, nalsOfAll, Regular, LaidOut, Sendable}
 use Rattle.h264.proofs.Fits.{sendable}
 
 -- ---- units
@@ -146,13 +146,13 @@ unit-headed mtu u o = go (leb (length u) mtu) (ltb mtu 3)
 
 pub keep-octets : (v : Saved) (u : List ℕ) → SavedOctets v → Octets u → SavedOctets (keep v u)
 unfolding keep
-keep-octets v u o q = go (kindOf u)
+keep-octets v u o q = go (fateOf u)
   where
     forgot : (b : Bool) → SavedOctets (cond b nothingSaved v)
     forgot true = record { sps = tt; pps = tt }
     forgot false = o
 
-    go : (k : Kind) → SavedOctets (keepBy k v u)
+    go : (k : Fate) → SavedOctets (keepBy k v u)
     go Empty = o
     go Dropped = o
     go Sps = record { sps = q; pps = o .pps }
@@ -163,10 +163,10 @@ pub groups-headed : (mtu : ℕ) (v : Saved) (us : List (List ℕ)) → SavedOcte
 unfolding groupsFor
 groups-headed mtu v [] o q = tt
 groups-headed mtu v (u ∷ us) o q =
-    each-append Headed (groupsBy (kindOf u) mtu v u) (groupsOf mtu (keep v u) us) (go (kindOf u))
+    each-append Headed (groupsBy (fateOf u) mtu v u) (groupsOf mtu (keep v u) us) (go (fateOf u))
     (groups-headed mtu (keep v u) us (keep-octets v u o (q .0)) (q .1))
   where
-    go : (k : Kind) → Each Headed (groupsBy k mtu v u)
+    go : (k : Fate) → Each Headed (groupsBy k mtu v u)
     go Empty = tt
     go Dropped = tt
     go Sps = tt
@@ -194,14 +194,8 @@ module _ (mtu : ℕ) (small : mtu ≤ 65535) where
 
 -- ---- the theorems
 
--- in every case: what is sent are the octets of formed sendings, in order, which carry the units and pairs sent
-pub record LaidOut (ps : List (List ℕ)) (us : List Nal) : Type 0 where
-  pub sendings : List Sending
-  pub formed : Each FormedSending sendings
-  pub payloads : ps ≡ payloadsOfAll sendings
-  pub units : us ≡ unitsOfAll sendings
-
 module _ (mtu : ℕ) (v : Saved) (us : List (List ℕ)) (small : mtu ≤ 65535) (o : SavedOctets v) (q : Each Octets us) where
+  -- in every case
   pub laid-out : LaidOut (packetsOf (groupsOf mtu v us)) (nalsOfAll (groupsOf mtu v us))
   laid-out =
       let gs : List Group = groupsOf mtu v us in

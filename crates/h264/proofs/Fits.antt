@@ -11,12 +11,12 @@ use lib.ListN.{length}
 use borrow.Author.Tests.{ltb-true, leb-true}
 use Rattle.rfc6184.specs.Sending.{Each}
 use Rattle.rfc6184.proofs.Each.{each-append, each-by, each-map}
-use Rattle.h264.specs.declared.kind.Kind.{Kind}
-use Rattle.h264.specs.declared.kind.Kind.the-variants.{Empty, Dropped, Sps, Pps, Coded}
-use Rattle.h264.specs.Groups.{Saved, Group, pair, plain, fragments, bothSaved, kindOf, keep, stapA, fragment, pairFor, fragmentsOf, unitFor, groupsBy, groupsFor, groupsOf, packetsOfGroup, packetsOf}
+use Rattle.h264.specs.declared.fate.Fate.{Fate}
+use Rattle.h264.specs.declared.fate.Fate.the-variants.{Empty, Dropped, Sps, Pps, Coded}
+use Rattle.h264.specs.Groups.{Saved, Group, pair, plain, fragments, bothSaved, fateOf, keep, stapA, fragment, pairFor, fragmentsOf, unitFor, groupsBy, groupsFor, groupsOf, packetsOfGroup, packetsOf}
 use Rattle.h264.specs.Conformance.{Sendable}
 use Rattle.h264.proofs.Bools.{and-both}
-use Rattle.h264.proofs.UnitKinds.{coded-some}
+use Rattle.h264.proofs.UnitFates.{coded-some}
 use Rattle.h264.proofs.Sinks.{length-stapA, length-fragment}
 use Rattle.h264.proofs.Sizes.{unit-alone, unit-dropped, unit-divided}
 use Rattle.h264.proofs.Parts.{unit-rebuilt, unit-divided-well}
@@ -53,9 +53,9 @@ unit-sendable mtu u some = go (decLe (length u) mtu) (decLe 3 mtu)
 
 one-sendable : (mtu : ℕ) (v : Saved) (u : List ℕ) → Each (Sendable mtu) (groupsFor mtu v u)
 unfolding groupsFor
-one-sendable mtu v u = go (kindOf u) refl
+one-sendable mtu v u = go (fateOf u) refl
   where
-    go : (k : Kind) → kindOf u ≡ k → Each (Sendable mtu) (groupsBy k mtu v u)
+    go : (k : Fate) → fateOf u ≡ k → Each (Sendable mtu) (groupsBy k mtu v u)
     go Empty e = tt
     go Dropped e = tt
     go Sps e = tt

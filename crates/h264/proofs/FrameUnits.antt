@@ -8,12 +8,13 @@ use lib.Dec.{leb, eqb}
 use lib.ListN.{length, replicate, length-append, length-replicate}
 use Rattle.wire.specs.Packets.{joined}
 use Rattle.rfc6184.specs.Sending.{Each}
-use Rattle.h264.specs.declared.kind.Kind.{Kind}
-use Rattle.h264.specs.declared.kind.Kind.the-variants.{Empty, Dropped, Sps, Pps, Coded}
+use Rattle.rfc6184.proofs.Each.{each-by}
+use Rattle.h264.specs.declared.fate.Fate.{Fate}
+use Rattle.h264.specs.declared.fate.Fate.the-variants.{Empty, Dropped, Sps, Pps, Coded}
 use Rattle.h264.specs.Search.{zerosBy, endsCode}
 use Rattle.h264.specs.Units.{Cut, cut, cutBy, units, unitsOfCut, noUnits, unitsAt}
-use Rattle.h264.specs.Groups.{kindOf}
-use Rattle.h264.specs.Conformance.{Octets, codedKind, goesOut, thoseThat}
+use Rattle.h264.specs.Groups.{fateOf}
+use Rattle.h264.specs.Conformance.{Octets, isCoded, goesOut, thoseThat}
 use Rattle.h264.specs.Frames.{WhereCoded}
 use Rattle.h264.proofs.OneUnit.{units-octets}
 
@@ -61,7 +62,7 @@ counted P mtu frame w = go (noUnits mtu (length frame))
     go true = tt
     go false = w
 
-pub unitsAt-short : (mtu : ℕ) (frame : List ℕ) → Each (λ (u : List ℕ). length u ≤ length frame) (unitsAt mtu frame)
+unitsAt-short : (mtu : ℕ) (frame : List ℕ) → Each (λ (u : List ℕ). length u ≤ length frame) (unitsAt mtu frame)
 unitsAt-short mtu frame = counted (λ (u : List ℕ). length u ≤ length frame) mtu frame (units-short frame)
 
 pub unitsAt-octets : (mtu : ℕ) (frame : List ℕ) → Octets frame → Each Octets (unitsAt mtu frame)
@@ -69,16 +70,38 @@ unitsAt-octets mtu frame o = counted Octets mtu frame (units-octets frame o)
 
 -- ---- the units that go out
 
-pub those-coded : (P : List ℕ → Type 0) (mtu : ℕ) (us : List (List ℕ)) → Each (λ (u : List ℕ). WhereCoded P (kindOf u) u) us →
+those-coded : (P : List ℕ → Type 0) (mtu : ℕ) (us : List (List ℕ)) → Each (λ (u : List ℕ). WhereCoded P (fateOf u) u) us →
     Each P (thoseThat (goesOut mtu) us)
 those-coded P mtu [] w = tt
-those-coded P mtu (u ∷ us) w = go (kindOf u) (leb (length u) mtu || leb 3 mtu) (w .0) (those-coded P mtu us (w .1))
+those-coded P mtu (u ∷ us) w = go (fateOf u) (leb (length u) mtu || leb 3 mtu) (w .0) (those-coded P mtu us (w .1))
   where
-    go : (k : Kind) (small : Bool) → WhereCoded P k u → Each P (thoseThat (goesOut mtu) us) →
-        Each P (cond (codedKind k && small) (u ∷ thoseThat (goesOut mtu) us) (thoseThat (goesOut mtu) us))
+    go : (k : Fate) (small : Bool) → WhereCoded P k u → Each P (thoseThat (goesOut mtu) us) →
+        Each P (cond (isCoded k && small) (u ∷ thoseThat (goesOut mtu) us) (thoseThat (goesOut mtu) us))
     go Empty small h rest = rest
     go Dropped small h rest = rest
     go Sps small h rest = rest
     go Pps small h rest = rest
     go Coded true h rest = (h, rest)
     go Coded false h rest = rest
+
+coded-both : (P Q : List ℕ → Type 0) (k : Fate) (u : List ℕ) → WhereCoded P k u → Q u → WhereCoded (λ (u : List ℕ). P u × Q u) k u
+coded-both P Q Empty u w h = tt
+coded-both P Q Dropped u w h = tt
+coded-both P Q Sps u w h = tt
+coded-both P Q Pps u w h = tt
+coded-both P Q Coded u w h = (w, h)
+
+each-coded-both : (P Q : List ℕ → Type 0) (us : List (List ℕ)) → Each (λ (u : List ℕ). WhereCoded P (fateOf u) u) us → Each Q us →
+    Each (λ (u : List ℕ). WhereCoded (λ (u : List ℕ). P u × Q u) (fateOf u) u) us
+each-coded-both P Q [] w h = tt
+each-coded-both P Q (u ∷ us) w h = (coded-both P Q (fateOf u) u (w .0) (h .0), each-coded-both P Q us (w .1) (h .1))
+
+-- of a frame of `most` bytes at most
+pub those-short : (P : List ℕ → Type 0) (mtu most : ℕ) (frame : List ℕ) → length frame ≤ most →
+    Each (λ (u : List ℕ). WhereCoded P (fateOf u) u) (unitsAt mtu frame) →
+    Each (λ (u : List ℕ). P u × (length u ≤ most)) (thoseThat (goesOut mtu) (unitsAt mtu frame))
+those-short P mtu most frame h w =
+    let us : List (List ℕ) = unitsAt mtu frame in
+    those-coded (λ (u : List ℕ). P u × (length u ≤ most)) mtu us
+    (each-coded-both P (λ (u : List ℕ). length u ≤ most) us w
+    (each-by (λ (u : List ℕ). length u ≤ most) (λ (u : List ℕ). length u ≤ length frame) (λ u k. omega (arith, h)) us (unitsAt-short mtu frame)))

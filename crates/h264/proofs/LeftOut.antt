@@ -10,10 +10,10 @@ use native.Mathlib.Omega.{arith}
 use lib.Dec.{leb}
 use lib.ListN.{length}
 use borrow.Author.Tests.{le-leb, lt-leb}
-use Rattle.h264.specs.declared.kind.Kind.{Kind}
-use Rattle.h264.specs.declared.kind.Kind.the-variants.{Empty, Dropped, Sps, Pps, Coded}
-use Rattle.h264.specs.Groups.{Saved, Group, pair, plain, fragments, bothSaved, kindOf, keep, stapA, pairFor, fragmentsOf, unitFor, groupsBy, groupsFor, groupsOf}
-use Rattle.h264.specs.Conformance.{rebuilt, unitsIn, codedKind, goesOut, thoseThat}
+use Rattle.h264.specs.declared.fate.Fate.{Fate}
+use Rattle.h264.specs.declared.fate.Fate.the-variants.{Empty, Dropped, Sps, Pps, Coded}
+use Rattle.h264.specs.Groups.{Saved, Group, pair, plain, fragments, bothSaved, fateOf, keep, stapA, pairFor, fragmentsOf, unitFor, groupsBy, groupsFor, groupsOf}
+use Rattle.h264.specs.Conformance.{rebuilt, unitsIn, isCoded, goesOut, thoseThat}
 use Rattle.h264.proofs.Measures.{pair-sent}
 use Rattle.h264.proofs.Sizes.{unit-alone, unit-dropped, unit-divided}
 use Rattle.h264.proofs.Parts.{unit-rebuilt}
@@ -53,9 +53,9 @@ unit-carries mtu u = go (decLe (length u) mtu) (decLe 3 mtu)
 
 one-carries : (mtu : ℕ) (v : Saved) (u : List ℕ) → unitsIn (groupsFor mtu v u) ≡ cond (goesOut mtu u) (u ∷ []) []
 unfolding groupsFor
-one-carries mtu v u = go (kindOf u)
+one-carries mtu v u = go (fateOf u)
   where
-    go : (k : Kind) → unitsIn (groupsBy k mtu v u) ≡ cond (codedKind k && (leb (length u) mtu || leb 3 mtu)) (u ∷ []) []
+    go : (k : Fate) → unitsIn (groupsBy k mtu v u) ≡ cond (isCoded k && (leb (length u) mtu || leb 3 mtu)) (u ∷ []) []
     go Empty = refl
     go Dropped = refl
     go Sps = refl
@@ -77,8 +77,8 @@ left-out mtu v (u ∷ us) =
     go false = refl
 
 -- "Any other unit, with both saved, is preceded by a STAP-A (0x78) if that fits the mtu"
-pub pair-first : (mtu : ℕ) (v : Saved) (u : List ℕ) → kindOf u ≡ Coded → bothSaved v ≡ true → 5 + length (v .sps) + length (v .pps) ≤ mtu →
+pub pair-first : (mtu : ℕ) (v : Saved) (u : List ℕ) → fateOf u ≡ Coded → bothSaved v ≡ true → 5 + length (v .sps) + length (v .pps) ≤ mtu →
     groupsFor mtu v u ≡ pair (v .sps) (v .pps) ∷ unitFor mtu u
 unfolding groupsFor
 pair-first mtu v u k e h =
-    ap (λ (x : Kind). groupsBy x mtu v u) k ∙ ap (λ (gs : List Group). gs ++ unitFor mtu u) (pair-sent mtu v e h)
+    ap (λ (x : Fate). groupsBy x mtu v u) k ∙ ap (λ (gs : List Group). gs ++ unitFor mtu u) (pair-sent mtu v e h)

@@ -3,7 +3,7 @@ pub mod Codes
 pub mod Pieces
 pub mod Sinks
 pub mod Fragments
-pub mod UnitKinds
+pub mod UnitFates
 pub mod Sizes
 pub mod Measures
 pub mod State

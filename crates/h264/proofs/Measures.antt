@@ -1,4 +1,4 @@
--- What one unit adds to the measure, by its kind and by the code's tests. Assumes nothing.
+-- What one unit adds to the measure, by its fate and by the code's tests. Assumes nothing.
 use mathlib.Core.Path.{_≡_, refl, sym, ap, ap₂, _∙_}
 use mathlib.Core.List.{List, [], _∷_, _++_, append-nil}
 use mathlib.Core.Bool.{Bool, true, false, cond, _&&_, _||_, or-false}
@@ -10,14 +10,14 @@ use lib.ListN.{length, take, drop, length-append}
 use borrow.Author.Tests.{le-leb, lt-leb}
 use Rattle.wire.specs.Packets.{joined}
 use Rattle.wire.proofs.Packets.{joined-append}
-use Rattle.h264.specs.declared.kind.Kind.{Kind}
-use Rattle.h264.specs.declared.kind.Kind.the-variants.{Empty, Dropped, Sps, Pps, Coded}
+use Rattle.h264.specs.declared.fate.Fate.{Fate}
+use Rattle.h264.specs.declared.fate.Fate.the-variants.{Empty, Dropped, Sps, Pps, Coded}
 use Rattle.h264.specs.declared.search.Piece.{Piece}
 use Rattle.h264.specs.declared.measure.Size.{Size}
 use Rattle.h264.specs.declared.measure.Measure.{Measure}
 use Rattle.h264.specs.Units.{pieces, units, Pieced}
-use Rattle.h264.specs.Groups.{Saved, Group, pair, nothingSaved, bothSaved, kindOf, keep, keepBy, stapA, pairFor, unitFor, groupsFor, groupsBy, packetsOf}
-use Rattle.h264.specs.Payload.{savedKind}
+use Rattle.h264.specs.Groups.{Saved, Group, pair, nothingSaved, bothSaved, fateOf, keep, keepBy, stapA, pairFor, unitFor, groupsFor, groupsBy, packetsOf}
+use Rattle.h264.specs.Payload.{isSaved}
 use Rattle.h264.specs.Step.{sizeOf, Lengths, Grown, measured, measuredAll, nothingYet}
 use Rattle.h264.proofs.Pieces.{piece-length, piece-onward, piece-more, piece-end}
 use Rattle.h264.proofs.Sinks.{length-stapA}
@@ -46,8 +46,8 @@ measure-path : (r t : Measure) → r .packets ≡ t .packets → r .bytes ≡ t 
 measure-path r t a b s p l i = record { packets = a i; bytes = b i; sps = s i; pps = p i; long = l i }
 
 module _ (m : Measure) (mtu : ℕ) (v : Saved) (u : List ℕ) where
-  -- `measured`, by a unit's kind
-  measuredBy : Kind → Measure
+  -- `measured`, by a unit's fate
+  measuredBy : Fate → Measure
   measuredBy k =
       let packets : List (List ℕ) = packetsOf (groupsBy k mtu v u) in
       record {
@@ -55,16 +55,16 @@ module _ (m : Measure) (mtu : ℕ) (v : Saved) (u : List ℕ) where
         bytes = m .bytes + length (joined packets);
         sps = length (keepBy k v u .sps);
         pps = length (keepBy k v u .pps);
-        long = m .long || (savedKind k && ltb 1024 (length u));
+        long = m .long || (isSaved k && ltb 1024 (length u));
       }
 
-  by-kind : (k : Kind) → kindOf u ≡ k → measuredBy k ≡ measured m mtu v u
+  by-fate : (k : Fate) → fateOf u ≡ k → measuredBy k ≡ measured m mtu v u
   unfolding measuredBy measured groupsFor keep
-  by-kind k e = sym (ap measuredBy e)
+  by-fate k e = sym (ap measuredBy e)
 
   module _ (l : Lengths v (m .sps) (m .pps)) where
     -- a unit for which nothing is sent and nothing saved
-    passed-over : (k : Kind) → kindOf u ≡ k → groupsBy k mtu v u ≡ [] → keepBy k v u ≡ v → savedKind k ≡ false → m ≡ measured m mtu v u
+    passed-over : (k : Fate) → fateOf u ≡ k → groupsBy k mtu v u ≡ [] → keepBy k v u ≡ v → isSaved k ≡ false → m ≡ measured m mtu v u
     unfolding measuredBy
     passed-over k e none same free =
         measure-path m (measuredBy k)
@@ -73,33 +73,33 @@ module _ (m : Measure) (mtu : ℕ) (v : Saved) (u : List ℕ) where
         (sym (ap (λ (x : Saved). length (x .sps)) same ∙ l .of-sps))
         (sym (ap (λ (x : Saved). length (x .pps)) same ∙ l .of-pps))
         (sym (ap (λ (t : Bool). m .long || (t && ltb 1024 (length u))) free ∙ or-false (m .long)))
-        ∙ by-kind k e
+        ∙ by-fate k e
 
-    pub measured-empty : kindOf u ≡ Empty → m ≡ measured m mtu v u
+    pub measured-empty : fateOf u ≡ Empty → m ≡ measured m mtu v u
     measured-empty e = passed-over Empty e refl refl refl
 
-    pub measured-dropped : kindOf u ≡ Dropped → m ≡ measured m mtu v u
+    pub measured-dropped : fateOf u ≡ Dropped → m ≡ measured m mtu v u
     measured-dropped e = passed-over Dropped e refl refl refl
 
     -- a unit that is saved
-    pub measured-sps : kindOf u ≡ Sps → (long : Bool) → long ≡ (m .long || ltb 1024 (length u)) →
+    pub measured-sps : fateOf u ≡ Sps → (long : Bool) → long ≡ (m .long || ltb 1024 (length u)) →
         _≡_ {A = Measure} (record { packets = m .packets; bytes = m .bytes; sps = length u; pps = m .pps; long = long }) (measured m mtu v u)
     unfolding measuredBy
     measured-sps e long q =
         measure-path (record { packets = m .packets; bytes = m .bytes; sps = length u; pps = m .pps; long = long }) (measuredBy Sps)
         (sym (add-zero (m .packets))) (sym (add-zero (m .bytes))) refl (sym (l .of-pps)) q
-        ∙ by-kind Sps e
+        ∙ by-fate Sps e
 
-    pub measured-pps : kindOf u ≡ Pps → (long : Bool) → long ≡ (m .long || ltb 1024 (length u)) →
+    pub measured-pps : fateOf u ≡ Pps → (long : Bool) → long ≡ (m .long || ltb 1024 (length u)) →
         _≡_ {A = Measure} (record { packets = m .packets; bytes = m .bytes; sps = m .sps; pps = length u; long = long }) (measured m mtu v u)
     unfolding measuredBy
     measured-pps e long q =
         measure-path (record { packets = m .packets; bytes = m .bytes; sps = m .sps; pps = length u; long = long }) (measuredBy Pps)
         (sym (add-zero (m .packets))) (sym (add-zero (m .bytes))) (sym (l .of-sps)) refl q
-        ∙ by-kind Pps e
+        ∙ by-fate Pps e
 
     -- a unit that is sent, with a pair before it or not
-    module _ (k : kindOf u ≡ Coded) (unit : Size) (e : unit ≡ sizeOf (packetsOf (unitFor mtu u))) where
+    module _ (k : fateOf u ≡ Coded) (unit : Size) (e : unit ≡ sizeOf (packetsOf (unitFor mtu u))) where
       counted : (before : List Group) → pairFor mtu v ≡ before → length (packetsOf (pairFor mtu v ++ unitFor mtu u)) ≡ length (packetsOf before) + unit .packets
       unfolding sizeOf
       counted before q =
@@ -133,7 +133,7 @@ module _ (m : Measure) (mtu : ℕ) (v : Saved) (u : List ℕ) where
           (s ∙ sym (ap (λ (t : Bool). length (cond t nothingSaved v .sps)) w))
           (p ∙ sym (ap (λ (t : Bool). length (cond t nothingSaved v .pps)) w))
           (g ∙ sym (or-false (m .long)))
-          ∙ by-kind Coded k
+          ∙ by-fate Coded k
 
       pub coded-none : (ltb 0 (m .sps) && ltb 0 (m .pps)) ≡ false →
           _≡_ {A = Measure} (record { packets = m .packets + unit .packets; bytes = m .bytes + unit .bytes; sps = m .sps; pps = m .pps; long = m .long })

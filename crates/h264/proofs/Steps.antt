@@ -1,4 +1,4 @@
--- What sending one unit leaves, by its kind. Assumes nothing.
+-- What sending one unit leaves, by its fate. Assumes nothing.
 use mathlib.Core.Path.{_≡_, refl, sym, ap, ap₂, subst, _∙_}
 use mathlib.Core.List.{List, _++_}
 use mathlib.Core.Bool.{Bool, true, _&&_}
@@ -8,60 +8,60 @@ use lib.ListN.{length}
 use borrow.Author.Tests.{ltb-false}
 use Rattle.wire.specs.Packets.{Sink, Room, putAll}
 use Rattle.wire.proofs.Packets.{putAll-append, room-front, room-behind}
-use Rattle.h264.specs.declared.kind.Kind.{Kind}
-use Rattle.h264.specs.declared.kind.Kind.the-variants.{Empty, Dropped, Sps, Pps, Coded}
+use Rattle.h264.specs.declared.fate.Fate.{Fate}
+use Rattle.h264.specs.declared.fate.Fate.the-variants.{Empty, Dropped, Sps, Pps, Coded}
 use Rattle.h264.specs.declared.send.ParameterSet.{ParameterSet}
 use Rattle.h264.specs.declared.send.H264Payloader.{H264Payloader}
-use Rattle.h264.specs.Groups.{kindOf, forgotten, keep, keepBy, pairFor, unitFor, groupsFor, groupsBy, packetsOf}
-use Rattle.h264.specs.Payload.{setOut, layOut, savedIn, savedKind}
+use Rattle.h264.specs.Groups.{fateOf, forgotten, keep, keepBy, pairFor, unitFor, groupsFor, groupsBy, packetsOf}
+use Rattle.h264.specs.Payload.{setOut, layOut, savedIn, isSaved}
 use Rattle.h264.specs.Step.{Ready, Done}
 use Rattle.h264.proofs.Sizes.{packets-append}
 
 module _ (h : H264Payloader) (mtu : ℕ) (u : List ℕ) (s : Sink) (r : Ready h mtu u s) where
-  done-by : (k : Kind) → kindOf u ≡ k → (h′ : H264Payloader) (s′ : Sink) → h′ ≡ layOut (keepBy k (savedIn h) u) →
+  done-by : (k : Fate) → fateOf u ≡ k → (h′ : H264Payloader) (s′ : Sink) → h′ ≡ layOut (keepBy k (savedIn h) u) →
       s′ ≡ putAll s (packetsOf (groupsBy k mtu (savedIn h) u)) → Done (keep (savedIn h) u) (groupsFor mtu (savedIn h) u) s h′ s′
   unfolding keep groupsFor
   done-by k e h′ s′ kept put =
       record {
-        state = kept ∙ sym (ap (λ (x : Kind). layOut (keepBy x (savedIn h) u)) e);
-        put = put ∙ sym (ap (λ (x : Kind). putAll s (packetsOf (groupsBy x mtu (savedIn h) u))) e);
+        state = kept ∙ sym (ap (λ (x : Fate). layOut (keepBy x (savedIn h) u)) e);
+        put = put ∙ sym (ap (λ (x : Fate). putAll s (packetsOf (groupsBy x mtu (savedIn h) u))) e);
       }
 
-  pub done-empty : kindOf u ≡ Empty → Done (keep (savedIn h) u) (groupsFor mtu (savedIn h) u) s h s
+  pub done-empty : fateOf u ≡ Empty → Done (keep (savedIn h) u) (groupsFor mtu (savedIn h) u) s h s
   done-empty e = done-by Empty e h s (r .tidy .laid) refl
 
-  pub done-dropped : kindOf u ≡ Dropped → Done (keep (savedIn h) u) (groupsFor mtu (savedIn h) u) s h s
+  pub done-dropped : fateOf u ≡ Dropped → Done (keep (savedIn h) u) (groupsFor mtu (savedIn h) u) s h s
   done-dropped e = done-by Dropped e h s (r .tidy .laid) refl
 
   -- a set that is saved is within the limit
-  short-by : (k : Kind) → kindOf u ≡ k → savedKind k ≡ true → length u ≤ 1024
+  short-by : (k : Fate) → fateOf u ≡ k → isSaved k ≡ true → length u ≤ 1024
   short-by k e q =
       ltb-false 1024 (length u)
-      (sym (ap (λ (b : Bool). b && ltb 1024 (length u)) (ap savedKind e ∙ q)) ∙ r .short)
+      (sym (ap (λ (b : Bool). b && ltb 1024 (length u)) (ap isSaved e ∙ q)) ∙ r .short)
 
-  pub short-sps : kindOf u ≡ Sps → length u ≤ 1024
+  pub short-sps : fateOf u ≡ Sps → length u ≤ 1024
   short-sps e = short-by Sps e refl
 
-  pub short-pps : kindOf u ≡ Pps → length u ≤ 1024
+  pub short-pps : fateOf u ≡ Pps → length u ≤ 1024
   short-pps e = short-by Pps e refl
 
-  pub done-sps : kindOf u ≡ Sps → (set : ParameterSet) → set ≡ setOut u → Done (keep (savedIn h) u) (groupsFor mtu (savedIn h) u) s (record { sps = set; pps = h .pps }) s
+  pub done-sps : fateOf u ≡ Sps → (set : ParameterSet) → set ≡ setOut u → Done (keep (savedIn h) u) (groupsFor mtu (savedIn h) u) s (record { sps = set; pps = h .pps }) s
   done-sps e set q =
       done-by Sps e (record { sps = set; pps = h .pps }) s
       (ap₂ (λ (a b : ParameterSet). record { sps = a; pps = b }) q (ap (λ (x : H264Payloader). x .pps) (r .tidy .laid))) refl
 
-  pub done-pps : kindOf u ≡ Pps → (set : ParameterSet) → set ≡ setOut u → Done (keep (savedIn h) u) (groupsFor mtu (savedIn h) u) s (record { sps = h .sps; pps = set }) s
+  pub done-pps : fateOf u ≡ Pps → (set : ParameterSet) → set ≡ setOut u → Done (keep (savedIn h) u) (groupsFor mtu (savedIn h) u) s (record { sps = h .sps; pps = set }) s
   done-pps e set q =
       done-by Pps e (record { sps = h .sps; pps = set }) s
       (ap₂ (λ (a b : ParameterSet). record { sps = a; pps = b }) (ap (λ (x : H264Payloader). x .sps) (r .tidy .laid)) q) refl
 
   -- the pair, then the unit
-  module _ (e : kindOf u ≡ Coded) where
+  module _ (e : fateOf u ≡ Coded) where
     room-both : Room s (packetsOf (pairFor mtu (savedIn h)) ++ packetsOf (unitFor mtu u))
     unfolding groupsFor
     room-both =
         subst (Room s)
-        (ap (λ (x : Kind). packetsOf (groupsBy x mtu (savedIn h) u)) e ∙ packets-append (pairFor mtu (savedIn h)) (unitFor mtu u))
+        (ap (λ (x : Fate). packetsOf (groupsBy x mtu (savedIn h) u)) e ∙ packets-append (pairFor mtu (savedIn h)) (unitFor mtu u))
         (r .room)
 
     pub room-pair : Room s (packetsOf (pairFor mtu (savedIn h)))

@@ -10,12 +10,12 @@ use borrow.Author.Tests.{ltb-false}
 use Rattle.wire.specs.Packets.{Sink, Room, putAll}
 use Rattle.wire.proofs.Packets.{putAll-append, room-front, room-behind}
 use Rattle.h264.specs.declared.search.Piece.{Piece}
-use Rattle.h264.specs.declared.kind.Kind.{Kind}
-use Rattle.h264.specs.declared.kind.Kind.the-variants.{Empty, Dropped, Sps, Pps, Coded}
+use Rattle.h264.specs.declared.fate.Fate.{Fate}
+use Rattle.h264.specs.declared.fate.Fate.the-variants.{Empty, Dropped, Sps, Pps, Coded}
 use Rattle.h264.specs.declared.send.H264Payloader.{H264Payloader}
 use Rattle.h264.specs.Units.{pieces, Pieced}
-use Rattle.h264.specs.Groups.{Saved, nothingSaved, bothSaved, kindOf, keep, keepBy, keepAll, groupsFor, groupsOf, packetsOf}
-use Rattle.h264.specs.Payload.{layOut, savedIn, savedKind, tooLong, overLimit}
+use Rattle.h264.specs.Groups.{Saved, nothingSaved, bothSaved, fateOf, keep, keepBy, keepAll, groupsFor, groupsOf, packetsOf}
+use Rattle.h264.specs.Payload.{layOut, savedIn, isSaved, tooLong, overLimit}
 use Rattle.h264.specs.Step.{Tidy, Ready, Done}
 use Rattle.h264.proofs.Bools.{or-false-left, or-false-right}
 use Rattle.h264.proofs.Sizes.{packets-append}
@@ -26,13 +26,13 @@ use Rattle.h264.proofs.State.{Short, saved-laid, tidy-laid, sps-length,
 -- what is kept after a unit within the limit fits the record
 pub short-keep : (v : Saved) (u : List ℕ) → Short v → tooLong u ≡ false → Short (keep v u)
 unfolding keep
-short-keep v u s e = go (kindOf u) (λ q. ltb-false 1024 (length u) (sym (ap (λ (b : Bool). b && ltb 1024 (length u)) q) ∙ e))
+short-keep v u s e = go (fateOf u) (λ q. ltb-false 1024 (length u) (sym (ap (λ (b : Bool). b && ltb 1024 (length u)) q) ∙ e))
   where
     forgot : (b : Bool) → Short (cond b nothingSaved v)
     forgot true = record { sps = omega arith; pps = omega arith }
     forgot false = s
 
-    go : (k : Kind) → (savedKind k ≡ true → length u ≤ 1024) → Short (keepBy k v u)
+    go : (k : Fate) → (isSaved k ≡ true → length u ≤ 1024) → Short (keepBy k v u)
     go Empty f = s
     go Dropped f = s
     go Sps f = record { sps = f refl; pps = s .pps }

@@ -7,10 +7,10 @@ use Prim.Native.Nat.{ℕ, _+_, _-_, _/_, _%_, _<_, _≤_, max}
 use lib.Dec.{leb}
 use lib.ListN.{length, getD}
 use Rattle.wire.specs.Packets.{joined}
-use Rattle.rfc6184.specs.Sending.{Each, Nal, nalOf, Part, Fragmented, Sending, single, stapA, fuA, UnitType}
-use Rattle.h264.specs.declared.kind.Kind.{Kind}
-use Rattle.h264.specs.declared.kind.Kind.the-variants.{Empty, Dropped, Sps, Pps, Coded}
-use Rattle.h264.specs.Groups.{Saved, Group, pair, plain, fragments, kindOf}
+use Rattle.rfc6184.specs.Sending.{Each, Nal, nalOf, Part, Fragmented, Sending, single, stapA, fuA, payloadsOfAll, unitsOfAll, FormedSending, UnitType}
+use Rattle.h264.specs.declared.fate.Fate.{Fate}
+use Rattle.h264.specs.declared.fate.Fate.the-variants.{Empty, Dropped, Sps, Pps, Coded}
+use Rattle.h264.specs.Groups.{Saved, Group, pair, plain, fragments, fateOf}
 
 -- bytes are octets
 abbrev pub Octets : List ℕ → Type 0
@@ -69,6 +69,13 @@ Regular (pair sps pps) =
 Regular (plain u) = UnitType (nal u .type)
 Regular (fragments head first middle last) = UnitType (head % 32)
 
+-- payloads ps are those of formed sendings, one after the other, which carry us: a `Packetization` but for the rules on the fields
+pub record LaidOut (ps : List (List ℕ)) (us : List Nal) : Type 0 where
+  pub sendings : List Sending
+  pub formed : Each FormedSending sendings
+  pub payloads : ps ≡ payloadsOfAll sendings
+  pub units : us ≡ unitsOfAll sendings
+
 -- ---- what holds of every group that is sent
 
 -- a unit's body in parts of `size` bytes, the last of what is left: none is empty, and together they are the body
@@ -92,16 +99,16 @@ unitsIn (pair sps pps ∷ gs) = unitsIn gs
 unitsIn (plain u ∷ gs) = u ∷ unitsIn gs
 unitsIn (fragments head first middle last ∷ gs) = rebuilt head first middle last ∷ unitsIn gs
 
-abbrev pub codedKind : Kind → Bool
-codedKind Empty = false
-codedKind Dropped = false
-codedKind Sps = false
-codedKind Pps = false
-codedKind Coded = true
+abbrev pub isCoded : Fate → Bool
+isCoded Empty = false
+isCoded Dropped = false
+isCoded Sps = false
+isCoded Pps = false
+isCoded Coded = true
 
 -- a unit goes out: it is not empty, not of types 9 and 12, no set to be saved, and it fits or can be cut
 abbrev pub goesOut : ℕ → List ℕ → Bool
-goesOut mtu u = codedKind (kindOf u) && (leb (length u) mtu || leb 3 mtu)
+goesOut mtu u = isCoded (fateOf u) && (leb (length u) mtu || leb 3 mtu)
 
 abbrev pub thoseThat : (List ℕ → Bool) → List (List ℕ) → List (List ℕ)
 thoseThat test [] = []

@@ -1,8 +1,8 @@
 -- Frames one after the other through a sender: what is saved goes from call to call. Assumes nothing.
 use mathlib.Core.List.{List, [], _∷_, _++_}
 use Prim.Native.Nat.{ℕ}
-use Rattle.h264.specs.declared.kind.Kind.{Kind}
-use Rattle.h264.specs.declared.kind.Kind.the-variants.{Empty, Dropped, Sps, Pps, Coded}
+use Rattle.h264.specs.declared.fate.Fate.{Fate}
+use Rattle.h264.specs.declared.fate.Fate.the-variants.{Empty, Dropped, Sps, Pps, Coded}
 use Rattle.h264.specs.Units.{unitsAt}
 use Rattle.h264.specs.Groups.{Saved, nothingSaved, Group, keepAll, groupsOf}
 
@@ -17,7 +17,7 @@ abbrev pub groupsSent : ℕ → List (List ℕ) → List Group
 groupsSent mtu frames = groupsFrom mtu nothingSaved frames
 
 -- P of a unit "unless type 7, 8, 9 or 12"
-abbrev pub WhereCoded : (List ℕ → Type 0) → Kind → List ℕ → Type 0
+abbrev pub WhereCoded : (List ℕ → Type 0) → Fate → List ℕ → Type 0
 WhereCoded P Empty u = Unit {0}
 WhereCoded P Dropped u = Unit {0}
 WhereCoded P Sps u = Unit {0}

@@ -5,8 +5,8 @@ use Prim.Native.Nat.{ℕ, zero, suc, _+_, _-_, _*_, _/_, _%_}
 use lib.Dec.{eqb, ltb, leb}
 use lib.ListN.{length, take, drop}
 use Rattle.wire.specs.Net.{be16}
-use Rattle.h264.specs.declared.kind.Kind.{Kind}
-use Rattle.h264.specs.declared.kind.Kind.the-variants.{Empty, Dropped, Sps, Pps, Coded}
+use Rattle.h264.specs.declared.fate.Fate.{Fate}
+use Rattle.h264.specs.declared.fate.Fate.the-variants.{Empty, Dropped, Sps, Pps, Coded}
 
 -- the sequence and the picture parameter set that wait to be sent; an empty one is none
 pub record Saved : Type 0 where
@@ -28,15 +28,15 @@ pub data Group : Type 0 where
   -- a unit's first byte, and the parts of what follows it: the first, those between, the last
   fragments : (head : ℕ) (first : List ℕ) (middle : List (List ℕ)) (last : List ℕ) → Group
 
--- ---- a unit's kind
+-- ---- a unit's fate
 
-abbrev pub kindOfType : ℕ → Kind
-kindOfType t = cond (eqb t 9 || eqb t 12) Dropped (cond (eqb t 7) Sps (cond (eqb t 8) Pps Coded))
+abbrev pub fateOfType : ℕ → Fate
+fateOfType t = cond (eqb t 9 || eqb t 12) Dropped (cond (eqb t 7) Sps (cond (eqb t 8) Pps Coded))
 
 -- "Empty units and types 9, 12 are dropped; 7, 8 are saved." The type is the first byte's low five bits.
-abbrev pub kindOf : List ℕ → Kind
-kindOf [] = Empty
-kindOf (b ∷ s) = kindOfType (b % 32)
+abbrev pub fateOf : List ℕ → Fate
+fateOf [] = Empty
+fateOf (b ∷ s) = fateOfType (b % 32)
 
 -- ---- what is kept
 
@@ -44,7 +44,7 @@ kindOf (b ∷ s) = kindOfType (b % 32)
 abbrev pub forgotten : Saved → Saved
 forgotten v = cond (bothSaved v) nothingSaved v
 
-abbrev pub keepBy : Kind → Saved → List ℕ → Saved
+abbrev pub keepBy : Fate → Saved → List ℕ → Saved
 keepBy Empty v u = v
 keepBy Dropped v u = v
 keepBy Sps v u = record { sps = u; pps = v .pps }
@@ -53,7 +53,7 @@ keepBy Coded v u = forgotten v
 
 -- what is saved after a unit: "7, 8 are saved", and "the pair is forgotten" at any other unit, sent or not
 unfoldable pub keep : Saved → List ℕ → Saved
-keep v u = keepBy (kindOf u) v u
+keep v u = keepBy (fateOf u) v u
 
 -- ---- what is sent
 
@@ -88,7 +88,7 @@ fragmentsOf size (b ∷ s) =
 unfoldable pub unitFor : ℕ → List ℕ → List Group
 unitFor mtu u = cond (leb (length u) mtu) (plain u ∷ []) (cond (ltb mtu 3) [] (fragmentsOf (mtu - 2) u))
 
-abbrev pub groupsBy : Kind → ℕ → Saved → List ℕ → List Group
+abbrev pub groupsBy : Fate → ℕ → Saved → List ℕ → List Group
 groupsBy Empty mtu v u = []
 groupsBy Dropped mtu v u = []
 groupsBy Sps mtu v u = []
@@ -97,7 +97,7 @@ groupsBy Coded mtu v u = pairFor mtu v ++ unitFor mtu u
 
 -- the groups sent for one unit
 unfoldable pub groupsFor : ℕ → Saved → List ℕ → List Group
-groupsFor mtu v u = groupsBy (kindOf u) mtu v u
+groupsFor mtu v u = groupsBy (fateOf u) mtu v u
 
 -- the groups sent for units in order, and what is then saved
 abbrev pub groupsOf : ℕ → Saved → List (List ℕ) → List Group

@@ -13,10 +13,10 @@ use Rattle.h264.specs.declared.send.H264Payloader.{H264Payloader}
 use Rattle.h264.specs.declared.send.Sent.{Sent}
 use Rattle.h264.specs.declared.send.Payloads.{Payloads}
 use Rattle.h264.specs.declared.send.Payloads.the-variants.{Written, Refused}
-use Rattle.h264.specs.declared.kind.Kind.{Kind}
-use Rattle.h264.specs.declared.kind.Kind.the-variants.{Empty, Dropped, Sps, Pps, Coded}
+use Rattle.h264.specs.declared.fate.Fate.{Fate}
+use Rattle.h264.specs.declared.fate.Fate.the-variants.{Empty, Dropped, Sps, Pps, Coded}
 use Rattle.h264.specs.Units.{unitsAt}
-use Rattle.h264.specs.Groups.{Saved, kindOf, keepAll, groupsOf, packetsOf}
+use Rattle.h264.specs.Groups.{Saved, fateOf, keepAll, groupsOf, packetsOf}
 
 -- ---- the record
 
@@ -39,17 +39,17 @@ abbrev pub outside : H264Payloader → ℕ → List ℕ → Bool
 outside h mtu frame =
     ltb 1024 (h .sps .len) || (ltb 1024 (h .pps .len) || (ltb 65535 mtu || ltb 16777216 (length frame)))
 
--- whether a unit of a kind is to be saved
-abbrev pub savedKind : Kind → Bool
-savedKind Empty = false
-savedKind Dropped = false
-savedKind Sps = true
-savedKind Pps = true
-savedKind Coded = false
+-- whether a unit is to be saved, by its fate
+abbrev pub isSaved : Fate → Bool
+isSaved Empty = false
+isSaved Dropped = false
+isSaved Sps = true
+isSaved Pps = true
+isSaved Coded = false
 
 -- 7: "an SPS or PPS to be saved is over 1,024"
 abbrev pub tooLong : List ℕ → Bool
-tooLong u = savedKind (kindOf u) && ltb 1024 (length u)
+tooLong u = isSaved (fateOf u) && ltb 1024 (length u)
 
 abbrev pub overLimit : List (List ℕ) → Bool
 overLimit [] = false

@@ -8,12 +8,12 @@ ghost use Prim.Native.Nat.{ℕ, _+_, _*_, _≤_, _<_};
 ghost use mathlib.Core.Bool.{_||_};
 ghost use lib.Dec.{ltb};
 ghost use lib.ListN.{length};
-ghost use Rattle.h264.specs.Groups.{Saved, kindOf, unitFor, packetsOf};
+ghost use Rattle.h264.specs.Groups.{Saved, fateOf, unitFor, packetsOf};
 ghost use Rattle.h264.specs.Units.{units};
 ghost use Rattle.h264.specs.Step.{sizeOf, Lengths, Small, Grown, measured, measuredAll, nothingYet};
-use crate::kind::Kind;
-use crate::kind::both;
-use crate::kind::kind_of;
+use crate::fate::Fate;
+use crate::fate::both;
+use crate::fate::fate_of;
 use crate::search::first_unit;
 use crate::search::unit_at;
 
@@ -63,7 +63,7 @@ impl Measure {
     fn coded(self, mtu: usize, len: usize) -> Measure
         requires { ⌜ Small self × (mtu ≤ 65535) × (0 < len) × (len ≤ 16777216) ⌝ }
         ensures { λ r. ⌜ Grown self len r ×
-            ((v : Saved) (u : List ℕ) → Lengths v (self .sps) (self .pps) → length u ≡ len → kindOf u ≡ Kind.Coded → r ≡ measured self mtu v u) ⌝ }
+            ((v : Saved) (u : List ℕ) → Lengths v (self .sps) (self .pps) → length u ≡ len → fateOf u ≡ Fate.Coded → r ≡ measured self mtu v u) ⌝ }
     {
         let unit = unit_size(len, mtu);
         let packets = self.packets + unit.packets;
@@ -102,24 +102,24 @@ impl Measure {
         ensures { λ r. ⌜ Grown self (length (now (unit .entry))) r ×
             ((v : Saved) → Lengths v (self .sps) (self .pps) → r ≡ measured self mtu v (now (unit .entry))) ⌝ }
     {
-        match kind_of(unit) {
-            Kind::Empty => self,
-            Kind::Dropped => self,
-            Kind::Sps => Measure {
+        match fate_of(unit) {
+            Fate::Empty => self,
+            Fate::Dropped => self,
+            Fate::Sps => Measure {
                 packets: self.packets,
                 bytes: self.bytes,
                 sps: unit.len(),
                 pps: self.pps,
                 long: over(self.long, unit.len()),
             },
-            Kind::Pps => Measure {
+            Fate::Pps => Measure {
                 packets: self.packets,
                 bytes: self.bytes,
                 sps: self.sps,
                 pps: unit.len(),
                 long: over(self.long, unit.len()),
             },
-            Kind::Coded => self.coded(mtu, unit.len()),
+            Fate::Coded => self.coded(mtu, unit.len()),
         }
     }
 }

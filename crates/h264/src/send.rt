@@ -12,9 +12,9 @@ ghost use Rattle.h264.specs.Units.{units, noUnits};
 ghost use Rattle.h264.specs.Groups.{nothingSaved, forgotten, keep, keepAll, pairFor, groupsFor, groupsOf, packetsOf};
 ghost use Rattle.h264.specs.Payload.{setOut, layOut, savedIn, overLimit, emptySink, left, payloadOf};
 ghost use Rattle.h264.specs.Step.{sinkAt, Tidy, Ready, Done};
-use crate::kind::Kind;
-use crate::kind::both;
-use crate::kind::kind_of;
+use crate::fate::Fate;
+use crate::fate::both;
+use crate::fate::fate_of;
 use crate::measure::Measure;
 use crate::measure::measure_frame;
 use crate::put::Place;
@@ -142,30 +142,30 @@ impl H264Payloader {
     {
         let sps = self.sps;
         let pps = self.pps;
-        match kind_of(unit) {
-            Kind::Empty => Emitted {
+        match fate_of(unit) {
+            Fate::Empty => Emitted {
                 sender: self,
                 place: to,
             },
-            Kind::Dropped => Emitted {
+            Fate::Dropped => Emitted {
                 sender: self,
                 place: to,
             },
-            Kind::Sps => Emitted {
+            Fate::Sps => Emitted {
                 sender: H264Payloader {
                     sps: ParameterSet::of(unit),
                     pps,
                 },
                 place: to,
             },
-            Kind::Pps => Emitted {
+            Fate::Pps => Emitted {
                 sender: H264Payloader {
                     sps,
                     pps: ParameterSet::of(unit),
                 },
                 place: to,
             },
-            Kind::Coded => {
+            Fate::Coded => {
                 let behind = self.put_waiting(mtu, out, ends, to);
                 Emitted {
                     sender: self.forget(),

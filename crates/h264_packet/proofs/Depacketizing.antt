@@ -1,18 +1,17 @@
 -- How the reader's definitions go on, from the facts that the code tests. Assumes nothing.
-use mathlib.Core.Path.{_≡_, refl, sym, ap, subst, _∙_}
+use mathlib.Core.Path.{_≡_, refl, sym, ap, _∙_}
 use mathlib.Core.Bool.{Bool, true, false, cond, or-true}
 use mathlib.Core.List.{List}
 use mathlib.Core.Logic.{_⊎_, inl, inr}
 use Prim.Native.Nat.{ℕ, _≤_, _<_}
-use native.Mathlib.Omega.{arith}
 use lib.Dec.{ltb, eqb}
 use lib.ListN.{length, take}
 use lib.Seq.{length-take-le}
 use borrow.Author.Tests.{lt-ltb, le-ltb, eqb-true}
-use Rattle.error.specs.Said.{Said, refuse}
-use Rattle.nal.specs.Fed.{Run, none, gathering, gathered, Laid}
-use Rattle.nal.specs.Ran.{RanOn, layRun}
-use Rattle.h264_packet.specs.Depacketize.{runOf, outside, readPayload, depacketized}
+use Rattle.error.specs.Said.{refuse}
+use Rattle.nal.specs.Fed.{none, gathering, gathered, runOf}
+use Rattle.nal.specs.Ran.{layRun}
+use Rattle.h264_packet.specs.Depacketize.{outside, readPayload, depacketized}
 
 -- the run that n bytes stand for is those bytes
 pub gathered-run : (n : ℕ) (gather : List ℕ) → gathered (runOf n gather) ≡ take n gather

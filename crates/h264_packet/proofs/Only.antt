@@ -14,7 +14,7 @@ use Rattle.error.proofs.Only.{by-value, by-view, Sayable, known, tested}
 use Rattle.wire.specs.Turns.{run}
 use Rattle.nal.specs.Kind.{Shape, short, unknown, plain, aggregate, fragment, shape, bit}
 use Rattle.nal.specs.Unpack.{unpack}
-use Rattle.nal.specs.Fed.{Run, gathered, Fed, Laid}
+use Rattle.nal.specs.Fed.{Run, gathered, runOf, Fed, Laid}
 use Rattle.nal.specs.Ran.{RanOn, layRun}
 use Rattle.nal.proofs.Sayable.{unpack-sayable, handing-sayable, run-sayable}
 use Rattle.h264_packet.specs.declared.H264Packet.{H264Packet}
@@ -25,7 +25,7 @@ use Rattle.h264_packet.specs.declared.Depacketize.the-variants as dep
 use Rattle.h264_packet.specs.declared.Depacketized.{Depacketized}
 use Rattle.h264_packet.specs.declared.Head.{Head}
 use Rattle.h264_packet.specs.declared.Head.the-variants as head
-use Rattle.h264_packet.specs.Depacketize.{readBy, readPayload, runOf, outside, depacketized, Showing, nowhere, in-packet, in-gather, shownOf, bodyOf, headTest}
+use Rattle.h264_packet.specs.Depacketize.{readBy, readPayload, outside, depacketized, Showing, nowhere, in-packet, in-gather, shownOf, bodyOf, headTest}
 use Rattle.h264_packet.specs.Said.{saidShown, saidDepacketize, Heard, heard, readingHeard, depacketizedHeard, saidHead}
 
 -- ---- the definitions say no other refusal

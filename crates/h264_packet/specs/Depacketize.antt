@@ -9,7 +9,7 @@ use lib.ListN.{length, take, drop, getD}
 use Rattle.error.specs.Said.{Said, says, refused, refuse}
 use Rattle.nal.specs.Kind.{Shape, short, unknown, plain, aggregate, fragment, shape, bit}
 use Rattle.nal.specs.Unpack.{unpack}
-use Rattle.nal.specs.Fed.{Run, none, gathering, gathered, Fed, ongoing, finished, Laid}
+use Rattle.nal.specs.Fed.{Run, gathered, runOf, Fed, ongoing, finished, Laid}
 use Rattle.nal.specs.Ran.{handing, RanOn, layRun}
 
 -- units that leave the run as it is
@@ -33,10 +33,6 @@ unfoldable pub readPayload : Run → List ℕ → Said Fed
 readPayload run payload = readBy (shape payload) run payload
 
 -- ---- the call
-
--- the run that a record and the gather buffer stand for: "length 0 for none"
-abbrev pub runOf : ℕ → List ℕ → Run
-runOf n gather = cond (eqb n 0) none (gathering (take n gather))
 
 -- "packets up to 65,535 bytes"; "counts and lengths in a record that lie within .. the lent buffers"
 abbrev pub outside : ℕ → List ℕ → List ℕ → Bool

@@ -4,6 +4,9 @@ ghost use Rattle.h264_packet.specs.Depacketize.{headTest};
 ghost use Rattle.h264_packet.specs.Said.{saidHead};
 use crate::Head;
 use error::Error;
+use nal::FUA_NALU_TYPE;
+
+pub const FUB_NALU_TYPE: u8 = 29;
 
 // Whether a payload is the head of a packetized unit: FU-A and FU-B say so by their start bit.
 pub fn is_partition_head(payload: &[u8]) -> Head
@@ -16,10 +19,10 @@ pub fn is_partition_head(payload: &[u8]) -> Head
         return Head::Is(false);
     }
     let nalu_type = payload[0] % 32;
-    if nalu_type == 28 {
+    if nalu_type == FUA_NALU_TYPE {
         return Head::Is(payload[1] / 128 % 2 == 1);
     }
-    if nalu_type == 29 {
+    if nalu_type == FUB_NALU_TYPE {
         return Head::Is(payload[1] / 128 % 2 == 1);
     }
     Head::Is(true)

@@ -7,7 +7,8 @@ ghost use Rattle.error.specs.Refusal.{refusalOf};
 ghost use Rattle.error.specs.Said.{says, refused};
 ghost use Rattle.nal.specs.Said.{shapeSaid};
 ghost use Rattle.nal.specs.Ran.{ranHeard, layRun};
-ghost use Rattle.h264_packet.specs.Depacketize.{gatheredOn, runOf, readPayload, depacketized, shownOf};
+ghost use Rattle.nal.specs.Fed.{runOf};
+ghost use Rattle.h264_packet.specs.Depacketize.{gatheredOn, readPayload, depacketized, shownOf};
 ghost use Rattle.h264_packet.specs.Said.{saidShown, saidDepacketize, heard, depacketizedHeard};
 ghost use Rattle.h264_packet.specs.Depacketize.{nowhere};
 use crate::Depacketize;
@@ -74,6 +75,7 @@ fn shown_by(kind: Kind, run: usize, len: usize) -> Shown
             head: _,
         } => {
             if last {
+                // A fragment has 3 bytes or more; this spares a premise.
                 if len < 2 {
                     return Shown::Gather(run);
                 }
@@ -95,6 +97,7 @@ impl H264Packet {
         }
     }
 
+    // Reads a payload: units go to the front of out, fragments behind what gather holds. A refusal changes nothing.
     pub fn depacketize(self, payload: &[u8], gather: &mut [u8], out: &mut [u8]) -> Depacketized
         ensures { λ r. ⌜ heard r (now (gather .exit)) (now (out .exit)) ≡ depacketizedHeard self (now (payload .entry)) (depacketized (self .«is_avc») (self .gathered) (now (payload .entry)) (now (gather .entry)) (now (out .entry))) ⌝ }
     {

@@ -12,14 +12,14 @@ use Rattle.wire.specs.Packets.{joined}
 use Rattle.nal.specs.Kind.{Shape, short, unknown, shape}
 use Rattle.nal.specs.Unpack.{sizedUnits}
 use Rattle.nal.specs.Unpack as unpacking
-use Rattle.nal.specs.Fed.{prefixed, Laid}
+use Rattle.nal.specs.Fed.{runOf, prefixed, Laid}
 use Rattle.nal.specs.Ran.{RanOn}
 use Rattle.nal.proofs.Unpacking.{Units}
 use Rattle.nal.proofs.Shapes.{shape-short, shape-unknown}
 use Rattle.rfc6184.specs.Sending.{Each, Nal, octet, octetsOf, Part, Fragmented, single, fuA, fragment, payloadsOf, bodyOf, unitsOf, UnitType, Formed, FormedPart, FormedSending, Lawful}
 use Rattle.rfc6184.proofs.Octets.{fields-of-octet}
 use Rattle.h264.specs.Conformance.{cleared}
-use Rattle.h264_packet.specs.Depacketize.{readBy, runOf, readPayload, depacketized}
+use Rattle.h264_packet.specs.Depacketize.{readBy, readPayload, depacketized}
 use Rattle.h264_rfc.specs.Reading.{fresh, Hears, lastly, handedAs, Some, NoneEmpty, Room}
 use Rattle.h264_rfc.specs.Loose.{Loose, looseOctets, LooseFormed, headFrom, looseAll, looseUnit, LooseRoom, without}
 use Rattle.h264_rfc.specs.Meaning.{Stray, Somewhere, Unsendable}

@@ -1,5 +1,5 @@
 -- The premises of SENT AND READ can be met: two frames, one with a pair of sets, one whose unit has F set and goes in fragments. Assumes nothing.
-use mathlib.Core.Path.{_≡_, refl, sym, _∙_}
+use mathlib.Core.Path.{_≡_, refl}
 use mathlib.Core.Bool.{false}
 use mathlib.Core.List.{List, [], _∷_, map}
 use Prim.Native.Nat.{ℕ}

@@ -14,12 +14,12 @@ use Rattle.wire.specs.Packets.{joined}
 use Rattle.wire.proofs.Part.{length-splice, part-of-splice}
 use Rattle.nal.specs.Kind.{Shape, headOf, shape}
 use Rattle.nal.specs.Kind as kind
-use Rattle.nal.specs.Fed.{prefixed, ongoing, finished}
+use Rattle.nal.specs.Fed.{runOf, ongoing, finished, prefixed}
 use Rattle.nal.proofs.Handing.{length-one}
 use Rattle.nal.proofs.Shapes.{shape-fragment}
 use Rattle.rfc6184.specs.Sending.{Each, Nal, octet, octetsOf, Part, Fragmented, fragment, fuA, payloadsOf, bodyOf, FormedPart, FormedSending}
 use Rattle.rfc6184.proofs.Octets.{length-octets}
-use Rattle.h264_packet.specs.Depacketize.{gatheredOn, readBy, runOf, readPayload, depacketized}
+use Rattle.h264_packet.specs.Depacketize.{gatheredOn, readBy, readPayload, depacketized}
 use Rattle.h264_packet.proofs.Depacketizing.{gathered-run}
 use Rattle.h264_rfc.specs.Reading.{fresh, Hears, lastly, Some, NoneEmpty, Room}
 use Rattle.h264_rfc.specs.Loose.{Loose, looseOctets, LooseFormed, partsOf, headFrom, looseAll, looseUnit, LooseRoom}

@@ -1,21 +1,21 @@
 -- The run stays over every payload that is no FU-A, and over every refusal: what comes behind goes on as if that payload had not come.
 -- Assumes nothing.
-use mathlib.Core.Path.{_≡_, refl, ap, _∙_}
+use mathlib.Core.Path.{_≡_, refl, sym, ap, _∙_}
 use mathlib.Core.Bool.{Bool, true, false, cond}
 use mathlib.Core.List.{List, [], _∷_}
 use Prim.Native.Nat.{ℕ, suc, _%_, _≤_}
-use native.Mathlib.Omega.{arith}
 use lib.ListN.{length, getD}
 use Rattle.error.specs.Refusal.{Refusal}
 use Rattle.error.specs.Said.{Said, says, refused, refuse}
 use Rattle.nal.specs.Kind.{Shape, short, unknown, plain, aggregate, shape}
 use Rattle.nal.specs.Kind as kind
 use Rattle.nal.specs.Unpack.{unpack}
-use Rattle.nal.specs.Fed.{Fed, gathered, prefixed, OutLaid, layBytes, tooLong, gatherAfter, Laid, layFed}
+use Rattle.nal.specs.Fed.{gathered, runOf, Fed, prefixed, OutLaid, layBytes, Laid, tooLong, gatherAfter, layFed}
 use Rattle.nal.specs.Ran.{RanOn, withRun, layRun}
+use Rattle.nal.proofs.Refusing.{not-says}
 use Rattle.nal.proofs.Running.{run-beside}
 use Rattle.nal.proofs.Shapes.{Facts, told}
-use Rattle.h264_packet.specs.Depacketize.{beside, readBy, runOf, readPayload, depacketized}
+use Rattle.h264_packet.specs.Depacketize.{beside, readBy, readPayload, depacketized}
 use Rattle.h264_packet.proofs.Depacketizing.{gathered-run, length-run}
 use Rattle.h264_rfc.specs.Reading.{State, gatheredThen, next, calls}
 use Rattle.h264_rfc.specs.Meaning.{RunKept}
@@ -72,7 +72,7 @@ refused-fed avc gather out f r =
     (stays (l .answer))
   where
     stays : (x : Said ℕ) → x ≡ refused r → gatherAfter gather (f .kept) x ≡ gather
-    stays (says n) e = let z : _≡_ {A = ℕ} 0 1 = cc in absurd (omega arith)
+    stays (says n) e = absurd (not-says (sym e))
     stays (refused q) e = refl
 
 refused-run : (avc : Bool) (gather out : List ℕ) (x : Said Fed) (r : Refusal) → layRun avc gather out x .answer ≡ refused r → layRun avc gather out x .gather ≡ gather
@@ -80,7 +80,7 @@ refused-run avc gather out (refused q) r e = refl
 refused-run avc gather out (says f) r e = refused-fed avc gather out f r (unrun (layFed avc gather out f .answer) e)
   where
     unrun : (x : Said ℕ) → withRun (length (gathered (f .run))) x ≡ refused r → x ≡ refused r
-    unrun (says n) q = let z : _≡_ {A = ℕ} 0 1 = cc in absurd (omega arith)
+    unrun (says n) q = absurd (not-says (sym q))
     unrun (refused w) q = let same : w ≡ r = cc in ap refused same
 
 -- an FU-A, too, where it is refused

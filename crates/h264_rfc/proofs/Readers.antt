@@ -8,9 +8,9 @@ use native.Mathlib.Omega.{arith}
 use lib.ListN.{getD, replicate}
 use Rattle.error.specs.Refusal.{Refusal}
 use Rattle.error.specs.Said.{refused}
+use Rattle.nal.proofs.Refusing.{not-says}
 use Rattle.rfc6184.specs.Sending.{Nal, octet, octetsOf, single}
 use Rattle.h264_rfc.specs.Reading.{Reader, fresh, handedBy, Hears, handedAs, Complete}
-use Rattle.h264_rfc.proofs.Steps.{no-answer}
 
 -- a unit of three octets
 abbrev small : ℕ → Nal
@@ -35,7 +35,7 @@ pub no-refuser : (read : Reader) →
 no-refuser read refuses c =
     let a = hears-small read c 0 .answered .0 in
     let w = refuses false 0 (octetsOf (small 0)) [] (outs 0) in
-    no-answer (sym (w .1) ∙ a .1)
+    not-says (sym (w .1) ∙ a .1)
 
 -- a reader that hands out nothing, or always the same bytes
 pub no-fixed-output : (bytes : List ℕ) (read : Reader) →

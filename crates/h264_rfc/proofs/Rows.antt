@@ -44,7 +44,11 @@ table =
       (0x7C ∷ 0x85 ∷ 0x11 ∷ []) ∷ (0x7C ∷ 0x45 ∷ 0x33 ∷ []) ∷ [],
       says [] ∷ unit (0x65 ∷ 0x11 ∷ 0x33 ∷ []) ∷ [],
     )
-    -- 4. a plain unit, a STAP-A and a refused one between the fragments
+    -- 4. a plain unit between the fragments; then a STAP-A and a refused one too
+    ∷ (
+      (0x7C ∷ 0x85 ∷ 0x11 ∷ []) ∷ (0x41 ∷ 1 ∷ 2 ∷ []) ∷ (0x7C ∷ 0x45 ∷ 0x22 ∷ []) ∷ [],
+      says [] ∷ unit (0x41 ∷ 1 ∷ 2 ∷ []) ∷ unit (0x65 ∷ 0x11 ∷ 0x22 ∷ []) ∷ [],
+    )
     ∷ (
       (0x7C ∷ 0x85 ∷ 0x11 ∷ []) ∷ (0x41 ∷ 1 ∷ 2 ∷ []) ∷ (0x18 ∷ 0 ∷ 1 ∷ 0x41 ∷ []) ∷ (0x0A ∷ []) ∷ (0x7C ∷ 0x45 ∷ 0x22 ∷ []) ∷ [],
       says [] ∷ unit (0x41 ∷ 1 ∷ 2 ∷ []) ∷ unit (0x41 ∷ []) ∷ refuse 4 ∷ unit (0x65 ∷ 0x11 ∷ 0x22 ∷ []) ∷ [],

@@ -13,16 +13,14 @@ use Rattle.wire.specs.Packets.{joined}
 use Rattle.rfc6184.specs.Sending.{Each, Nal, octetsOf, Part, payloadsOfAll, bodyOf, FormedSending}
 use Rattle.rfc6184.proofs.Each.{each-append, each-by, each-map}
 use Rattle.rfc6184.proofs.Octets.{length-octets}
-use Rattle.h264.specs.declared.kind.Kind.{Kind}
-use Rattle.h264.specs.declared.kind.Kind.the-variants.{Empty, Dropped, Sps, Pps, Coded}
 use Rattle.h264.specs.Units.{unitsAt}
-use Rattle.h264.specs.Groups.{Saved, nothingSaved, Group, pair, plain, fragments, kindOf, keep, keepAll, groupsOf, packetsOfGroup, packetsOf}
-use Rattle.h264.specs.Conformance.{Octets, SavedOctets, nal, part, fragmented, sendingOf, cleared, rebuilt, nalsOfAll, Divided, Sendable, unitsIn, codedKind, goesOut, thoseThat}
-use Rattle.h264.specs.Frames.{groupsFrom, groupsSent, WhereCoded}
+use Rattle.h264.specs.Groups.{Saved, nothingSaved, Group, pair, plain, fragments, fateOf, keep, keepAll, groupsOf, packetsOfGroup, packetsOf}
+use Rattle.h264.specs.Conformance.{Octets, SavedOctets, nal, part, fragmented, sendingOf, cleared, rebuilt, nalsOfAll, Divided, Sendable, unitsIn, isCoded, goesOut, thoseThat}
+use Rattle.h264.specs.Frames.{groupsFrom, groupsSent}
 use Rattle.h264.proofs.Fits.{sendable, group-fits}
 use Rattle.h264.proofs.LeftOut.{left-out}
 use Rattle.h264.proofs.Conforms.{Headed, group-laid, group-units, group-formed, keep-octets, groups-headed, all-laid, all-units}
-use Rattle.h264.proofs.FrameUnits.{unitsAt-short, unitsAt-octets, those-coded}
+use Rattle.h264.proofs.FrameUnits.{unitsAt-octets, those-short}
 use Rattle.h264_packet.specs.Depacketize.{depacketized}
 use Rattle.h264_rfc.specs.Reading.{fresh, Hears, lastly, handedAs, expected, Some, Taken, gatheredOf, Room}
 use Rattle.h264_rfc.specs.Sent.{Readable, FrameOk, GroupRoom, backFrom, back, codedNals, codedUnits}
@@ -33,18 +31,6 @@ use Rattle.h264_rfc.proofs.Complete.{complete, handed-in-order}
 -- a unit that goes out is readable, and no longer than a frame may be
 abbrev Good : List ℕ → Type 0
 Good u = Readable u × (length u ≤ 16777216)
-
-good : (k : Kind) (u : List ℕ) → WhereCoded Readable k u → length u ≤ 16777216 → WhereCoded Good k u
-good Empty u w h = tt
-good Dropped u w h = tt
-good Sps u w h = tt
-good Pps u w h = tt
-good Coded u w h = (w, h)
-
-all-good : (us : List (List ℕ)) → Each (λ (u : List ℕ). WhereCoded Readable (kindOf u) u) us → Each (λ (u : List ℕ). length u ≤ 16777216) us →
-    Each (λ (u : List ℕ). WhereCoded Good (kindOf u) u) us
-all-good [] w h = tt
-all-good (u ∷ us) w h = (good (kindOf u) u (w .0) (h .0), all-good us (w .1) (h .1))
 
 -- ---- every group is a sending that is taken
 
@@ -109,9 +95,7 @@ frame-fine mtu v frame o ok =
     let us : List (List ℕ) = unitsAt mtu frame in
     fine-groups mtu (groupsOf mtu v us) (sendable mtu v us) (groups-headed mtu v us o (unitsAt-octets mtu frame (ok .bytes)))
     (subst (Each Good) (sym (left-out mtu v us))
-    (those-coded Good mtu us
-    (all-good us (ok .units)
-    (each-by (λ (u : List ℕ). length u ≤ 16777216) (λ (u : List ℕ). length u ≤ length frame) (λ u h. omega (arith, ok .short)) us (unitsAt-short mtu frame)))))
+    (those-short Readable mtu 16777216 frame (ok .short) (ok .units)))
 
 frames-fine : (mtu : ℕ) (v : Saved) (frames : List (List ℕ)) → SavedOctets v → Each (FrameOk mtu) frames → Each (Fine mtu) (groupsFrom mtu v frames)
 frames-fine mtu v [] o ok = tt
@@ -200,16 +184,16 @@ module _ (mtu : ℕ) where
 
   module _ (three : 3 ≤ mtu) where
     -- "under mtu 3 it is dropped"; from 3 on no coded unit is
-    all-go-out : (us : List (List ℕ)) → thoseThat (goesOut mtu) us ≡ thoseThat (λ (u : List ℕ). codedKind (kindOf u)) us
+    all-go-out : (us : List (List ℕ)) → thoseThat (goesOut mtu) us ≡ thoseThat (λ (u : List ℕ). isCoded (fateOf u)) us
     all-go-out [] = refl
     all-go-out (u ∷ us) =
         ap₂ (λ (t : Bool) (l : List (List ℕ)). cond t (u ∷ l) l)
-        (ap (λ (t : Bool). codedKind (kindOf u) && (leb (length u) mtu || t)) (le-leb 3 mtu three)
-        ∙ ap (λ (t : Bool). codedKind (kindOf u) && t) (or-true (leb (length u) mtu))
-        ∙ and-true (codedKind (kindOf u)))
+        (ap (λ (t : Bool). isCoded (fateOf u) && (leb (length u) mtu || t)) (le-leb 3 mtu three)
+        ∙ ap (λ (t : Bool). isCoded (fateOf u) && t) (or-true (leb (length u) mtu))
+        ∙ and-true (isCoded (fateOf u)))
         (all-go-out us)
 
-    frame-back : (v : Saved) (us : List (List ℕ)) → codedNals (groupsOf mtu v us) ≡ map (back mtu) (thoseThat (λ (u : List ℕ). codedKind (kindOf u)) us)
+    frame-back : (v : Saved) (us : List (List ℕ)) → codedNals (groupsOf mtu v us) ≡ map (back mtu) (thoseThat (λ (u : List ℕ). isCoded (fateOf u)) us)
     frame-back v us =
         coded-back (groupsOf mtu v us) (sendable mtu v us) ∙ ap (map (back mtu)) (left-out mtu v us ∙ all-go-out us)
 
@@ -217,7 +201,7 @@ module _ (mtu : ℕ) where
     back-from v [] = refl
     back-from v (frame ∷ frames) =
         let us : List (List ℕ) = unitsAt mtu frame in
-        let coded : List (List ℕ) = thoseThat (λ (u : List ℕ). codedKind (kindOf u)) us in
+        let coded : List (List ℕ) = thoseThat (λ (u : List ℕ). isCoded (fateOf u)) us in
         coded-append (groupsOf mtu v us) (groupsFrom mtu (keepAll v us) frames)
         ∙ ap₂ (λ (x y : List Nal). x ++ y) (frame-back v us) (back-from (keepAll v us) frames)
         ∙ sym (map-append (back mtu) coded (codedUnits mtu frames))

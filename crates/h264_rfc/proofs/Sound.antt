@@ -11,7 +11,6 @@ use lib.Dec.{ltb}
 use lib.ListN.{length, take, drop, getD, length-map, take-append-drop}
 use lib.Seq.{length-take-le}
 use borrow.Author.Tests.{ltb-false, eqb-true, eqb-false}
-use Rattle.error.specs.Refusal.{Refusal}
 use Rattle.error.specs.Said.{Said, says, refused, refuse}
 use Rattle.wire.specs.Net.{be16}
 use Rattle.wire.specs.Turns.{more, done, after, run}
@@ -20,21 +19,22 @@ use Rattle.wire.proofs.Part.{part-of-splice}
 use Rattle.nal.specs.Kind.{Shape, short, unknown, plain, aggregate, shape, bit}
 use Rattle.nal.specs.Kind as kind
 use Rattle.nal.specs.Unpack.{Unpacking, unpackTurn, unpack, sizedUnits}
-use Rattle.nal.specs.Fed.{Fed, gathered, prefixed, ongoing, finished, Laid}
+use Rattle.nal.specs.Fed.{gathered, runOf, Fed, ongoing, finished, prefixed, Laid}
 use Rattle.nal.specs.Ran.{RanOn, layRun}
+use Rattle.nal.proofs.Refusing.{not-says}
 use Rattle.nal.proofs.Running.{run-beside}
 use Rattle.nal.proofs.Unpacking.{Units}
 use Rattle.nal.proofs.Shapes.{Facts, PlainFacts, FragmentFacts, told}
 use Rattle.rfc6184.specs.Sending.{Each, Nal, octet, octetsOf, nalOf, Part, fragment, UnitType, Sized}
 use Rattle.rfc6184.proofs.Octets.{formed-fields, octets-of-nal}
 use Rattle.h264.specs.Conformance.{Octets}
-use Rattle.h264_packet.specs.Depacketize.{beside, gatheredOn, readBy, runOf, readPayload, depacketized}
+use Rattle.h264_packet.specs.Depacketize.{beside, gatheredOn, readBy, readPayload, depacketized}
 use Rattle.h264_packet.proofs.Depacketizing.{gathered-run, length-run}
 use Rattle.h264_rfc.specs.Reading.{gatheredThen, handedBy}
 use Rattle.h264_rfc.specs.Loose.{Loose, looseOctets, LooseFormed, headFrom}
 use Rattle.h264_rfc.specs.Meaning.{SingleUnit, InnerUnit, Inner, a-unit, stray, Stray, Somewhere, Aggregation, AsSent, RunKept, Means, unit-alone, units-together, part-gathered, unit-joined, Sound}
 use Rattle.h264_rfc.proofs.Complete.{aggregated-sized}
-use Rattle.h264_rfc.proofs.Steps.{no-answer, laid, Fits, laid-run, fits-if, by-domain, handed-laid}
+use Rattle.h264_rfc.proofs.Steps.{laid, Fits, laid-run, fits-if, by-domain, handed-laid}
 
 -- ---- a single unit
 
@@ -80,9 +80,6 @@ inner (b ∷ s) small o = by (decLe 1 (b % 32)) (decLe (b % 32) 23)
     by (yes h) (no g) = stray (inr (λ t. g (t .high)))
     by (no h) g = stray (inr (λ t. h (t .low)))
 
-no-units : {r : Refusal} {us : Units} → refused r ≡ says us → ⊥
-no-units e = let z : _≡_ {A = ℕ} 0 1 = cc in omega arith
-
 octets-drop : (n : ℕ) (s : List ℕ) → Octets s → Octets (drop n s)
 octets-drop zero s o = o
 octets-drop (suc n) [] o = tt
@@ -103,11 +100,11 @@ record Ahead (rest : List ℕ) (units all : Units) : Type 0 where
 ahead : (fuel : ℕ) (rest : List ℕ) (units all : Units) → Octets rest →
     run unpackTurn (refuse 18) fuel (record { rest = rest; units = units }) ≡ says all → Ahead rest units all
 unfolding run unpackTurn
-ahead zero rest units all o e = absurd (no-units e)
+ahead zero rest units all o e = absurd (not-says e)
 ahead (suc fuel) [] units all o e =
     let same : units ≡ all = cc in
     record { others = []; are = sym same ∙ sym (append-nil units); octets = refl; kinds = tt }
-ahead (suc fuel) (a ∷ []) units all o e = absurd (no-units e)
+ahead (suc fuel) (a ∷ []) units all o e = absurd (not-says e)
 ahead (suc fuel) (a ∷ b ∷ rest) units all o e =
     go (ltb (length rest) (a * 256 + b)) refl e
     (ahead fuel (drop (a * 256 + b) rest) (units ++ (take (a * 256 + b) rest ∷ [])) all (octets-drop (a * 256 + b) rest (o .1 .1)))
@@ -137,7 +134,7 @@ ahead (suc fuel) (a ∷ b ∷ rest) units all o e =
     go : (t : Bool) → ltb (length rest) n ≡ t →
         after (cond t (done (refused (record { number = 17; carried = n ∷ length rest ∷ [] }))) (more on)) (run unpackTurn (refuse 18) fuel) ≡ says all →
         (run unpackTurn (refuse 18) fuel on ≡ says all → Ahead (drop n rest) (units ++ (take n rest ∷ [])) all) → Ahead (a ∷ b ∷ rest) units all
-    go true q f rec = absurd (no-units f)
+    go true q f rec = absurd (not-says f)
     go false q f rec = longer (ltb-false (length rest) n q) (rec f)
 
 aggregation : (p : List ℕ) (units : Units) → Octets p → length p ≤ 65535 → (3 ≤ length p) × (getD p 0 0 % 32 ≡ 24) → unpack p ≡ says units → Aggregation p units
@@ -271,7 +268,7 @@ module _ (avc : Bool) (n : ℕ) (gather out : List ℕ) (within : n ≤ length g
       layRun avc gather out (beside (runOf n gather) x) .answer ≡ says r → Means avc n gather p (layRun avc gather out (beside (runOf n gather) x))
   aggregate-means p (says units) r o h k u e =
       let b = beside-means units r e in units-together units (aggregation p units o h k u) (b .0) (b .1)
-  aggregate-means p (refused why) r o h k u e = absurd (no-answer e)
+  aggregate-means p (refused why) r o h k u e = absurd (not-says e)
 
   fragment-means : (p : List ℕ) (first last : Bool) (head : ℕ) (r : RanOn) → Octets p → length p ≤ 65535 → FragmentFacts p first last head →
       layRun avc gather out (says (gatheredOn (gathered (runOf n gather) ++ drop 2 p) last head)) .answer ≡ says r →
@@ -302,8 +299,8 @@ module _ (avc : Bool) (n : ℕ) (gather out : List ℕ) (within : n ≤ length g
 
   means : (s : Shape) (p : List ℕ) (r : RanOn) → Octets p → length p ≤ 65535 → Facts p s → layRun avc gather out (readBy s (runOf n gather) p) .answer ≡ says r →
       Means avc n gather p (layRun avc gather out (readBy s (runOf n gather) p))
-  means short p r o h k e = absurd (no-answer e)
-  means (unknown t) p r o h k e = absurd (no-answer e)
+  means short p r o h k e = absurd (not-says e)
+  means (unknown t) p r o h k e = absurd (not-says e)
   means plain p r o h k e = let b = beside-means (p ∷ []) r e in unit-alone (single-unit p o k) (b .0) (b .1)
   means aggregate p r o h k e = aggregate-means p (unpack p) r o h k refl e
   means (kind.fragment first last head) p r o h k e = fragment-means p first last head r o h k e
@@ -311,5 +308,5 @@ module _ (avc : Bool) (n : ℕ) (gather out : List ℕ) (within : n ≤ length g
 pub sound : Sound depacketized
 unfolding readPayload
 sound avc n p gather out r o =
-    by-domain (λ (l : Laid RanOn). l .answer ≡ says r → Means avc n gather p l) avc n p gather out (λ e. absurd (no-answer e))
+    by-domain (λ (l : Laid RanOn). l .answer ≡ says r → Means avc n gather p l) avc n p gather out (λ e. absurd (not-says e))
     (λ few within small. means avc n gather out within small (shape p) p r o few (told p))

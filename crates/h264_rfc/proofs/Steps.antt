@@ -12,16 +12,14 @@ use Rattle.error.specs.Refusal.{Refusal}
 use Rattle.error.specs.Said.{says, refused, refuse}
 use Rattle.wire.specs.Part.{splice}
 use Rattle.wire.proofs.Part.{length-splice, part-of-splice}
-use Rattle.nal.specs.Fed.{gathered, Fed, prefixed, Laid, layFed}
+use Rattle.nal.specs.Fed.{gathered, runOf, Fed, prefixed, Laid, layFed}
 use Rattle.nal.specs.Ran.{RanOn, withRun, layRun}
+use Rattle.nal.proofs.Refusing.{not-says}
 use Rattle.nal.proofs.Handing.{bytes-short, bytes-fit, fed-long, fed-by}
 use Rattle.rfc6184.specs.Sending.{Each}
-use Rattle.h264_packet.specs.Depacketize.{runOf, readPayload, depacketized}
+use Rattle.h264_packet.specs.Depacketize.{readPayload, depacketized}
 use Rattle.h264_packet.proofs.Depacketizing.{read-outside, read-inside}
 use Rattle.h264_rfc.specs.Reading.{Reader, State, next, calls, behind, handedBy, Answered, Hears}
-
-pub no-answer : {r : Refusal} {a : RanOn} → refused r ≡ says a → ⊥
-no-answer e = let z : _≡_ {A = ℕ} 0 1 = cc in omega arith
 
 -- what a call leaves that does f
 abbrev pub laid : Bool → List ℕ → List ℕ → Fed → Laid RanOn
@@ -49,7 +47,7 @@ module _ (avc : Bool) (gather out : List ℕ) (f : Fed) where
   fits-if r e = by (decLe (length (f .kept)) (length gather)) (decLe (length (f .kept)) 16777215) (decLe (length (prefixed avc (f .handed))) (length out))
     where
       not-said : (l : Laid ℕ) (n : ℕ) → layFed avc gather out f ≡ l → l .answer ≡ refuse n → ⊥
-      not-said l n q a = no-answer (sym (ap (λ (x : Laid ℕ). withRun (length (gathered (f .run))) (x .answer)) q ∙ ap (withRun (length (gathered (f .run)))) a) ∙ e)
+      not-said l n q a = not-says (sym (ap (λ (x : Laid ℕ). withRun (length (gathered (f .run))) (x .answer)) q ∙ ap (withRun (length (gathered (f .run)))) a) ∙ e)
 
       long : (length gather < length (f .kept)) ⊎ (16777215 < length (f .kept)) → ⊥
       long h = not-said (record { answer = refuse 6; gather = gather; out = out }) 6 (fed-long avc gather out f h) refl

@@ -6,8 +6,8 @@ use lib.Dec.{leb}
 use lib.ListN.{length}
 use Rattle.rfc6184.specs.Sending.{Each, Nal, UnitType}
 use Rattle.h264.specs.Units.{unitsAt}
-use Rattle.h264.specs.Groups.{Group, pair, plain, fragments, kindOf, packetsOfGroup}
-use Rattle.h264.specs.Conformance.{Octets, nal, cleared, rebuilt, sendingOf, nalsOf, codedKind, thoseThat}
+use Rattle.h264.specs.Groups.{Group, pair, plain, fragments, fateOf, packetsOfGroup}
+use Rattle.h264.specs.Conformance.{Octets, nal, cleared, rebuilt, sendingOf, nalsOf, isCoded, thoseThat}
 use Rattle.h264.specs.Frames.{WhereCoded}
 use Rattle.h264_rfc.specs.Reading.{lastly, handedAs, gatheredOf}
 
@@ -22,7 +22,7 @@ pub record Readable (u : List ℕ) : Type 0 where
 pub record FrameOk (mtu : ℕ) (frame : List ℕ) : Type 0 where
   pub bytes : Octets frame
   pub short : length frame ≤ 16777216
-  pub units : Each (λ (u : List ℕ). WhereCoded Readable (kindOf u) u) (unitsAt mtu frame)
+  pub units : Each (λ (u : List ℕ). WhereCoded Readable (fateOf u) u) (unitsAt mtu frame)
 
 pub record GroupRoom (avc : Bool) (gather : ℕ) (outs : ℕ → List ℕ) (g : Group) : Type 0 where
   -- "Room: gather for the longest unit less one byte"
@@ -51,4 +51,4 @@ codedNals (fragments head first middle last ∷ gs) = cleared (nal (rebuilt head
 -- the units of frames, in order, without empty ones, types 9 and 12, and the sets that are saved
 abbrev pub codedUnits : ℕ → List (List ℕ) → List (List ℕ)
 codedUnits mtu [] = []
-codedUnits mtu (frame ∷ frames) = thoseThat (λ (u : List ℕ). codedKind (kindOf u)) (unitsAt mtu frame) ++ codedUnits mtu frames
+codedUnits mtu (frame ∷ frames) = thoseThat (λ (u : List ℕ). isCoded (fateOf u)) (unitsAt mtu frame) ++ codedUnits mtu frames

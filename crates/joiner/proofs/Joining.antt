@@ -22,12 +22,13 @@ use Rattle.packet.specs.Read.{Payload, PacketReading, behind, readPacket}
 use Rattle.packet.specs.Said.{Heard, readingHeard}
 use Rattle.packet.proofs.Reading.{payload-inside}
 use Rattle.sequence.specs.Number.{distanceOf}
-use Rattle.nal.specs.Fed.{none, gathered, Fed, OutLaid, Laid, layFed}
+use Rattle.nal.specs.Fed.{none, gathered, runOf, Fed, OutLaid, Laid, layFed}
 use Rattle.nal.specs.Ran.{RanOn, withRun, layRun}
+use Rattle.nal.proofs.Refusing.{not-says}
 use Rattle.nal.proofs.Running.{run-beside, nothing-out}
 use Rattle.joiner.specs.declared.Joiner.{Joiner}
 use Rattle.joiner.specs.Codec.{idle, feed}
-use Rattle.joiner.specs.Join.{runOf, runAt, outside, Stepped, late, unchanged, laidBy, fedBy, byDistance, bySource, byReading, joinStep, ClosingStepped, shut, closeBy, closeStep}
+use Rattle.joiner.specs.Join.{runAt, outside, Stepped, late, unchanged, laidBy, fedBy, byDistance, bySource, byReading, joinStep, ClosingStepped, shut, closeBy, closeStep}
 use Rattle.joiner.specs.Said.{Arrived, arrivalOf, acceptedJoiner, acceptedAnswer}
 
 -- ---- a packet
@@ -74,21 +75,13 @@ module _ (x : Said PacketReading) where
           sym e ∙ ap arrivalOf is in
           let same : a ≡ record { source = r .fields .source; number = r .fields .number; place = r .payload .place; len = r .payload .len } = cc in
           (r, is, same)
-      go (refused n) is =
-          let q : says a ≡ refused n = sym e ∙ ap arrivalOf is in
-          let z : _≡_ {A = ℕ} 0 1 = cc in
-          absurd (omega arith)
+      go (refused n) is = absurd (not-says (sym (ap arrivalOf is) ∙ e))
 
   pub came-refused : (n : Refusal) → arrivalOf x ≡ refused n → x ≡ refused n
   came-refused n e = go x refl
     where
       go : (y : Said PacketReading) → x ≡ y → x ≡ refused n
-      go (says r) is =
-          let q : _≡_ {A = Said Arrived} (refused n)
-          (says (record { source = r .fields .source; number = r .fields .number; place = r .payload .place; len = r .payload .len })) =
-          sym e ∙ ap arrivalOf is in
-          let z : _≡_ {A = ℕ} 0 1 = cc in
-          absurd (omega arith)
+      go (says r) is = absurd (not-says (sym e ∙ ap arrivalOf is))
       go (refused m) is =
           let q : refused n ≡ refused m = sym e ∙ ap arrivalOf is in
           let same : m ≡ n = cc in
@@ -108,10 +101,7 @@ arrived-short s a e =
     elim (decLe (length s) 65535) [
       | yes h ↦ h
       | no h ↦
-          let q : _≡_ {A = Said Arrived} (refuse 8) (says a) =
-          sym (ap (λ (r : Said Reading). arrivalOf (behind s r)) (header-long s (lt-of-not-le h))) ∙ e in
-          let z : _≡_ {A = ℕ} 0 1 = cc in
-          absurd (omega arith)
+          absurd (not-says (sym (ap (λ (r : Said Reading). arrivalOf (behind s r)) (header-long s (lt-of-not-le h))) ∙ e))
     ]
 
 module _ (j : Joiner) (packet gather out : List ℕ) where

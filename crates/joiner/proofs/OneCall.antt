@@ -4,7 +4,7 @@ use mathlib.Core.Path.{_≡_, refl, sym, ap, ap₂, subst, subst₂, _∙_}
 use mathlib.Core.Bool.{Bool, true, false, cond, _||_, true≢false}
 use mathlib.Core.Logic.{_⊎_, inl, inr}
 use mathlib.Core.List.{List, [], _∷_, _++_, map, append-nil}
-use Prim.Native.Nat.{ℕ, _+_, _-_, _≤_}
+use Prim.Native.Nat.{ℕ, _+_, _≤_}
 use native.Mathlib.Nat.{add-zero}
 use native.Mathlib.Omega.{arith}
 use lib.Dec.{ltb, leb, eqb}
@@ -18,8 +18,9 @@ use Rattle.wire.proofs.Part.{part-of-splice, length-splice}
 use Rattle.packet.specs.Read.{PacketReading, readPacket}
 use Rattle.nal.specs.Kind.{Shape, short, unknown, plain, aggregate, fragment, shape}
 use Rattle.nal.specs.Unpack.{unpack}
-use Rattle.nal.specs.Fed.{Run, none, gathering, gathered, prefixed, tooLong, gatherAfter, layBytes, Laid, layFed, ongoing}
+use Rattle.nal.specs.Fed.{Run, none, gathering, gathered, runOf, ongoing, prefixed, layBytes, Laid, tooLong, gatherAfter, layFed}
 use Rattle.nal.specs.Fed as nal
+use Rattle.nal.proofs.Refusing.{not-says}
 use Rattle.nal.proofs.Handing.{length-prefixed}
 use Rattle.nal.proofs.Shapes.{fragment-long}
 use Rattle.sequence.specs.Number.{distanceOf, nextOf}
@@ -31,7 +32,7 @@ use Rattle.sequence.specs.Joiner as any
 use Rattle.sequence.proofs.Feeding.{lostIn-holes, feed-holes, feed-only-holes}
 use Rattle.joiner.specs.declared.Joiner.{Joiner}
 use Rattle.joiner.specs.Codec.{feedBy, feed, handedOut, fragmented, continued}
-use Rattle.joiner.specs.Join.{runOf, outside, Accepted, Answer, Stepped, unchanged, laidBy, fedBy, runAt, byDistance, bySource, byReading, joinStep, ClosingStepped, closeStep}
+use Rattle.joiner.specs.Join.{outside, Accepted, Answer, Stepped, unchanged, laidBy, fedBy, runAt, byDistance, bySource, byReading, joinStep, ClosingStepped, closeStep}
 use Rattle.joiner.specs.Join as join
 use Rattle.joiner.specs.General.{Units, Room, refusing, groupIn, within, h264, heardFrom, parts, standing, handedBytes, seenBy, asBytes, closingSaid, closingSeen}
 use Rattle.joiner.proofs.Joining.{closing-cases}
@@ -41,9 +42,6 @@ use Rattle.joiner.proofs.Joining.{closing-cases}
 -- an open run is what was kept, and it is not empty
 abbrev Kept : nal.Fed → Type 0
 Kept f = (f .run ≡ none) ⊎ ((f .run ≡ gathering (f .kept)) × (1 ≤ length (f .kept)))
-
-not-says : {A : Type 0} {r : Refusal} {x : A} → refused r ≡ says x → ⊥
-not-says e = let z : _≡_ {A = ℕ} 0 1 = cc in omega arith
 
 fed-is : {a f : nal.Fed} → says a ≡ says f → a ≡ f
 fed-is e = cc

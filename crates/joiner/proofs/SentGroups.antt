@@ -3,7 +3,7 @@
 use mathlib.Core.Path.{_≡_, refl, sym, ap, subst, _∙_}
 use mathlib.Core.Bool.{Bool, true, false}
 use mathlib.Core.List.{List, [], _∷_, _++_, map, append-nil, append-assoc}
-use Prim.Native.Nat.{ℕ, _+_, _-_, _*_, _/_, _%_, _≤_}
+use Prim.Native.Nat.{ℕ, _+_, _*_, _/_, _%_, _≤_}
 use native.Mathlib.Omega.{arith}
 use lib.Dec.{ltb}
 use lib.ListN.{length, length-append}
@@ -30,12 +30,12 @@ use Rattle.joiner.specs.Sent as sent
 
 -- ---- the shapes of what is sent
 
-shape-stapA : (u : List ℕ) (us : Units) → shape (stapA (u ∷ us)) ≡ aggregate
+shape-stapA : (head : ℕ) (u : List ℕ) (us : Units) → head % 32 ≡ 24 → shape (stapA head (u ∷ us)) ≡ aggregate
 unfolding stapA be16
-shape-stapA u us = shape-aggregate (0x78 ∷ sizedUnits (u ∷ us)) (omega arith) refl
+shape-stapA head u us t = shape-aggregate (head ∷ sizedUnits (u ∷ us)) (omega arith) t
 
 -- the first byte of the unit: "NRI and type"
-head-of : (head bits : ℕ) → bits % 32 ≡ 0 → headOf (head / 32 % 4 * 32 + 28) (bits + head % 32) ≡ head % 128
+head-of : (head bits : ℕ) → bits % 32 ≡ 0 → headOf (head / 32 % 8 * 32 + 28) (bits + head % 32) ≡ head % 128
 head-of head bits e = omega arith
 
 shape-fuA : (head bits : ℕ) (part : List ℕ) (first last : Bool) → 1 ≤ length part → bits % 32 ≡ 0 →
@@ -43,7 +43,7 @@ shape-fuA : (head bits : ℕ) (part : List ℕ) (first last : Bool) → 1 ≤ le
     shape (fuA head bits part) ≡ fragment first last (head % 128)
 unfolding fuA
 shape-fuA head bits part first last h e f l =
-    shape-fragment ((head / 32 % 4 * 32 + 28) ∷ (bits + head % 32) ∷ part) (omega arith) (omega arith)
+    shape-fragment ((head / 32 % 8 * 32 + 28) ∷ (bits + head % 32) ∷ part) (omega arith) (omega arith)
     ∙ rw (f, l, head-of head bits e)
 
 module _ (head : ℕ) (part : List ℕ) (h : 1 ≤ length part) where
@@ -68,10 +68,11 @@ feed-alone : (run : Run) (u : List ℕ) → PlainUnit u → feed run u ≡ hande
 unfolding feed
 feed-alone run u p = ap (λ (s : Shape). feedBy s run u) (shape-plain u (p .long) (p .type-low) (p .type-high))
 
-feed-stapA : (run : Run) (u : List ℕ) (us : Units) → Sized (u ∷ us) → feed run (stapA (u ∷ us)) ≡ handedOut (says (u ∷ us))
+feed-stapA : (run : Run) (head : ℕ) (u : List ℕ) (us : Units) → head % 32 ≡ 24 → Sized (u ∷ us) →
+    feed run (stapA head (u ∷ us)) ≡ handedOut (says (u ∷ us))
 unfolding feed stapA
-feed-stapA run u us w =
-    ap (λ (s : Shape). feedBy s run (stapA (u ∷ us))) (shape-stapA u us) ∙ ap handedOut (unpack-sized 0x78 (u ∷ us) w)
+feed-stapA run head u us t w =
+    ap (λ (s : Shape). feedBy s run (stapA head (u ∷ us))) (shape-stapA head u us t) ∙ ap handedOut (unpack-sized head (u ∷ us) w)
 
 feed-fuA : (run : Run) (head bits : ℕ) (part : List ℕ) (first last : Bool) → shape (fuA head bits part) ≡ fragment first last (head % 128) →
     feed run (fuA head bits part) ≡ fragmented run first last (head % 128) part
@@ -138,7 +139,8 @@ module _ (most largest : ℕ) (bounded : most ≤ 16777215) where
   -- ---- any list of groups
 
   pub owes : (s : Sent) → Lawful s → gatheredOf s ≤ most → Owes h264 (Enough most largest) (groupOf s)
-  owes (aggregated unit others) w h = owes-one (stapA (unit ∷ others)) unit others (λ run. feed-stapA run unit others w)
+  owes (aggregated head unit others) w h =
+      owes-one (stapA head (unit ∷ others)) unit others (λ run. feed-stapA run head unit others (w .0) (w .1))
   owes (alone unit) w h = owes-one unit unit [] (λ run. feed-alone run unit w)
   owes (sent.fragmented head first between last) w h = owes-fragmented head first between last (w .0) (w .1) h
 

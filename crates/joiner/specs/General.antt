@@ -11,14 +11,14 @@ use Rattle.wire.specs.Part.{part}
 use Rattle.wire.specs.Packets.{joined}
 use Rattle.packet.specs.Read.{PacketReading, readPacket}
 use Rattle.nal.specs.Fed as nal
-use Rattle.nal.specs.Fed.{Run, none, prefixed}
+use Rattle.nal.specs.Fed.{Run, none, runOf, prefixed}
 use Rattle.sequence.specs.Rule.{plain}
 use Rattle.sequence.specs.Codec.{Fed, refusal, fed, Codec}
 use Rattle.sequence.specs.Joiner.{Heard, notOurs, numbered, Parts, State, refuses, tooLate, takes, notShut, shut}
 use Rattle.sequence.specs.Joiner as any
 use Rattle.joiner.specs.declared.Joiner.{Joiner}
 use Rattle.joiner.specs.Codec.{feed}
-use Rattle.joiner.specs.Join.{runOf, Accepted, Answer, accepted, late, ClosingStepped}
+use Rattle.joiner.specs.Join.{Accepted, Answer, accepted, late, ClosingStepped}
 
 -- the units that are handed out together
 abbrev pub Units : Type 0

@@ -1,24 +1,20 @@
--- The joiner, step by step: "Each call does, in order: 22; packet reading; 20; distance d; d of 32,768 or more answers Late,
+-- The joiner, step by step: "Each call does, in order: 22; packet reading; 20; distance d .. d of 32,768 or more answers Late,
 -- unchanged; 24; H.264 checks", 8 after 22; then "the packet is accepted: missed grows by d, awaited is the number plus 1, and d > 0
 -- drops the open run." Assumes nothing.
 use mathlib.Core.Bool.{Bool, true, false, cond, _||_}
 use mathlib.Core.List.{List}
 use Prim.Native.Nat.{ℕ, _+_}
 use lib.Dec.{ltb, leb, eqb}
-use lib.ListN.{length, take}
+use lib.ListN.{length}
 use Rattle.error.specs.Said.{Said, says, refused, refuse}
 use Rattle.wire.specs.Part.{part}
 use Rattle.packet.specs.Read.{PacketReading, readPacket}
 use Rattle.sequence.specs.Number.{distanceOf, nextOf}
-use Rattle.nal.specs.Fed.{Run, none, gathering, gathered, Fed, Laid, layFed}
+use Rattle.nal.specs.Fed.{Run, none, gathered, runOf, Fed, Laid, layFed}
 use Rattle.joiner.specs.declared.Joiner.{Joiner}
 use Rattle.joiner.specs.Codec.{feed}
 
 -- ---- the record
-
--- the run that a record and the gather buffer stand for
-abbrev pub runOf : ℕ → List ℕ → Run
-runOf n gather = cond (eqb n 0) none (gathering (take n gather))
 
 -- "counts and lengths in a record that lie within .. the lent buffers"
 abbrev pub outside : ℕ → List ℕ → Bool

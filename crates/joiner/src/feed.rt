@@ -6,7 +6,7 @@ ghost use mathlib.Core.Bool.{false};
 ghost use Rattle.nal.specs.Ran.{ranHeard, layRun};
 ghost use Rattle.joiner.specs.Codec.{fragmented};
 ghost use Rattle.joiner.specs.Codec.{feed as feedOf};
-ghost use Rattle.joiner.specs.Join.{runOf};
+ghost use Rattle.nal.specs.Fed.{runOf};
 use error::Error;
 use nal::Kind;
 use nal::Ran;

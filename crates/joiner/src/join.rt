@@ -20,7 +20,7 @@ use crate::feed::feed;
 use error::Error;
 use nal::Ran;
 
-fn wide(n: u32, d: u16) -> u64
+fn sum(n: u32, d: u16) -> u64
     ensures { λ r. ⌜ r ≡ n + d ⌝ }
 {
     n as u64 + d as u64
@@ -90,7 +90,7 @@ impl Joiner {
                 answer: Joined::Late,
             };
         }
-        let missed = wide(self.missed, d);
+        let missed = sum(self.missed, d);
         if 4294967295 < missed {
             return Step {
                 joiner: self,
@@ -152,7 +152,7 @@ impl Joiner {
         if 32768 <= d {
             return still_open(self, Error::ClosingTooFar);
         }
-        let missed = wide(self.missed, d);
+        let missed = sum(self.missed, d);
         if 4294967295 < missed {
             return still_open(self, Error::MissedTotalFull);
         }

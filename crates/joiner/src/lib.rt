@@ -20,6 +20,7 @@ pub struct Joiner {
     pub missed: u32,
     // how many bytes of the open run stand in front of the gather buffer; 0 where no run is open: 0 to 16,777,215
     pub gathered: usize,
+    // closed: every call answers 22
     pub closed: bool,
 }
 

@@ -15,7 +15,7 @@ use Rattle.wire.specs.Part.{splice}
 use Rattle.wire.specs.Packets.{joined}
 use Rattle.wire.proofs.Net.{length-be32}
 use Rattle.wire.proofs.Part.{splice-on, splice-push, splice-from, take-through}
-use Rattle.nal.specs.Fed.{Fed, prefixFor, prefixOf, prefixed, OutLaid, layBytes, tooLong, GatherLaid, layGather, gatherAfter, Laid, layFed}
+use Rattle.nal.specs.Fed.{Fed, prefixFor, prefixOf, prefixed, OutLaid, layBytes, tooLong, layGather, gatherAfter, Laid, layFed}
 
 pub length-prefixFor : (avc : Bool) (n : ℕ) → length (prefixFor avc n) ≡ 4
 length-prefixFor false n = refl

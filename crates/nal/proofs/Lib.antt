@@ -1,3 +1,4 @@
+pub mod Refusing
 pub mod Handing
 pub mod Unpacking
 pub mod Running

@@ -1,9 +1,9 @@
 -- What a payload does to both buffers, from what it does to one. Assumes nothing.
 use mathlib.Core.Path.{_≡_, refl, sym, ap, _∙_}
-use mathlib.Core.Bool.{Bool, true, false}
-use mathlib.Core.List.{List, [], _∷_, _++_, append-nil}
+use mathlib.Core.Bool.{Bool}
+use mathlib.Core.List.{List, [], append-nil}
 use mathlib.Core.Logic.{_⊎_, inl, inr}
-use Prim.Native.Nat.{ℕ, _+_, _≤_, _<_}
+use Prim.Native.Nat.{ℕ, _≤_, _<_}
 use native.Mathlib.Decide.{decLe}
 use native.Mathlib.Nat.{lt-of-not-le}
 use native.Mathlib.Omega.{arith}
@@ -12,7 +12,7 @@ use lib.Seq.{length-take-le}
 use Rattle.error.specs.Said.{Said, says, refused}
 use Rattle.wire.specs.Part.{splice}
 use Rattle.wire.proofs.Part.{splice-nothing, splice-from}
-use Rattle.nal.specs.Fed.{Run, gathered, Fed, prefixed, OutLaid, layBytes, GatherLaid, layGather, gatherAfter, Laid, layFed, ongoing, finished}
+use Rattle.nal.specs.Fed.{Run, gathered, Fed, prefixed, layBytes, GatherLaid, layGather, gatherAfter, Laid, layFed, ongoing, finished}
 use Rattle.nal.specs.Ran.{handing, RanOn, withRun, layRun, OutRan, layUnits}
 use Rattle.nal.proofs.Handing.{bytes-fit, gather-long, gather-fits, fed-long, fed-by}
 

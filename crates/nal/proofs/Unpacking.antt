@@ -19,6 +19,7 @@ use Rattle.wire.specs.Turns.{more, done, after, run}
 use Rattle.wire.specs.Part.{splice}
 use Rattle.wire.proofs.Part.{drop-front, drop-two, splice-nothing, splice-on}
 use Rattle.wire.proofs.Turns.{run-more, run-done}
+use Rattle.nal.proofs.Refusing.{not-says}
 use Rattle.nal.proofs.Handing.{joined-append, prefixed-append, prefixed-one, length-unit}
 use Rattle.nal.specs.Fed.{prefixOf, prefixed}
 use Rattle.nal.specs.Said.{Room, Measure, measureOf}
@@ -89,9 +90,6 @@ module _ (s : List ℕ) (goal : Said Units) (at : ℕ) (units : Units) (g : Goin
 
 -- ---- what was read stays
 
-not-refused : {r : Refusal} {us : Units} → refused r ≡ says us → ⊥
-not-refused e = let z : _≡_ {A = ℕ} 0 1 = cc in omega arith
-
 -- the units of the whole begin with those read already
 pub record Begins (all units : Units) : Type 0 where
   pub others : Units
@@ -100,7 +98,7 @@ pub record Begins (all units : Units) : Type 0 where
 -- a turn that did not refuse went on
 went-on : (t : Bool) (r : Refusal) (next : Unpacking) (go : Unpacking → Said Units) (all : Units) →
     after (cond t (done (refused r)) (more next)) go ≡ says all → go next ≡ says all
-went-on true r next go all e = absurd (not-refused e)
+went-on true r next go all e = absurd (not-says e)
 went-on false r next go all e = e
 
 fewer : (all units : Units) (u : List ℕ) → Begins all (units ++ (u ∷ [])) → Begins all units
@@ -109,11 +107,11 @@ fewer all units u b = record { others = u ∷ b .others; are = b .are ∙ append
 extends : (fuel : ℕ) (rest : List ℕ) (units all : Units) →
     run unpackTurn (refuse 18) fuel (record { rest = rest; units = units }) ≡ says all → Begins all units
 unfolding run unpackTurn
-extends zero rest units all e = absurd (not-refused e)
+extends zero rest units all e = absurd (not-says e)
 extends (suc fuel) [] units all e =
     let same : units ≡ all = cc in
     record { others = []; are = sym same ∙ sym (append-nil units) }
-extends (suc fuel) (a ∷ []) units all e = absurd (not-refused e)
+extends (suc fuel) (a ∷ []) units all e = absurd (not-says e)
 extends (suc fuel) (a ∷ b ∷ rest) units all e =
     fewer all units (take (a * 256 + b) rest)
     (extends fuel (drop (a * 256 + b) rest) (units ++ (take (a * 256 + b) rest ∷ [])) all
@@ -173,13 +171,13 @@ module _ (s : List ℕ) (all : Units) (at : ℕ) (units : Units) (g : Going s (s
   pub size-there : at + 1 < length s
   size-there =
       elim (decLe (length s) (at + 1))
-      [ yes last ↦ absurd (not-refused (sym (going-cut s (says all) at units g h last))) | no fine ↦ lt-of-not-le fine ]
+      [ yes last ↦ absurd (not-says (sym (going-cut s (says all) at units g h last))) | no fine ↦ lt-of-not-le fine ]
 
   pub size-fits : u16At s at ≤ length s - (at + 2)
   size-fits =
       elim (decLe (u16At s at) (length s - (at + 2))) [
         | yes fine ↦ fine
-        | no over ↦ absurd (not-refused (sym (going-past s (says all) at units g size-there (lt-of-not-le over))))
+        | no over ↦ absurd (not-says (sym (going-past s (says all) at units g size-there (lt-of-not-le over))))
       ]
 
 -- what was written so far is not longer than the whole
@@ -287,11 +285,11 @@ weight-more units u =
 weighs : (fuel : ℕ) (rest : List ℕ) (units all : Units) →
     run unpackTurn (refuse 18) fuel (record { rest = rest; units = units }) ≡ says all → weight all ≤ weight units + length rest
 unfolding run unpackTurn
-weighs zero rest units all e = absurd (not-refused e)
+weighs zero rest units all e = absurd (not-says e)
 weighs (suc fuel) [] units all e =
     let same : units ≡ all = cc in
     rw (sym same) (omega arith)
-weighs (suc fuel) (a ∷ []) units all e = absurd (not-refused e)
+weighs (suc fuel) (a ∷ []) units all e = absurd (not-says e)
 weighs (suc fuel) (a ∷ b ∷ rest) units all e =
     let n : ℕ = a * 256 + b in
     let ih : weight all ≤ weight (units ++ (take n rest ∷ [])) + length (drop n rest) =
@@ -320,12 +318,9 @@ measured s m e = go (unpack s) e
         let g : says m ≡ says (record { count = length us; bytes = length (joined us) }) = sym f in
         let same : m ≡ record { count = length us; bytes = length (joined us) } = cc in
         (refl, ap (λ (x : Measure). x .count) same, ap (λ (x : Measure). x .bytes) same)
-    go (refused r) f = absurd (no-measure f)
-      where
-        no-measure : {r : Refusal} {m : Measure} → refused r ≡ says m → ⊥
-        no-measure q = let z : _≡_ {A = ℕ} 0 1 = cc in omega arith
+    go (refused r) f = absurd (not-says f)
 
 -- a STAP-A that has no measure has no units
 pub unmeasured : (x : Said Units) (r : Refusal) → measureOf x ≡ refused r → x ≡ refused r
-unmeasured (says us) r e = let z : _≡_ {A = ℕ} 0 1 = cc in absurd (omega arith)
+unmeasured (says us) r e = absurd (not-says (sym e))
 unmeasured (refused n) r e = let same : n ≡ r = cc in ap refused same

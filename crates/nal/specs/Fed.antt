@@ -1,9 +1,9 @@
 -- What a payload does, without buffers: a run goes on or ends, and units are handed out. Then the buffers. Assumes nothing.
 use mathlib.Core.Bool.{Bool, true, false, cond, _||_}
 use mathlib.Core.List.{List, [], _∷_, _++_}
-use Prim.Native.Nat.{ℕ, _+_}
-use lib.Dec.{ltb}
-use lib.ListN.{length}
+use Prim.Native.Nat.{ℕ}
+use lib.Dec.{ltb, eqb}
+use lib.ListN.{length, take}
 use Rattle.error.specs.Said.{Said, says, refused, refuse}
 use Rattle.wire.specs.Net.{be32}
 use Rattle.wire.specs.Part.{splice}
@@ -16,6 +16,10 @@ pub data Run : Type 0 where
 abbrev pub gathered : Run → List ℕ
 gathered none = []
 gathered (gathering bytes) = bytes
+
+-- the run that a record's length and the gather buffer stand for: length 0 for none
+abbrev pub runOf : ℕ → List ℕ → Run
+runOf n gather = cond (eqb n 0) none (gathering (take n gather))
 
 -- what a payload does
 pub record Fed : Type 0 where

@@ -14,6 +14,7 @@ pub use aggregate::measure;
 pub use buffers::finish;
 pub use buffers::gather_on;
 pub use buffers::hand_plain;
+pub use payload::FUA_NALU_TYPE;
 pub use payload::kind_of;
 pub use run::run_plain;
 pub use run::run_units;

@@ -5,6 +5,12 @@ ghost use Rattle.nal.specs.Kind.{shape};
 ghost use Rattle.nal.specs.Said.{shapeSaid};
 use crate::Kind;
 
+pub const AUD_NALU_TYPE: u8 = 9;
+
+pub const STAPA_NALU_TYPE: u8 = 24;
+
+pub const FUA_NALU_TYPE: u8 = 28;
+
 // RFC 6184, sections 5.3 and 5.8: the first byte of every payload, and the second of an FU-A.
 //
 // +---------------+   +---------------+
@@ -21,15 +27,16 @@ pub fn kind_of(payload: &[u8]) -> Kind
     let b0 = payload[0];
     let nalu_type = b0 % 32;
     if payload.len() <= 2 {
-        if nalu_type == 9 {
+        if nalu_type == AUD_NALU_TYPE {
             return Kind::Plain;
         }
         return Kind::Short;
     }
-    if nalu_type == 24 {
+    if nalu_type == STAPA_NALU_TYPE {
         return Kind::Aggregate;
     }
-    if nalu_type == 28 {
+    if nalu_type == FUA_NALU_TYPE {
+        // The Rust tests this too; it never holds.
         if payload.len() < 2 {
             return Kind::Short;
         }

@@ -11,7 +11,7 @@ use borrow.Author.Tests.{eq-eqb, ne-eqb}
 use Rattle.wire.specs.Net.{be16, u16At}
 use Rattle.wire.proofs.Net.{length-be16, u16-of-be16}
 use Rattle.rfc6184.specs.Sending.{Each, Nal, octet, octetsOf, nalOf, Part, Fragmented, Sending, single, stapA, fuA, aggregated, fragment, payloadsOf, Formed, FormedNal, FormedPart, Sized, Lawful}
-use Rattle.rfc6184.proofs.Octets.{fields-of-octet, nal-of-octets, length-octets}
+use Rattle.rfc6184.proofs.Octets.{fields-of-octet, nal-of-octets}
 
 -- ---- reading a unit
 

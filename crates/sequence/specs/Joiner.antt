@@ -127,10 +127,6 @@ module _ {E O : Type 0} where
   handedOut [] = []
   handedOut (a ∷ later) = handedBy a ++ handedOut later
 
-  abbrev pub handedAtEnd : Shut E O → List O
-  handedAtEnd (notShut e) = []
-  handedAtEnd (shut missed out) = out
-
 -- ---- the bytes that arrive
 
 -- a packet of ours arrives as it was sent

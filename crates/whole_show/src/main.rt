@@ -1,5 +1,5 @@
 // Whole shows on the proved functions: frames made by a seed, the sender, its packets, a channel made by a seed, the joiner. Each is
-// held to what the theorem of demand 3 says of it, computed here from the frames and the arrivals alone.
+// held to what the theorem of demand 3 says of it, computed here from the frames' units and the arrivals alone.
 mod account;
 mod channel;
 mod frame;

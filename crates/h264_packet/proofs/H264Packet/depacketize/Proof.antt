@@ -1,18 +1,17 @@
 -- The tests are those of `depacketized`; then the payload's fate is put into the record and the answer.
-use mathlib.Core.Path.{_≡_, refl, sym, ap, ap₂, _∙_}
+use mathlib.Core.Path.{_≡_, sym, ap, _∙_}
 use mathlib.Core.List.{List}
 use mathlib.Core.Logic.{inl, inr}
 use Prim.Native.Nat.{ℕ}
 use lib.ListN.{length}
 use borrow.Author.Needs.{needs}
-use Rattle.error.specs.Refusal.{Refusal, refusalOf}
+use Rattle.error.specs.Refusal.{Refusal}
 use Rattle.error.specs.Said.{Said, says, refused}
 use Rattle.nal.specs.declared.Ran.{Ran}
-use Rattle.nal.specs.Kind.{Shape, shape}
-use Rattle.nal.specs.Fed.{Laid}
-use Rattle.nal.specs.Ran.{RanOn, ranSaid}
+use Rattle.nal.specs.Kind.{Shape}
+use Rattle.nal.specs.Ran.{ranSaid}
 use Rattle.h264_packet.specs.declared.H264Packet.{H264Packet}
-use Rattle.h264_packet.specs.Depacketize.{Showing, nowhere, shownOf, depacketized}
+use Rattle.h264_packet.specs.Depacketize.{Showing, nowhere, shownOf}
 use Rattle.h264_packet.specs.Said.{Heard, readingHeard, depacketizedHeard}
 use Rattle.h264_packet.proofs.Depacketizing.{read-outside, read-inside}
 use Rattle.h264_packet.proofs.H264Packet.depacketize.Statement.{statement}

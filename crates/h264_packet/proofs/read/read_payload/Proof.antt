@@ -1,20 +1,20 @@
 -- By the payload's kind, each as its own function has it.
-use mathlib.Core.Path.{_≡_, refl, sym, ap, ap₂, _∙_}
+use mathlib.Core.Path.{_≡_, sym, ap, _∙_}
 use mathlib.Core.Bool.{Bool}
 use mathlib.Core.List.{List, [], _∷_, _++_}
 use Prim.Native.Nat.{ℕ, _≤_}
-use lib.ListN.{length, take, drop}
+use lib.ListN.{length, drop}
 use borrow.Author.Needs.{needs}
-use Rattle.error.specs.Said.{Said, says, refused}
+use Rattle.error.specs.Said.{Said, says}
 use Rattle.nal.specs.declared.Kind.{Kind}
-use Rattle.nal.specs.Kind.{Shape, shape}
-use Rattle.nal.specs.Fed.{Laid, gathered}
+use Rattle.nal.specs.Kind.{Shape}
+use Rattle.nal.specs.Fed.{runOf, Laid}
 use Rattle.nal.specs.Ran.{handing, RanOn, OutRan, layRun, layUnits}
 use Rattle.nal.specs.Said.{shapeSaid}
 use Rattle.nal.specs.Unpack.{unpack}
 use Rattle.nal.proofs.Running.{units-heard}
 use Rattle.nal.proofs.Shapes.{fragment-long}
-use Rattle.h264_packet.specs.Depacketize.{beside, gatheredOn, readBy, readPayload, runOf}
+use Rattle.h264_packet.specs.Depacketize.{beside, gatheredOn, readBy, readPayload}
 use Rattle.h264_packet.proofs.Depacketizing.{gathered-run, length-run}
 use Rattle.h264_packet.proofs.read.read_payload.Statement.{statement}
 use Rattle.h264_packet.proofs.read.read_payload.Tie as tie

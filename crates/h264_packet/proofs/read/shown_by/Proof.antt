@@ -1,5 +1,5 @@
 -- Each arm says what `shownOf` says of the variant it matched.
-use mathlib.Core.Path.{_≡_, sym, ap, ap₂, _∙_}
+use mathlib.Core.Path.{_≡_, sym, ap, _∙_}
 use mathlib.Core.Bool.{Bool, true}
 use Prim.Native.Nat.{ℕ, _+_, _-_}
 use native.Mathlib.Omega.{arith}
@@ -7,7 +7,7 @@ use borrow.Author.Needs.{needs}
 use Rattle.nal.specs.declared.Kind.{Kind}
 use Rattle.nal.specs.Kind.{Shape, fragment}
 use Rattle.nal.specs.Said.{shapeSaid}
-use Rattle.h264_packet.specs.Depacketize.{Showing, in-gather, shownOf}
+use Rattle.h264_packet.specs.Depacketize.{in-gather, shownOf}
 use Rattle.h264_packet.proofs.read.shown_by.Statement.{statement}
 use Rattle.h264_packet.proofs.read.shown_by.Tie as tie
 

@@ -7,11 +7,11 @@ use lib.Dec.{eqb}
 use borrow.Author.Needs.{needs}
 use Rattle.error.specs.Said.{Said}
 use Rattle.sequence.specs.Number.{distanceOf}
-use Rattle.nal.specs.Fed.{Run}
+use Rattle.nal.specs.Fed.{Run, runOf}
 use Rattle.nal.specs.Ran.{layRun}
 use Rattle.joiner.specs.declared.Joiner.{Joiner}
 use Rattle.joiner.specs.Codec.{feed}
-use Rattle.joiner.specs.Join.{Answer, runOf, runAt}
+use Rattle.joiner.specs.Join.{Answer, runAt}
 use Rattle.joiner.proofs.Joining.{steppedWith, run-held, held-le, source-other, source-own, distance-late, distance-full, distance-fed}
 use Rattle.joiner.proofs.Joiner.arrived.Statement.{statement}
 use Rattle.joiner.proofs.Joiner.arrived.Tie as tie
@@ -33,7 +33,7 @@ returns-3 : tie.Need-returns-3
 returns-3 c =
     let a = c .before .before .before .before .before .before .before .before .before .args in
     let d : c .before .before .before .distance .result ≡ distanceOf (a .number) (a .self .awaited) = c .before .before .before .distance .ensures in
-    let m : c .before .wide .result ≡ a .self .missed + c .before .before .before .distance .result = c .before .wide .ensures in
+    let m : c .before .sum .result ≡ a .self .missed + c .before .before .before .distance .result = c .before .sum .ensures in
     sym
     (source-own (a .self) (a .number) (a .payload .now) (a .gather .now) (a .out .now) (a .source) (c .before .before .before .before .if1 .left)
     ∙ distance-full (a .self) (a .number) (a .payload .now) (a .gather .now) (a .out .now) (distanceOf (a .number) (a .self .awaited)) (omega (arith, d, c .before .before .if2 .left)) (omega (arith, d, m, c .if3 .taken)))
@@ -54,15 +54,15 @@ returns-4 c =
     let n = distanceOf (a .number) (j .awaited) in
     let dist = c .before .before .before .before .before .before .before .before .before .before .before .before .distance in
     let d : dist .result ≡ n = dist .ensures in
-    let m : c .before .before .before .before .before .before .before .before .before .before .wide .result ≡ j .missed + dist .result = c .before .before .before .before .before .before .before .before .before .before .wide .ensures in
-    let total : c .before .before .before .before .before .before .before .before .before .before .wide .result ≡ j .missed + n = omega (arith, d, m) in
+    let m : c .before .before .before .before .before .before .before .before .before .before .sum .result ≡ j .missed + dist .result = c .before .before .before .before .before .before .before .before .before .before .sum .ensures in
+    let total : c .before .before .before .before .before .before .before .before .before .before .sum .result ≡ j .missed + n = omega (arith, d, m) in
     let run : runOf (c .before .before .before .before .before .before .before .before .held .result) g ≡ runAt j n g =
     ap (λ (k : ℕ). runOf k g) (c .before .before .before .before .before .before .before .before .held .ensures)
     ∙ run-held (eqb (dist .result) 0) (j .gathered) g
     ∙ ap (λ (k : ℕ). runAt j k g) d in
     ap₂ (λ (x : Joiner) (y : Said Answer). record { joiner = x; answer = y; gather = c .before .before .before .before .before .feed .last .1 .1 .0; out = c .before .before .before .before .before .feed .last .1 .1 .1 .0 })
     (c .accept .ensures .0) (c .accept .ensures .1)
-    ∙ ap (steppedWith j (a .number) (c .before .before .before .before .before .before .before .before .before .before .wide .result) (dist .result)) (c .before .before .before .before .before .feed .ensures)
+    ∙ ap (steppedWith j (a .number) (c .before .before .before .before .before .before .before .before .before .before .sum .result) (dist .result)) (c .before .before .before .before .before .feed .ensures)
     ∙ ap₂ (λ (k e : ℕ). steppedWith j (a .number) k e (layRun false g o (feed (runOf (c .before .before .before .before .before .before .before .before .held .result) g) s))) total d
     ∙ ap (λ (r : Run). steppedWith j (a .number) (j .missed + n) n (layRun false g o (feed r s))) run
     ∙ sym

@@ -35,7 +35,7 @@ returns-4 : tie.Need-returns-4
 returns-4 c =
     let a = c .before .before .before .before .before .before .before .before .args in
     let d : c .before .before .before .before .distance .result ≡ distanceOf (a .number) (a .self .awaited) = c .before .before .before .before .distance .ensures in
-    let m : c .before .before .wide .result ≡ a .self .missed + c .before .before .before .before .distance .result = c .before .before .wide .ensures in
+    let m : c .before .before .sum .result ≡ a .self .missed + c .before .before .before .before .distance .result = c .before .before .sum .ensures in
     c .still-open4 .ensures
     ∙ sym
     (close-open (a .self) (a .number) (c .before .before .before .before .before .before .before .if1 .left) (c .before .before .before .before .before .if2 .left)
@@ -54,7 +54,7 @@ unfolding shutAt
 returns-5 c =
     let a = c .before .before .before .before .before .before .before .args in
     let d : c .before .before .before .distance .result ≡ distanceOf (a .number) (a .self .awaited) = c .before .before .before .distance .ensures in
-    let m : c .before .wide .result ≡ a .self .missed + c .before .before .before .distance .result = c .before .wide .ensures in
+    let m : c .before .sum .result ≡ a .self .missed + c .before .before .before .distance .result = c .before .sum .ensures in
     ap (λ (n : ℕ). shutAt (a .self) n (c .before .before .before .distance .result)) m
     ∙ ap (λ (k : ℕ). shutAt (a .self) (a .self .missed + k) k) d
     ∙ sym

@@ -7,12 +7,11 @@ use lib.ListN.{length, take, drop, length-drop}
 use borrow.Author.Needs.{needs}
 use borrow.Author.Tests.{eq-eqb, ne-eqb}
 use Rattle.error.specs.Said.{says}
-use Rattle.nal.specs.Fed.{Run, none, gathering}
+use Rattle.nal.specs.Fed.{Run, none, gathering, runOf}
 use Rattle.nal.specs.Ran.{layRun}
 use Rattle.nal.proofs.Handing.{length-gathered}
 use Rattle.nal.proofs.Running.{ongoing-heard, finished-heard}
 use Rattle.joiner.specs.Codec.{fragmented, continued}
-use Rattle.joiner.specs.Join.{runOf}
 use Rattle.joiner.proofs.Joining.{run-idle}
 use Rattle.joiner.proofs.feed.feed_fragment.Statement.{statement}
 use Rattle.joiner.proofs.feed.feed_fragment.Tie as tie

@@ -1,5 +1,5 @@
 -- The measure says how long the units are with their prefixes, and `put_units` writes them.
-use mathlib.Core.Path.{_≡_, sym, ap, ap₂, _∙_}
+use mathlib.Core.Path.{_≡_, sym, ap₂, _∙_}
 use mathlib.Core.Bool.{Bool}
 use mathlib.Core.List.{List}
 use Prim.Native.Nat.{ℕ, _+_, _*_, _≤_}
@@ -8,9 +8,7 @@ use lib.ListN.{length}
 use borrow.Author.Needs.{needs}
 use Rattle.error.specs.Said.{says}
 use Rattle.wire.specs.Packets.{joined}
-use Rattle.wire.specs.Part.{splice}
-use Rattle.nal.specs.Fed.{prefixed, OutLaid}
-use Rattle.nal.specs.Said.{Measure, Room}
+use Rattle.nal.specs.Fed.{prefixed}
 use Rattle.nal.specs.Unpack.{unpack, unitsOf}
 use Rattle.nal.proofs.Handing.{length-prefixed, bytes-short, bytes-fit}
 use Rattle.nal.proofs.Unpacking.{measured, unpack-bound}

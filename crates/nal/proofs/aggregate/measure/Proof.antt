@@ -1,13 +1,13 @@
 -- What is still to be read leads to what `unpack` says of the whole; the counts are those of the units before.
 use mathlib.Core.Path.{_≡_, refl, sym, ap, ap₂, _∙_}
 use mathlib.Core.List.{[], _∷_}
-use Prim.Native.Nat.{ℕ, _+_, _-_, _≤_, _<_}
+use Prim.Native.Nat.{ℕ, _+_, _-_}
 use native.Mathlib.Omega.{arith}
 use lib.ListN.{length}
 use borrow.Author.Needs.{needs}
 use Rattle.error.specs.Said.{says, refused}
 use Rattle.wire.specs.Net.{u16At}
-use Rattle.nal.specs.Said.{Measure, measureOf}
+use Rattle.nal.specs.Said.{measureOf}
 use Rattle.nal.proofs.Unpacking.{going-first, going-end, going-cut, going-past, Measuring, measuring-unit}
 use Rattle.nal.proofs.aggregate.measure.Statement.{statement}
 use Rattle.nal.proofs.aggregate.measure.Tie as tie

@@ -1,6 +1,6 @@
 -- The units before the place stand in the output behind their prefixes (`Putting`); none of them can be wrong, since they were
 -- measured.
-use mathlib.Core.Path.{_≡_, refl, sym, ap, _∙_}
+use mathlib.Core.Path.{_≡_, ap, _∙_}
 use mathlib.Core.Bool.{Bool}
 use mathlib.Core.List.{List, _++_}
 use Prim.Native.Nat.{ℕ, _+_, _-_, _≤_, _<_}
@@ -11,7 +11,6 @@ use Rattle.wire.specs.Net.{u16At}
 use Rattle.wire.specs.Part.{splice}
 use Rattle.nal.specs.Fed.{prefixOf, prefixed}
 use Rattle.nal.specs.Said.{Room}
-use Rattle.nal.specs.Unpack.{unitsIn}
 use Rattle.nal.proofs.Unpacking.{Units, Putting, putting-first, putting-unit, unit-fits, size-there, size-fits, going-end, length-unitAt, all-written}
 use Rattle.nal.proofs.aggregate.put_units.Statement.{statement}
 use Rattle.nal.proofs.aggregate.put_units.Tie as tie

@@ -1,5 +1,5 @@
 -- The fragment is gathered as by `gather_on`, and the whole run is then the unit's body.
-use mathlib.Core.Path.{_≡_, sym, ap, ap₂, _∙_}
+use mathlib.Core.Path.{_≡_, sym, ap, _∙_}
 use mathlib.Core.List.{List, [], _∷_, _++_}
 use mathlib.Core.Logic.{inl, inr}
 use Prim.Native.Nat.{ℕ, _+_, _-_}
@@ -8,8 +8,8 @@ use lib.ListN.{length, take, drop}
 use borrow.Author.Needs.{needs}
 use Rattle.error.specs.Said.{says, refuse}
 use Rattle.wire.specs.Part.{splice}
-use Rattle.nal.specs.Fed.{prefixed, OutLaid, Laid, finished}
-use Rattle.nal.proofs.Handing.{length-gathered, length-one, fed-long, fed-by, bytes-short, bytes-fit, rest-of, gathered-now, run-of, laid-path}
+use Rattle.nal.specs.Fed.{prefixed, finished}
+use Rattle.nal.proofs.Handing.{length-gathered, length-one, fed-long, fed-by, bytes-short, bytes-fit, gathered-now, run-of, laid-path}
 use Rattle.nal.proofs.buffers.finish.Statement.{statement}
 use Rattle.nal.proofs.buffers.finish.Tie as tie
 

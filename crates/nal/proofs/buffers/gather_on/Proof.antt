@@ -1,15 +1,14 @@
 -- What stood before and the fragment's data are one part of the gather buffer: `splice-from`.
-use mathlib.Core.Path.{_≡_, sym, ap, _∙_}
+use mathlib.Core.Path.{sym, ap, _∙_}
 use mathlib.Core.List.{List, _++_}
 use mathlib.Core.Logic.{inl, inr}
-use Prim.Native.Nat.{ℕ, _+_, _-_}
+use Prim.Native.Nat.{ℕ}
 use native.Mathlib.Omega.{arith}
-use lib.ListN.{length, take, drop}
+use lib.ListN.{take, drop}
 use borrow.Author.Needs.{needs}
 use Rattle.error.specs.Said.{says}
 use Rattle.wire.specs.Part.{splice}
 use Rattle.wire.proofs.Part.{splice-from}
-use Rattle.nal.specs.Fed.{GatherLaid}
 use Rattle.nal.proofs.Handing.{length-gathered, gather-long, gather-fits, rest-of}
 use Rattle.nal.proofs.buffers.gather_on.Statement.{statement}
 use Rattle.nal.proofs.buffers.gather_on.Tie as tie

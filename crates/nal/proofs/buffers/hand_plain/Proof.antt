@@ -7,7 +7,7 @@ use lib.ListN.{length}
 use borrow.Author.Needs.{needs}
 use Rattle.error.specs.Said.{says}
 use Rattle.wire.specs.Part.{splice}
-use Rattle.nal.specs.Fed.{prefixed, OutLaid}
+use Rattle.nal.specs.Fed.{prefixed}
 use Rattle.nal.proofs.Handing.{prefixed-one, length-one, bytes-short, bytes-fit}
 use Rattle.nal.proofs.buffers.hand_plain.Statement.{statement}
 use Rattle.nal.proofs.buffers.hand_plain.Tie as tie

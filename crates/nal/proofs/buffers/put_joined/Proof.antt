@@ -1,8 +1,7 @@
 -- Prefix, first byte and body stand one behind the other: `joined-unit`.
-use mathlib.Core.Path.{_≡_, ap, _∙_}
+use mathlib.Core.Path.{ap, _∙_}
 use mathlib.Core.List.{List}
 use Prim.Native.Nat.{ℕ}
-use native.Mathlib.Omega.{arith}
 use lib.ListN.{set, length-set}
 use borrow.Author.Needs.{needs}
 use Rattle.wire.specs.Part.{splice}

@@ -1,9 +1,9 @@
 -- The output's answer, with the run beside it.
-use mathlib.Core.Path.{_≡_, ap, _∙_}
+use mathlib.Core.Path.{ap, _∙_}
 use borrow.Author.Needs.{needs}
 use Rattle.error.specs.Said.{Said}
 use Rattle.nal.specs.Fed.{OutLaid}
-use Rattle.nal.specs.Ran.{RanOn, OutRan, withRun}
+use Rattle.nal.specs.Ran.{RanOn, withRun}
 use Rattle.nal.proofs.run.run_plain.Statement.{statement}
 use Rattle.nal.proofs.run.run_plain.Tie as tie
 

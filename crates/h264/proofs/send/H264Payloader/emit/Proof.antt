@@ -1,4 +1,4 @@
--- One law for each kind.
+-- One law for each fate.
 use mathlib.Core.Path.{sym, _∙_}
 use Rattle.h264.specs.Step.{sinkAt}
 use Rattle.h264.proofs.Steps.{done-empty, done-dropped, short-sps, short-pps, done-sps, done-pps, room-pair, room-unit, done-coded}
@@ -12,7 +12,7 @@ of-requires c κs =
     let start = arm .before .before .before .before .before .before .before .before in
     let s = sinkAt (start .args .out .now) (start .args .ends .now) (start .args .to) in
     short-sps (start .args .self) (start .args .mtu) (start .args .unit .now) s (start .pre)
-    (sym (arm .before .before .kind-of .ensures) ∙ arm .enum-told3 .given .1)
+    (sym (arm .before .before .fate-of .ensures) ∙ arm .enum-told3 .given .1)
 
 of-requires-2 : tie.Need-of-requires-2
 of-requires-2 c κs =
@@ -20,7 +20,7 @@ of-requires-2 c κs =
     let start = arm .before .before .before .before .before .before .before .before in
     let s = sinkAt (start .args .out .now) (start .args .ends .now) (start .args .to) in
     short-pps (start .args .self) (start .args .mtu) (start .args .unit .now) s (start .pre)
-    (sym (arm .before .before .kind-of .ensures) ∙ arm .enum-told4 .given .1)
+    (sym (arm .before .before .fate-of .ensures) ∙ arm .enum-told4 .given .1)
 
 put-waiting-requires : tie.Need-put-waiting-requires
 put-waiting-requires c κs =
@@ -28,7 +28,7 @@ put-waiting-requires c κs =
     let start = arm .before .before .before .before .before .before .before .before in
     let s = sinkAt (start .args .out .now) (start .args .ends .now) (start .args .to) in
     let room = room-pair (start .args .self) (start .args .mtu) (start .args .unit .now) s (start .pre)
-    (sym (arm .before .before .kind-of .ensures) ∙ arm .enum-told5 .given .1) in
+    (sym (arm .before .before .fate-of .ensures) ∙ arm .enum-told5 .given .1) in
     (start .pre .tidy, room)
 
 forget-requires : tie.Need-forget-requires
@@ -41,7 +41,7 @@ put-unit-requires c κs =
     let start = arm .before .before .before .before .before .before .before .before in
     let s = sinkAt (start .args .out .now) (start .args .ends .now) (start .args .to) in
     room-unit (start .args .self) (start .args .mtu) (start .args .unit .now) s (start .pre)
-    (sym (arm .before .before .kind-of .ensures) ∙ arm .enum-told5 .given .1) _
+    (sym (arm .before .before .fate-of .ensures) ∙ arm .enum-told5 .given .1) _
     (c .before .before .before .before .before .before .before .put-waiting .ensures)
 
 returns : tie.Need-returns
@@ -50,7 +50,7 @@ returns c =
     let start = arm .before .before .before .before .before .before .before .before in
     let s = sinkAt (start .args .out .now) (start .args .ends .now) (start .args .to) in
     done-empty (start .args .self) (start .args .mtu) (start .args .unit .now) s (start .pre)
-    (sym (arm .before .before .kind-of .ensures) ∙ arm .enum-told .given .1)
+    (sym (arm .before .before .fate-of .ensures) ∙ arm .enum-told .given .1)
 
 returns-2 : tie.Need-returns-2
 returns-2 c =
@@ -58,7 +58,7 @@ returns-2 c =
     let start = arm .before .before .before .before .before .before .before .before in
     let s = sinkAt (start .args .out .now) (start .args .ends .now) (start .args .to) in
     done-dropped (start .args .self) (start .args .mtu) (start .args .unit .now) s (start .pre)
-    (sym (arm .before .before .kind-of .ensures) ∙ arm .enum-told2 .given .1)
+    (sym (arm .before .before .fate-of .ensures) ∙ arm .enum-told2 .given .1)
 
 returns-3 : tie.Need-returns-3
 returns-3 c =
@@ -66,7 +66,7 @@ returns-3 c =
     let start = arm .before .before .before .before .before .before .before .before in
     let s = sinkAt (start .args .out .now) (start .args .ends .now) (start .args .to) in
     done-sps (start .args .self) (start .args .mtu) (start .args .unit .now) s (start .pre)
-    (sym (arm .before .before .kind-of .ensures) ∙ arm .enum-told3 .given .1) (c .of .result) (c .of .ensures)
+    (sym (arm .before .before .fate-of .ensures) ∙ arm .enum-told3 .given .1) (c .of .result) (c .of .ensures)
 
 returns-4 : tie.Need-returns-4
 returns-4 c =
@@ -74,7 +74,7 @@ returns-4 c =
     let start = arm .before .before .before .before .before .before .before .before in
     let s = sinkAt (start .args .out .now) (start .args .ends .now) (start .args .to) in
     done-pps (start .args .self) (start .args .mtu) (start .args .unit .now) s (start .pre)
-    (sym (arm .before .before .kind-of .ensures) ∙ arm .enum-told4 .given .1) (c .of2 .result) (c .of2 .ensures)
+    (sym (arm .before .before .fate-of .ensures) ∙ arm .enum-told4 .given .1) (c .of2 .result) (c .of2 .ensures)
 
 returns-5 : tie.Need-returns-5
 returns-5 c =
@@ -83,7 +83,7 @@ returns-5 c =
     let s = sinkAt (start .args .out .now) (start .args .ends .now) (start .args .to) in
     let forgot = c .before .before .before .before .before .before .before .forget in
     done-coded (start .args .self) (start .args .mtu) (start .args .unit .now) s (start .pre)
-    (sym (arm .before .before .kind-of .ensures) ∙ arm .enum-told5 .given .1) _ _ (forgot .result)
+    (sym (arm .before .before .fate-of .ensures) ∙ arm .enum-told5 .given .1) _ _ (forgot .result)
     (c .before .before .before .before .before .before .before .before .before .before .before .before .put-waiting .ensures)
     (c .before .before .before .before .put-unit .ensures) (forgot .ensures)
 

@@ -8,7 +8,7 @@
 ghost use mathlib.Core.Path.{_≡_};
 ghost use mathlib.Core.Bool.{_&&_};
 ghost use lib.Dec.{ltb};
-ghost use Rattle.h264.specs.Groups.{kindOf};
+ghost use Rattle.h264.specs.Groups.{fateOf};
 
 pub const SPS_NALU_TYPE: u8 = 7;
 
@@ -18,7 +18,7 @@ pub const AUD_NALU_TYPE: u8 = 9;
 
 pub const FILLER_NALU_TYPE: u8 = 12;
 
-pub enum Kind {
+pub enum Fate {
     // no byte
     Empty,
     // an access unit delimiter or filler data: not sent
@@ -31,17 +31,17 @@ pub enum Kind {
     Coded,
 }
 
-pub(crate) fn kind_of(unit: &[u8]) -> Kind
-    ensures { λ r. ⌜ r ≡ kindOf (now (unit .entry)) ⌝ }
+pub(crate) fn fate_of(unit: &[u8]) -> Fate
+    ensures { λ r. ⌜ r ≡ fateOf (now (unit .entry)) ⌝ }
 {
     if unit.len() == 0 {
-        return Kind::Empty;
+        return Fate::Empty;
     }
     match unit[0] % 32 {
-        AUD_NALU_TYPE | FILLER_NALU_TYPE => Kind::Dropped,
-        SPS_NALU_TYPE => Kind::Sps,
-        PPS_NALU_TYPE => Kind::Pps,
-        _ => Kind::Coded,
+        AUD_NALU_TYPE | FILLER_NALU_TYPE => Fate::Dropped,
+        SPS_NALU_TYPE => Fate::Sps,
+        PPS_NALU_TYPE => Fate::Pps,
+        _ => Fate::Coded,
     }
 }
 

@@ -4,8 +4,8 @@ use mathlib.Core.Bool.{Bool, _&&_}
 use lib.Dec.{ltb}
 use native.Mathlib.Omega.{arith}
 use borrow.Author.Tests.{lt-ltb, le-ltb}
-use Rattle.h264.proofs.kind.both.Statement.{statement}
-use Rattle.h264.proofs.kind.both.Tie as tie
+use Rattle.h264.proofs.fate.both.Statement.{statement}
+use Rattle.h264.proofs.fate.both.Tie as tie
 
 returns : tie.Need-returns
 returns c =

@@ -1,0 +1,104 @@
+-- Joiners that demand 3 shuts out: of the example show three groups must be handed out, the second longer than two packets, and its
+-- missed total is 2, but 0 where everything arrives. Assumes nothing.
+use mathlib.Core.Path.{_≡_, refl, sym, ap, subst, _∙_}
+use mathlib.Core.Bool.{Bool, true, false, cond}
+use mathlib.Core.List.{List, [], _∷_, _++_}
+use mathlib.Core.Logic.{_⊎_, inl, inr}
+use Prim.Native.Nat.{ℕ, suc, _*_, _≤_}
+use native.Mathlib.Omega.{arith}
+use lib.Dec.{eqb}
+use lib.ListN.{length, take, drop, replicate}
+use Rattle.error.specs.Said.{Said, says, refused}
+use Rattle.wire.specs.Each.{Each}
+use Rattle.wire.specs.Net.{be16, be32}
+use Rattle.wire.proofs.Each.{each-append, each-by}
+use Rattle.header.specs.Write.{fixedFor, octetsOf}
+use Rattle.packet.specs.Write.{payloadOctets, packetOctets}
+use Rattle.packet.specs.Plain.{plainPacket}
+use Rattle.h264.specs.Units.{units, unitsAt}
+use Rattle.h264.specs.Groups.{keep, stapA, pairFor, unitFor, groupsFor}
+use Rattle.sequence.specs.Arrival.{Arrival}
+use Rattle.sequence.proofs.InOrder.{inOrder, in-order-within}
+use Rattle.joiner.specs.declared.Joiner.{Joiner}
+use Rattle.joiner.specs.Join.{Answer, accepted, late, Stepped}
+use Rattle.joiner.specs.Sent.{fuA}
+use Rattle.joiner.specs.Sent as sent
+use Rattle.delivery.specs.Show.{packet}
+use Rattle.delivery.specs.Play.{Machine, steps, handedIn, handedOut, arriving, played, closing}
+use Rattle.delivery.specs.Frames.{showOf, Delivers}
+use Rattle.delivery.specs.Wrong.{Silent, FromItsOwn, Advancing, Inventing}
+use Rattle.delivery.proofs.Example.{nine, show, stranger, nine-premises, premises, pairOut, joinedOut, lastOut}
+
+-- ---- what must be handed out
+
+handed : (m : Machine) → Delivers m → handedOut (played m (showOf show)) ≡ pairOut ∷ joinedOut ∷ lastOut ∷ []
+unfolding show nine units unitsAt keep stapA pairFor unitFor groupsFor sent.stapA fuA be16
+handed m d = d show premises .handsOut
+
+pub no-silent-joiner : (m : Machine) → Silent m → Delivers m → ⊥
+no-silent-joiner m silent d =
+    let none : [] ≡ pairOut ∷ joinedOut ∷ lastOut ∷ [] = sym (silent (showOf show)) ∙ handed m d in
+    let z : _≡_ {A = ℕ} 0 3 = ap length none in
+    omega arith
+
+-- ---- what later calls can hand out
+
+one-at-most : (a : Said Answer) (out : List ℕ) → (handedIn a out ≡ []) ⊎ ((l : List ℕ) × (handedIn a out ≡ l ∷ []))
+one-at-most (refused r) out = inl refl
+one-at-most (says late) out = inl refl
+one-at-most (says (accepted a)) out = go (eqb (a .bytes) 0)
+  where
+    go : (none : Bool) → (cond none [] (take (a .bytes) out ∷ []) ≡ []) ⊎ ((l : List ℕ) × (cond none [] (take (a .bytes) out ∷ []) ≡ l ∷ []))
+    go true = inl refl
+    go false = inr (take (a .bytes) out, refl)
+
+module _ (m : Machine) (n : ℕ) where
+  abbrev Short : List ℕ → Type 0
+  Short l = length l ≤ n
+
+  all-short : (bytes : List (List ℕ)) (j : Joiner) (gather : List ℕ) (outs : ℕ → List ℕ) → Each (λ (b : List ℕ). 2 * length b ≤ n) bytes →
+      FromItsOwn bytes (steps m j gather outs bytes) → Each Short (handedOut (steps m j gather outs bytes))
+  all-short [] j gather outs few own = tt
+  all-short (b ∷ bytes) j gather outs few own =
+      let st : Stepped = m .step j b gather (outs 0) in
+      let now : List (List ℕ) = handedIn (st .answer) (st .out) in
+      each-append Short now (handedOut (steps m (st .joiner) (st .gather) (λ i. outs (suc i)) bytes))
+      (each-by Short (λ (l : List ℕ). length l ≤ 2 * length b) (λ l h. omega (arith, h, few .0)) now (own .0))
+      (all-short bytes (st .joiner) (st .gather) (λ i. outs (suc i)) (few .1) (own .1))
+
+second : (Short : List ℕ → Type 0) (x y : List ℕ) (zs front back : List (List ℕ)) → front ++ back ≡ x ∷ y ∷ zs →
+    (front ≡ []) ⊎ ((l : List ℕ) × (front ≡ l ∷ [])) → Each Short back → Short y
+second Short x y zs front back e (inl none) w =
+    let is : back ≡ x ∷ y ∷ zs = ap (λ (l : List (List ℕ)). l ++ back) (sym none) ∙ e in subst (Each Short) is w .1 .0
+second Short x y zs front back e (inr one) w =
+    let is : one .0 ∷ back ≡ x ∷ y ∷ zs = ap (λ (l : List (List ℕ)). l ++ back) (sym (one .1)) ∙ e in
+    let rest : back ≡ y ∷ zs = cc in
+    subst (Each Short) rest w .0
+
+-- no packet of the show is longer than 42 bytes
+packets-few : Each (λ (b : List ℕ). 2 * length b ≤ 84) (drop 1 (arriving (showOf show)))
+unfolding show nine stranger units unitsAt keep stapA pairFor unitFor groupsFor sent.stapA fuA plainPacket packetOctets payloadOctets octetsOf fixedFor be16 be32
+packets-few = omega arith
+
+pub no-advancer : (m : Machine) → Advancing m → Delivers m → ⊥
+unfolding show nine
+no-advancer m own d =
+    let st : Stepped = m .step (m .opening 3 65531) (packet (showOf show) 0) (replicate 84 0) (replicate 89 0) in
+    let bytes : List (List ℕ) = drop 1 (arriving (showOf show)) in
+    let outs : ℕ → List ℕ = λ i. replicate 89 0 in
+    let short : length joinedOut ≤ 84 =
+    second (λ (l : List ℕ). length l ≤ 84) pairOut joinedOut (lastOut ∷ []) (handedIn (st .answer) (st .out))
+    (handedOut (steps m (st .joiner) (st .gather) outs bytes)) (handed m d) (one-at-most (st .answer) (st .out))
+    (all-short m 84 bytes (st .joiner) (st .gather) outs packets-few (own (showOf show))) in
+    omega arith
+
+-- ---- the missed total
+
+pub no-invented-total : (m : Machine) → Inventing m → Delivers m → ⊥
+unfolding show nine units unitsAt keep stapA pairFor unitFor groupsFor sent.stapA fuA be16
+no-invented-total m same d =
+    let all : List (Arrival (List ℕ)) = inOrder 0 9 in
+    let two : closing m (showOf show) .joiner .missed ≡ 2 = d show premises .counts in
+    let none : closing m (showOf (nine all)) .joiner .missed ≡ 0 =
+    d (nine all) (nine-premises all tt (in-order-within (List ℕ) 9)) .counts in
+    omega (arith, two, none, same (showOf show) all)
