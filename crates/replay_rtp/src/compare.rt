@@ -1,5 +1,5 @@
 // What two records are compared by, and what stands behind the counts of one.
-use crate::elements::wide;
+use crate::list::wide;
 use header::Extensions;
 use header::Header;
 

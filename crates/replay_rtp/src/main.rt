@@ -2,9 +2,9 @@
 // of rust/oracle, with their seed of 1.
 mod compare;
 mod csrcs;
-mod elements;
 mod extension;
 mod headers;
+mod list;
 mod packets;
 mod record;
 mod told;

@@ -1,8 +1,8 @@
 // RECORD: a header as 12 tokens, which stand behind the question's name.
 use crate::csrcs;
 use crate::csrcs::Csrcs;
-use crate::elements;
-use crate::elements::Elements;
+use crate::list;
+use crate::list::Elements;
 use header::Header;
 
 pub struct Record {
@@ -43,7 +43,7 @@ fn word(t: &[u8]) -> u32 {
 // The record of a question. Where it has more sources, elements or data than a header has places, its counts and lengths say so.
 pub fn asked(question: &[u8], bytes: &mut [u8]) -> Record {
     let sources = csrcs::read(rows::token(question, 9), bytes);
-    let elements = elements::read(rows::token(question, 11), bytes);
+    let elements = list::read(rows::token(question, 11), bytes);
     with(question, sources, elements)
 }
 
@@ -85,6 +85,6 @@ pub fn put(text: &mut [u8], at: usize, header: Header) -> usize {
     let first = rows::put_fields(text, at, &fixed);
     let sources = csrcs::put(text, first, header.csrc_count, &header.csrc);
     let profile = rows::put_field(text, sources, header.extension_profile as u64);
-    let elements = elements::put(text, profile, header.extensions);
+    let elements = list::put(text, profile, header.extensions);
     rows::put_field(text, elements, header.extensions_padding as u64)
 }

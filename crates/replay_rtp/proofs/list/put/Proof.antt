@@ -3,8 +3,8 @@ use mathlib.Core.Path.{_≡_}
 use Prim.Native.Nat.{_≤_, _*_, _-_}
 use lib.ListN.{length}
 use borrow.Author.Needs.{needs}
-use Rattle.replay_rtp.proofs.elements.put.Statement.{statement}
-use Rattle.replay_rtp.proofs.elements.put.Tie as tie
+use Rattle.replay_rtp.proofs.list.put.Statement.{statement}
+use Rattle.replay_rtp.proofs.list.put.Tie as tie
 
 abbrev Inv-loop : tie.InvT-loop
 Inv-loop text₀ at count ids lens bytes end₀ from₀ i₀ text end from i = (from ≤ 65536 * i) × (length text ≡ length text₀)

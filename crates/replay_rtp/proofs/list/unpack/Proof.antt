@@ -2,8 +2,8 @@
 use Prim.Native.Nat.{_≤_, _-_}
 use lib.ListN.{length}
 use borrow.Author.Needs.{needs}
-use Rattle.replay_rtp.proofs.elements.unpack.Statement.{statement}
-use Rattle.replay_rtp.proofs.elements.unpack.Tie as tie
+use Rattle.replay_rtp.proofs.list.unpack.Statement.{statement}
+use Rattle.replay_rtp.proofs.list.unpack.Tie as tie
 
 abbrev Inv-loop : tie.InvT-loop
 Inv-loop packed ids₀ lens₀ bytes₀ count₀ used₀ at₀ ids lens bytes count used at = (count ≤ at) × (used ≤ at) × (at ≤ length packed)

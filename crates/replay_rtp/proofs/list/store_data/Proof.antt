@@ -2,8 +2,8 @@
 use Prim.Native.Nat.{_-_}
 use lib.ListN.{length}
 use borrow.Author.Needs.{needs}
-use Rattle.replay_rtp.proofs.elements.store_data.Statement.{statement}
-use Rattle.replay_rtp.proofs.elements.store_data.Tie as tie
+use Rattle.replay_rtp.proofs.list.store_data.Statement.{statement}
+use Rattle.replay_rtp.proofs.list.store_data.Tie as tie
 
 abbrev Inv-loop : tie.InvT-loop
 Inv-loop places₀ used «data» i₀ places i = Unit {0}
