@@ -1,5 +1,2 @@
 pub mod Form
-pub mod Read
-pub mod Write
 pub mod Padding
-pub mod Said

@@ -11,14 +11,15 @@ use Rattle.wire.specs.Net.{u16At, u32At, be16, be32}
 use Rattle.wire.specs.Part.{splice}
 use Rattle.wire.specs.Turns.{run}
 use Rattle.header.specs.Read.{fieldsAt, readFixed, readHeader}
-use Rattle.header.specs.Write.{fixedFor, octetsOf}
+use Rattle.header_write.specs.Fixed.{fixedFor}
+use Rattle.header.specs.Write.{octetsOf}
 use Rattle.packet.specs.Read.{PacketReading, readPacket}
 use Rattle.packet.specs.Write.{payloadOctets, packetOctets}
 use Rattle.packet.specs.Plain.{plainPacket}
 use Rattle.h264.specs.Units.{units, unitsAt}
 use Rattle.h264.specs.Groups.{keep, stapA, pairFor, unitFor, groupsFor}
-use Rattle.nal.specs.Kind.{shape}
-use Rattle.nal.specs.Unpack.{unpackTurn, unpack}
+use Rattle.nal_read.specs.Kind.{shape}
+use Rattle.nal_read.specs.Unpack.{unpackTurn, unpack}
 use Rattle.nal.specs.Fed.{layBytes, layFed}
 use Rattle.sequence.specs.Arrival.{Arrival, ours, other, Window}
 use Rattle.joiner.specs.Codec.{feed}

@@ -21,7 +21,7 @@ use Rattle.h264.proofs.FrameUnits.{those-short}
 use Rattle.h264.proofs.LeftOut.{left-out}
 use Rattle.h264.proofs.Sizes.{packets-append}
 use Rattle.h264.proofs.State.{saved-laid}
-use Rattle.nal.proofs.Refusing.{not-says}
+use Rattle.error.proofs.Refusing.{not-says}
 use Rattle.sequence.specs.Group.{packetsIn}
 use Rattle.sequence.specs.Group as any
 use Rattle.joiner.specs.Sent.{Lawful, NoneEmpty, PlainUnit, groupOf, gatheredOf, fuA}

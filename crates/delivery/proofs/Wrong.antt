@@ -12,7 +12,8 @@ use Rattle.error.specs.Said.{Said, says, refused}
 use Rattle.wire.specs.Each.{Each}
 use Rattle.wire.specs.Net.{be16, be32}
 use Rattle.wire.proofs.Each.{each-append, each-by}
-use Rattle.header.specs.Write.{fixedFor, octetsOf}
+use Rattle.header_write.specs.Fixed.{fixedFor}
+use Rattle.header.specs.Write.{octetsOf}
 use Rattle.packet.specs.Write.{payloadOctets, packetOctets}
 use Rattle.packet.specs.Plain.{plainPacket}
 use Rattle.h264.specs.Units.{units, unitsAt}

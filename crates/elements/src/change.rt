@@ -7,8 +7,8 @@ ghost use Rattle.elements.specs.Elements.{Element, elementsOf, layElemen
 ghost use Rattle.elements.specs.Runs.{Shown, Holds, behind, kept, runOf, element, replacedAt};
 use crate::Extensions;
 use crate::Run;
+use crate::list::push;
 use crate::list::total;
-use crate::list::wide;
 
 impl Run {
     // All elements behind these, of `count` in all with `total` data bytes.
@@ -38,7 +38,7 @@ pub fn find<'a>(id: u8, count: usize, ids: &'a [u8; 32], lens: &'a [u16; 32]) ->
     let mut at = 0;
     let mut i = 0;
     while i < count {
-        let len = wide(lens[i]);
+        let len = wire::wide16(lens[i]);
         if ids[i] == id {
             return Run {
                 first: i,
@@ -106,25 +106,25 @@ impl Extensions {
         };
         Extensions::new().keep(0, self, before)
     }
+}
 
-    // One element of `id` with the data in the place of the run.
-    pub fn replaced(self, run: Run, id: u8, data: &[u8]) -> Self
-        requires { ⌜ Holds self run ⌝ }
-        requires { ⌜ self .count - run .count < 32 ⌝ }
-        requires { ⌜ sum (take (self .count) (self .lens)) - run .len + length (now «data») ≤ 1024 ⌝ }
-        ensures { λ r. ⌜ r ≡ layElements (replacedAt run (element id (now («data» .entry)) ∷ []) (elementsOf self)) ⌝ }
-    {
-        let behind = run.behind(self.count, total(self.count, &self.lens));
-        let put = self.front(run).push(run.at, id, data);
-        put.keep(run.at + data.len(), self, behind)
-    }
+// One element of `id` with the data in the place of the run.
+pub fn replaced(list: Extensions, run: Run, id: u8, data: &[u8]) -> Extensions
+    requires { ⌜ Holds list run ⌝ }
+    requires { ⌜ list .count - run .count < 32 ⌝ }
+    requires { ⌜ sum (take (list .count) (list .lens)) - run .len + length (now «data») ≤ 1024 ⌝ }
+    ensures { λ r. ⌜ r ≡ layElements (replacedAt run (element id (now («data» .entry)) ∷ []) (elementsOf list)) ⌝ }
+{
+    let behind = run.behind(list.count, total(list.count, &list.lens));
+    let put = push(list.front(run), run.at, id, data);
+    put.keep(run.at + data.len(), list, behind)
+}
 
-    // Nothing in the place of the run.
-    pub fn without(self, run: Run) -> Self
-        requires { ⌜ Holds self run ⌝ }
-        ensures { λ r. ⌜ r ≡ layElements (replacedAt run [] (elementsOf self)) ⌝ }
-    {
-        let behind = run.behind(self.count, total(self.count, &self.lens));
-        self.front(run).keep(run.at, self, behind)
-    }
+// Nothing in the place of the run.
+pub fn without(list: Extensions, run: Run) -> Extensions
+    requires { ⌜ Holds list run ⌝ }
+    ensures { λ r. ⌜ r ≡ layElements (replacedAt run [] (elementsOf list)) ⌝ }
+{
+    let behind = run.behind(list.count, total(list.count, &list.lens));
+    list.front(run).keep(run.at, list, behind)
 }

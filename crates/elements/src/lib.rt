@@ -5,8 +5,10 @@ mod change;
 mod list;
 
 pub use change::find;
+pub use change::replaced;
+pub use change::without;
+pub use list::push;
 pub use list::total;
-pub use list::wide;
 
 // The extension elements, in order.
 #[repr(C)]

@@ -17,33 +17,27 @@ impl Extensions {
             bytes: [0; 1024],
         }
     }
-
-    // One element more, behind the `used` data bytes of the others.
-    pub fn push(self, used: usize, id: u8, data: &[u8]) -> Self
-        requires { ⌜ self .count < 32 ⌝ }
-        requires { ⌜ used + length (now «data») ≤ 1024 ⌝ }
-        ensures { λ r. ⌜ r ≡ pushed self used id (now («data» .entry)) ⌝ }
-    {
-        let count = self.count;
-        let mut ids = self.ids;
-        let mut lens = self.lens;
-        let mut bytes = self.bytes;
-        ids[count] = id;
-        lens[count] = data.len() as u16;
-        wire::copy_at(data, &mut bytes, used);
-        Extensions {
-            count: count + 1,
-            ids,
-            lens,
-            bytes,
-        }
-    }
 }
 
-pub fn wide(n: u16) -> usize
-    ensures { λ r. ⌜ (r ≡ n) × (r < 65536) ⌝ }
+// One element more, behind the `used` data bytes of the others.
+pub fn push(list: Extensions, used: usize, id: u8, data: &[u8]) -> Extensions
+    requires { ⌜ list .count < 32 ⌝ }
+    requires { ⌜ used + length (now «data») ≤ 1024 ⌝ }
+    ensures { λ r. ⌜ r ≡ pushed list used id (now («data» .entry)) ⌝ }
 {
-    n as usize
+    let count = list.count;
+    let mut ids = list.ids;
+    let mut lens = list.lens;
+    let mut bytes = list.bytes;
+    ids[count] = id;
+    lens[count] = data.len() as u16;
+    wire::copy_at(data, &mut bytes, used);
+    Extensions {
+        count: count + 1,
+        ids,
+        lens,
+        bytes,
+    }
 }
 
 // How many data bytes the first `count` elements have.
@@ -54,7 +48,7 @@ pub fn total(count: usize, lens: &[u16; 32]) -> usize
     let mut n = 0;
     let mut i = 0;
     while i < count {
-        n += wide(lens[i]);
+        n += wire::wide16(lens[i]);
         i += 1;
     }
     n

@@ -17,8 +17,8 @@ use Rattle.elements.specs.Named.{absent}
 use Rattle.header.specs.declared.Header.{Header}
 use Rattle.header.specs.declared.HeaderRead.{HeaderRead}
 use Rattle.header.specs.declared.HeaderRead.the-variants as head
-use Rattle.header.specs.declared.Length.{Length}
-use Rattle.header.specs.declared.Length.the-variants as len
+use Rattle.header_write.specs.declared.Length.{Length}
+use Rattle.header_write.specs.declared.Length.the-variants as len
 use Rattle.header.specs.declared.Change.{Change}
 use Rattle.header.specs.declared.Change.the-variants as change
 use Rattle.header.specs.declared.Got.{Got}

@@ -13,12 +13,6 @@ pub struct Refused {
     pub carried: [usize; 2],
 }
 
-fn wide(b: u8) -> usize
-    ensures { λ r. ⌜ r ≡ b ⌝ }
-{
-    b as usize
-}
-
 fn carried(e: Error) -> [usize; 2]
     ensures { λ r. ⌜ r ≡ carriedAs (carriedBy e) ⌝ }
 {
@@ -41,7 +35,7 @@ fn carried(e: Error) -> [usize; 2]
         Error::ErrHeaderExtensionsNotEnabled => [0, 0],
         Error::StapASizeLargerThanBuffer(size, left) => [size, left],
         Error::StapASizeCut => [0, 0],
-        Error::NaluTypeIsNotHandled(nalu_type) => [wide(nalu_type), 0],
+        Error::NaluTypeIsNotHandled(nalu_type) => [wire::wide(nalu_type), 0],
         Error::OtherSource => [0, 0],
         Error::StartAndEnd => [0, 0],
         Error::AlreadyClosed => [0, 0],

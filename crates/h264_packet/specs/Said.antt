@@ -5,7 +5,7 @@ use Prim.Native.Nat.{ℕ}
 use lib.ListN.{length}
 use Rattle.error.specs.Refusal.{refusalOf}
 use Rattle.error.specs.Said.{Said, says, refused}
-use Rattle.nal.specs.Kind.{shape}
+use Rattle.nal_read.specs.Kind.{shape}
 use Rattle.nal.specs.Fed.{Laid}
 use Rattle.nal.specs.Ran.{RanOn}
 use Rattle.h264_packet.specs.declared.H264Packet.{H264Packet}

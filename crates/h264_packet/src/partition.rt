@@ -4,7 +4,7 @@ ghost use Rattle.h264_packet.specs.Depacketize.{headTest};
 ghost use Rattle.h264_packet.specs.Said.{saidHead};
 use crate::Head;
 use error::Error;
-use nal::FUA_NALU_TYPE;
+use nal_read::FUA_NALU_TYPE;
 
 pub const FUB_NALU_TYPE: u8 = 29;
 

@@ -5,7 +5,7 @@ ghost use Prim.Native.Nat.{_≤_};
 ghost use lib.ListN.{length, take, drop};
 ghost use Rattle.error.specs.Refusal.{refusalOf};
 ghost use Rattle.error.specs.Said.{says, refused};
-ghost use Rattle.nal.specs.Said.{shapeSaid};
+ghost use Rattle.nal_read.specs.Said.{shapeSaid};
 ghost use Rattle.nal.specs.Ran.{ranHeard, layRun};
 ghost use Rattle.nal.specs.Fed.{runOf};
 ghost use Rattle.h264_packet.specs.Depacketize.{gatheredOn, readPayload, depacketized, shownOf};
@@ -16,8 +16,8 @@ use crate::Depacketized;
 use crate::H264Packet;
 use crate::Shown;
 use error::Error;
-use nal::Kind;
 use nal::Ran;
+use nal_read::Kind;
 
 // A fragment behind the `run` bytes gathered before it, regardless of the start bit.
 fn read_fragment(
@@ -45,7 +45,7 @@ fn read_payload(avc: bool, run: usize, payload: &[u8], gather: &mut [u8], out: &
     requires { ⌜ (length (now payload) ≤ 65535) × (run ≤ length (now gather)) × (run ≤ 16777215) ⌝ }
     ensures { λ r. ⌜ ranHeard r (now (gather .exit)) (now (out .exit)) ≡ layRun avc (now (gather .entry)) (now (out .entry)) (readPayload (runOf run (now (gather .entry))) (now (payload .entry))) ⌝ }
 {
-    let kind = nal::kind_of(payload);
+    let kind = nal_read::kind_of(payload);
     match kind {
         Kind::Short => Ran::Refused(Error::ErrShortPacket),
         Kind::Unknown(t) => Ran::Refused(Error::NaluTypeIsNotHandled(t)),
@@ -119,7 +119,7 @@ impl H264Packet {
                     gathered,
                 },
                 answer: Depacketize::Bytes(bytes),
-                shown: shown_by(nal::kind_of(payload), run, payload.len()),
+                shown: shown_by(nal_read::kind_of(payload), run, payload.len()),
             },
             Ran::Refused(e) => self.refused(e),
         }

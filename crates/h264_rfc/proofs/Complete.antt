@@ -11,12 +11,13 @@ use Rattle.error.specs.Said.{says}
 use Rattle.wire.specs.Net.{be16}
 use Rattle.wire.specs.Packets.{joined}
 use Rattle.wire.proofs.Net.{length-be16}
-use Rattle.nal.specs.Kind.{Shape, plain, shape}
-use Rattle.nal.specs.Unpack.{sizedUnits}
-use Rattle.nal.specs.Unpack as unpacking
+use Rattle.nal_read.specs.Kind.{Shape, plain, shape}
+use Rattle.nal_read.specs.Unpack.{sizedUnits}
+use Rattle.nal_read.specs.Unpack as unpacking
 use Rattle.nal.specs.Fed.{none, Fed, prefixed}
-use Rattle.nal.proofs.Shapes.{shape-plain, shape-delimiter, shape-aggregate, unpack-sized}
-use Rattle.nal.proofs.Handing.{joined-append, prefixed-append}
+use Rattle.nal_read.proofs.Shapes.{shape-plain, shape-delimiter, shape-aggregate, unpack-sized}
+use Rattle.wire.proofs.Packets.{joined-append}
+use Rattle.nal.proofs.Handing.{prefixed-append}
 use Rattle.rfc6184.specs.Sending.{Each, Nal, octet, octetsOf, Sending, single, stapA, fuA, aggregated, fragment, payloadsOf, payloadsOfAll, bodyOf, unitsOf, unitsOfAll, Sized, FormedSending, Lawful, Packetization}
 use Rattle.rfc6184.proofs.Each.{each-by}
 use Rattle.rfc6184.proofs.Octets.{fields-of-octet}

@@ -9,13 +9,13 @@ use lib.ListN.{length, getD, length-append}
 use Rattle.error.specs.Refusal.{Refusal}
 use Rattle.error.specs.Said.{refused}
 use Rattle.wire.specs.Packets.{joined}
-use Rattle.nal.specs.Kind.{Shape, short, unknown, shape}
-use Rattle.nal.specs.Unpack.{sizedUnits}
-use Rattle.nal.specs.Unpack as unpacking
+use Rattle.nal_read.specs.Kind.{Shape, short, unknown, shape}
+use Rattle.nal_read.specs.Unpack.{sizedUnits}
+use Rattle.nal_read.specs.Unpack as unpacking
 use Rattle.nal.specs.Fed.{runOf, prefixed, Laid}
 use Rattle.nal.specs.Ran.{RanOn}
-use Rattle.nal.proofs.Unpacking.{Units}
-use Rattle.nal.proofs.Shapes.{shape-short, shape-unknown}
+use Rattle.nal_read.proofs.Unpacking.{Units}
+use Rattle.nal_read.proofs.Shapes.{shape-short, shape-unknown}
 use Rattle.rfc6184.specs.Sending.{Each, Nal, octet, octetsOf, Part, Fragmented, single, fuA, fragment, payloadsOf, bodyOf, unitsOf, UnitType, Formed, FormedPart, FormedSending, Lawful}
 use Rattle.rfc6184.proofs.Octets.{fields-of-octet}
 use Rattle.h264.specs.Conformance.{cleared}

@@ -8,8 +8,8 @@ use lib.ListN.{length, replicate}
 use Rattle.wire.specs.Net.{be16}
 use Rattle.wire.specs.Part.{splice}
 use Rattle.wire.specs.Turns.{run}
-use Rattle.nal.specs.Kind.{shape}
-use Rattle.nal.specs.Unpack.{unpackTurn, unpack}
+use Rattle.nal_read.specs.Kind.{shape}
+use Rattle.nal_read.specs.Unpack.{unpackTurn, unpack}
 use Rattle.nal.specs.Fed.{layBytes, layFed}
 use Rattle.rfc6184.specs.Sending.{Each, octet, octetsOf}
 use Rattle.h264.specs.Units.{units, unitsAt}

@@ -12,11 +12,11 @@ use Rattle.error.specs.Said.{says}
 use Rattle.wire.specs.Part.{splice}
 use Rattle.wire.specs.Packets.{joined}
 use Rattle.wire.proofs.Part.{length-splice, part-of-splice}
-use Rattle.nal.specs.Kind.{Shape, headOf, shape}
-use Rattle.nal.specs.Kind as kind
+use Rattle.nal_read.specs.Kind.{Shape, headOf, shape}
+use Rattle.nal_read.specs.Kind as kind
 use Rattle.nal.specs.Fed.{runOf, ongoing, finished, prefixed}
 use Rattle.nal.proofs.Handing.{length-one}
-use Rattle.nal.proofs.Shapes.{shape-fragment}
+use Rattle.nal_read.proofs.Shapes.{shape-fragment}
 use Rattle.rfc6184.specs.Sending.{Each, Nal, octet, octetsOf, Part, Fragmented, fragment, fuA, payloadsOf, bodyOf, FormedPart, FormedSending}
 use Rattle.rfc6184.proofs.Octets.{length-octets}
 use Rattle.h264_packet.specs.Depacketize.{gatheredOn, readBy, readPayload, depacketized}

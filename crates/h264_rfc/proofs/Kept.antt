@@ -7,14 +7,14 @@ use Prim.Native.Nat.{ℕ, suc, _%_, _≤_}
 use lib.ListN.{length, getD}
 use Rattle.error.specs.Refusal.{Refusal}
 use Rattle.error.specs.Said.{Said, says, refused, refuse}
-use Rattle.nal.specs.Kind.{Shape, short, unknown, plain, aggregate, shape}
-use Rattle.nal.specs.Kind as kind
-use Rattle.nal.specs.Unpack.{unpack}
+use Rattle.nal_read.specs.Kind.{Shape, short, unknown, plain, aggregate, shape}
+use Rattle.nal_read.specs.Kind as kind
+use Rattle.nal_read.specs.Unpack.{unpack}
 use Rattle.nal.specs.Fed.{gathered, runOf, Fed, prefixed, OutLaid, layBytes, Laid, tooLong, gatherAfter, layFed}
 use Rattle.nal.specs.Ran.{RanOn, withRun, layRun}
-use Rattle.nal.proofs.Refusing.{not-says}
+use Rattle.error.proofs.Refusing.{not-says}
 use Rattle.nal.proofs.Running.{run-beside}
-use Rattle.nal.proofs.Shapes.{Facts, told}
+use Rattle.nal_read.proofs.Shapes.{Facts, told}
 use Rattle.h264_packet.specs.Depacketize.{beside, readBy, readPayload, depacketized}
 use Rattle.h264_packet.proofs.Depacketizing.{gathered-run, length-run}
 use Rattle.h264_rfc.specs.Reading.{State, gatheredThen, next, calls}

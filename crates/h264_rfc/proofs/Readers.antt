@@ -8,7 +8,7 @@ use native.Mathlib.Omega.{arith}
 use lib.ListN.{getD, replicate}
 use Rattle.error.specs.Refusal.{Refusal}
 use Rattle.error.specs.Said.{refused}
-use Rattle.nal.proofs.Refusing.{not-says}
+use Rattle.error.proofs.Refusing.{not-says}
 use Rattle.rfc6184.specs.Sending.{Nal, octet, octetsOf, single}
 use Rattle.h264_rfc.specs.Reading.{Reader, fresh, handedBy, Hears, handedAs, Complete}
 

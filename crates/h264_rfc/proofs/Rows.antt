@@ -8,8 +8,8 @@ use lib.ListN.{take, replicate}
 use Rattle.error.specs.Said.{Said, says, refused, refuse}
 use Rattle.wire.specs.Part.{splice}
 use Rattle.wire.specs.Turns.{run}
-use Rattle.nal.specs.Kind.{shape}
-use Rattle.nal.specs.Unpack.{unpackTurn, unpack}
+use Rattle.nal_read.specs.Kind.{shape}
+use Rattle.nal_read.specs.Unpack.{unpackTurn, unpack}
 use Rattle.nal.specs.Fed.{layBytes, Laid, layFed}
 use Rattle.nal.specs.Ran.{RanOn}
 use Rattle.rfc6184.specs.Sending.{Nal, octet, octetsOf, Fragmented, single, fuA, fragment, payloadsOf, Lawful}

@@ -16,15 +16,15 @@ use Rattle.wire.specs.Net.{be16}
 use Rattle.wire.specs.Turns.{more, done, after, run}
 use Rattle.wire.proofs.Net.{be16-of-u16}
 use Rattle.wire.proofs.Part.{part-of-splice}
-use Rattle.nal.specs.Kind.{Shape, short, unknown, plain, aggregate, shape, bit}
-use Rattle.nal.specs.Kind as kind
-use Rattle.nal.specs.Unpack.{Unpacking, unpackTurn, unpack, sizedUnits}
+use Rattle.nal_read.specs.Kind.{Shape, short, unknown, plain, aggregate, shape, bit}
+use Rattle.nal_read.specs.Kind as kind
+use Rattle.nal_read.specs.Unpack.{Unpacking, unpackTurn, unpack, sizedUnits}
 use Rattle.nal.specs.Fed.{gathered, runOf, Fed, ongoing, finished, prefixed, Laid}
 use Rattle.nal.specs.Ran.{RanOn, layRun}
-use Rattle.nal.proofs.Refusing.{not-says}
+use Rattle.error.proofs.Refusing.{not-says}
 use Rattle.nal.proofs.Running.{run-beside}
-use Rattle.nal.proofs.Unpacking.{Units}
-use Rattle.nal.proofs.Shapes.{Facts, PlainFacts, FragmentFacts, told}
+use Rattle.nal_read.proofs.Unpacking.{Units}
+use Rattle.nal_read.proofs.Shapes.{Facts, PlainFacts, FragmentFacts, told}
 use Rattle.rfc6184.specs.Sending.{Each, Nal, octet, octetsOf, nalOf, Part, fragment, UnitType, Sized}
 use Rattle.rfc6184.proofs.Octets.{formed-fields, octets-of-nal}
 use Rattle.h264.specs.Conformance.{Octets}

@@ -14,7 +14,7 @@ use Rattle.wire.specs.Part.{splice}
 use Rattle.wire.proofs.Part.{length-splice, part-of-splice}
 use Rattle.nal.specs.Fed.{gathered, runOf, Fed, prefixed, Laid, layFed}
 use Rattle.nal.specs.Ran.{RanOn, withRun, layRun}
-use Rattle.nal.proofs.Refusing.{not-says}
+use Rattle.error.proofs.Refusing.{not-says}
 use Rattle.nal.proofs.Handing.{bytes-short, bytes-fit, fed-long, fed-by}
 use Rattle.rfc6184.specs.Sending.{Each}
 use Rattle.h264_packet.specs.Depacketize.{readPayload, depacketized}

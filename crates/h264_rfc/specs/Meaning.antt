@@ -8,7 +8,7 @@ use lib.ListN.{length, take, getD}
 use Rattle.error.specs.Said.{says}
 use Rattle.nal.specs.Fed.{prefixed, Laid}
 use Rattle.nal.specs.Ran.{RanOn}
-use Rattle.nal.specs.Unpack.{sizedUnits}
+use Rattle.nal_read.specs.Unpack.{sizedUnits}
 use Rattle.rfc6184.specs.Sending.{Each, Nal, octet, octetsOf, Sending, single, stapA, payloadsOf, UnitType, Formed, Sized, FormedSending, Lawful}
 use Rattle.h264.specs.Conformance.{Octets}
 use Rattle.h264_rfc.specs.Reading.{Reader, gatheredThen, handedBy, TakenUnit}

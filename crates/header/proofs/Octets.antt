@@ -9,11 +9,13 @@ use lib.ListN.{length, length-append}
 use Rattle.wire.specs.Net.{be16, be32}
 use Rattle.wire.proofs.Net.{length-be32}
 use Rattle.block.specs.Form.{formOf, wordsFor}
-use Rattle.block.specs.Write.{blockOctets}
-use Rattle.block.proofs.Octets.{length-blockOctets, length-extensionFor}
+use Rattle.block_write.specs.Write.{blockOctets}
+use Rattle.block_write.proofs.Octets.{length-blockOctets, length-extensionFor}
 use Rattle.header.specs.Fields.{Fields}
-use Rattle.header.specs.Size.{payloadLength, sizeFor, headerSize}
-use Rattle.header.specs.Write.{extensionOctets, csrcOctets, firstOctet, secondOctet, fixedFor, fixedOctets, octetsOf}
+use Rattle.header_write.specs.Size.{sizeFor}
+use Rattle.header.specs.Size.{payloadLength, headerSize}
+use Rattle.header_write.specs.Fixed.{csrcOctets, fixedFor}
+use Rattle.header.specs.Write.{extensionOctets, firstOctet, secondOctet, fixedOctets, octetsOf}
 
 -- ---- lengths
 

@@ -18,14 +18,14 @@ use Rattle.elements.specs.declared.Extensions.{Extensions}
 use Rattle.elements.specs.Elements.{Element, dataOf, roomFor, layElements}
 use Rattle.elements.specs.Named.{Found, absent, find, replace, append}
 use Rattle.elements.specs.Named as named
-use Rattle.block.specs.Read.{Item, pad, stop, past, element, Block, skip, with-element, taken, turn, itemsBy, wholeBlock, readBlock, blockAt}
+use Rattle.block_read.specs.Read.{Item, pad, stop, past, element, Block, skip, with-element, taken, turn, itemsBy, wholeBlock, readBlock, blockAt}
 use Rattle.block.specs.Form.{Form, one-byte, two-byte, other, formOf}
 use Rattle.header.specs.declared.Header.{Header}
 use Rattle.header.specs.declared.HeaderRead.{HeaderRead}
 use Rattle.header.specs.declared.HeaderRead.the-variants as read
 use Rattle.header.specs.declared.Unmarshalled.{Unmarshalled}
-use Rattle.header.specs.declared.Length.{Length}
-use Rattle.header.specs.declared.Length.the-variants as len
+use Rattle.header_write.specs.declared.Length.{Length}
+use Rattle.header_write.specs.declared.Length.the-variants as len
 use Rattle.header.specs.declared.Change.{Change}
 use Rattle.header.specs.declared.Change.the-variants as change
 use Rattle.header.specs.declared.Changed.{Changed}
@@ -37,9 +37,11 @@ use Rattle.header.specs.declared.Ids.{Ids}
 use Rattle.header.specs.Fields.{fieldsOf, blank, inDomain}
 use Rattle.header.specs.Read.{Reading, bit, countOf, fixedLength, readingOf, readExtension, readFixed, readHeader}
 use Rattle.header.specs.Size.{payloadLength, headerSize, lengthAsked, sizeAsked}
-use Rattle.header.specs.Write.{octetsOf, inWritingDomain, judged, writeHeader}
+use Rattle.header_write.specs.Judge.{judged}
+use Rattle.header.specs.Write.{octetsOf, inWritingDomain, writeHeader}
 use Rattle.header.specs.Extension.{limited, idRefusal, setFound, setLater, setFirst, setExtension, delFound, delExtension, getExtension, getExtensionIds}
-use Rattle.header.specs.Said.{saidRead, Heard, heard, readingHeard, saidLength, Written, heardWritten, written, saidChange, After, heardChange, changeHeard, saidGot, saidCount, Listed, heardIds, idsHeard}
+use Rattle.header_write.specs.Said.{saidLength}
+use Rattle.header.specs.Said.{saidRead, Heard, heard, readingHeard, Written, heardWritten, written, saidChange, After, heardChange, changeHeard, saidGot, saidCount, Listed, heardIds, idsHeard}
 
 -- ---- lengths
 

@@ -22,7 +22,7 @@ use Rattle.elements.proofs.Runs.{run-data}
 use Rattle.elements.proofs.Changes.{either, one, stands-one, find-first, find-absent, replace-first, remove-first}
 use Rattle.block.specs.Form.{Form, one-byte, two-byte, other, formOf, perElement}
 use Rattle.block.specs.Padding.{grown, shrunk, resized}
-use Rattle.block.proofs.Octets.{both}
+use Rattle.block_write.proofs.Octets.{both}
 use Rattle.header.specs.declared.Header.{Header}
 use Rattle.header.specs.Fields.{fieldsOf, inDomain}
 use Rattle.header.specs.Extension.{changed, change, idRefusal, setFound, setLater, setFirst, setExtension, delFound, delExtension, getExtension, Held, nothing, holds, lookup, shows}

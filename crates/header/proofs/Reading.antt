@@ -15,11 +15,11 @@ use Rattle.wire.specs.Net.{u16At, u32At}
 use Rattle.wire.specs.Part.{padTo}
 use Rattle.elements.specs.declared.Extensions.{Extensions}
 use Rattle.elements.specs.Elements.{layElements}
-use Rattle.block.specs.declared.Ending.{Ending}
-use Rattle.block.specs.declared.Ending.the-variants as ending
-use Rattle.block.specs.Read.{Block, blockAt, readBlock}
+use Rattle.block_read.specs.declared.Ending.{Ending}
+use Rattle.block_read.specs.declared.Ending.the-variants as ending
+use Rattle.block_read.specs.Read.{Block, blockAt, readBlock}
 use Rattle.block.specs.Form.{formOf}
-use Rattle.block.specs.Said.{saidEnding, blockHeard}
+use Rattle.block_read.specs.Said.{saidEnding, blockHeard}
 use Rattle.header.specs.declared.Header.{Header}
 use Rattle.header.specs.declared.HeaderRead.{HeaderRead}
 use Rattle.header.specs.declared.HeaderRead.the-variants as read

@@ -15,14 +15,16 @@ use Rattle.error.specs.Said.{says, refused, refuse}
 use Rattle.elements.specs.Elements.{sum}
 use Rattle.elements.proofs.Packed.{PackedIn, length-elementsOf, length-dataOf}
 use Rattle.block.specs.Form.{lengthFor}
-use Rattle.block.proofs.Octets.{both}
+use Rattle.block_write.proofs.Octets.{both}
 use Rattle.block.proofs.Form.{heads-few}
 use Rattle.header.specs.declared.Header.{Header}
-use Rattle.header.specs.declared.Length.{Length}
-use Rattle.header.specs.declared.Length.the-variants as len
-use Rattle.header.specs.Fields.{fieldsOf, inLimits, inDomain}
-use Rattle.header.specs.Size.{payloadLength, headerSize, sizeFor, lengthAsked, sizeAsked}
-use Rattle.header.specs.Said.{saidLength}
+use Rattle.header_write.specs.declared.Length.{Length}
+use Rattle.header_write.specs.declared.Length.the-variants as len
+use Rattle.header_write.specs.Limits.{inLimits}
+use Rattle.header.specs.Fields.{fieldsOf, inDomain}
+use Rattle.header_write.specs.Size.{sizeFor}
+use Rattle.header.specs.Size.{payloadLength, headerSize, lengthAsked, sizeAsked}
+use Rattle.header_write.specs.Said.{saidLength}
 
 pub record Limits (n count : ℕ) (lens : List ℕ) (pads : ℕ) : Type 0 where
   pub sources : n ≤ 15

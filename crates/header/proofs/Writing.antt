@@ -17,14 +17,16 @@ use Rattle.wire.proofs.Part.{splice-behind}
 use Rattle.elements.specs.Elements.{elementsOf, elementsIn}
 use Rattle.elements.proofs.Packed.{PackedIn}
 use Rattle.block.specs.Form.{Form, one-byte, two-byte, other, formOf}
-use Rattle.block.specs.Write.{allFit, allWritable, extensionFor}
-use Rattle.block.proofs.Octets.{both, allWritable-fit}
+use Rattle.block_write.specs.Write.{allFit, allWritable, extensionFor}
+use Rattle.block_write.proofs.Octets.{both, allWritable-fit}
 use Rattle.header.specs.declared.Header.{Header}
-use Rattle.header.specs.declared.Length.{Length}
-use Rattle.header.specs.declared.Length.the-variants as len
+use Rattle.header_write.specs.declared.Length.{Length}
+use Rattle.header_write.specs.declared.Length.the-variants as len
 use Rattle.header.specs.Fields.{fieldsOf, inDomain}
 use Rattle.header.specs.Size.{payloadLength, headerSize}
-use Rattle.header.specs.Write.{csrcOctets, firstFor, secondFor, fixedFor, octetsOf, judged, inWritingDomain, writeHeader}
+use Rattle.header_write.specs.Fixed.{csrcOctets, firstFor, secondFor, fixedFor}
+use Rattle.header_write.specs.Judge.{judged}
+use Rattle.header.specs.Write.{octetsOf, inWritingDomain, writeHeader}
 use Rattle.header.specs.Said.{Written, heardWritten, written}
 use Rattle.header.proofs.Sizes.{never, lengthIn, payload-length, Arrays, LimitsOf, limits-of, packed}
 use Rattle.header.proofs.Octets.{length-fixed, octets-fit}

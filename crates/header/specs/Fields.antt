@@ -1,12 +1,12 @@
 -- What a header says, as the paper speaks of it: elements are a list, sources are a list. The record with its arrays is laid out
 -- from this, and read back to it, in one place. Assumes nothing.
-use mathlib.Core.Bool.{Bool, false, _&&_}
+use mathlib.Core.Bool.{Bool, false}
 use mathlib.Core.List.{List, []}
 use Prim.Native.Nat.{ℕ}
-use lib.Dec.{leb}
 use lib.ListN.{length, take}
 use Rattle.wire.specs.Part.{padTo}
-use Rattle.elements.specs.Elements.{Element, elementsOf, layElements, sum}
+use Rattle.elements.specs.Elements.{Element, elementsOf, layElements}
+use Rattle.header_write.specs.Limits.{inLimits}
 use Rattle.header.specs.declared.Header.{Header}
 
 pub record Fields : Type 0 where
@@ -78,13 +78,7 @@ blank =
       pads = 0;
     })
 
--- "counts and lengths in a record that lie within its arrays", "15 CSRCs; 32 extension elements holding 1,024 data bytes in
--- all", "extensions_padding in any record up to 262,140"
-abbrev pub inLimits : ℕ → ℕ → List ℕ → ℕ → Bool
-inLimits csrcs count lens pads =
-    leb csrcs 15 && (leb count 32 && (leb (sum (take count lens)) 1024 && leb pads 262140))
-
--- of a whole record
+-- the limits of the domain, of a whole record
 unfoldable pub inDomain : Header → Bool
 inDomain h =
     inLimits (h .«csrc_count») (h .extensions .count) (h .extensions .lens) (h .«extensions_padding»)

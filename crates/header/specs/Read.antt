@@ -7,7 +7,7 @@ use lib.Dec.{ltb, eqb}
 use lib.ListN.{length, getD}
 use Rattle.error.specs.Said.{Said, says, refused, refuse}
 use Rattle.wire.specs.Net.{u16At, u32At}
-use Rattle.block.specs.Read.{Block, readBlock, blockAt}
+use Rattle.block_read.specs.Read.{Block, readBlock, blockAt}
 use Rattle.block.specs.Form.{formOf}
 use Rattle.header.specs.Fields.{Fields}
 

@@ -8,12 +8,12 @@ use Rattle.wire.specs.Net.{u16At, u32At}
 use Rattle.wire.specs.Part.{padTo, splice}
 use Rattle.elements.specs.declared.Extensions.{Extensions}
 use Rattle.elements.specs.Named.{Found, absent, at}
+use Rattle.header_write.specs.declared.Length.{Length}
+use Rattle.header_write.specs.Said.{saidLength}
 use Rattle.header.specs.declared.Header.{Header}
 use Rattle.header.specs.declared.HeaderRead.{HeaderRead}
 use Rattle.header.specs.declared.HeaderRead.the-variants as read
 use Rattle.header.specs.declared.Unmarshalled.{Unmarshalled}
-use Rattle.header.specs.declared.Length.{Length}
-use Rattle.header.specs.declared.Length.the-variants as len
 use Rattle.header.specs.declared.Change.{Change}
 use Rattle.header.specs.declared.Change.the-variants as change
 use Rattle.header.specs.declared.Changed.{Changed}
@@ -64,10 +64,6 @@ headerAt s cc profile list pads =
     }
 
 -- ---- sizes and writing
-
-abbrev pub saidLength : Length → Said ℕ
-saidLength (len.Bytes n) = says n
-saidLength (len.Refused e) = refused (refusalOf e)
 
 -- the answer, and the buffer at exit
 pub record Written : Type 0 where

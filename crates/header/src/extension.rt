@@ -18,7 +18,6 @@ use crate::Got;
 use crate::Header;
 use crate::IdCount;
 use crate::Ids;
-use crate::limits::in_limits;
 use block::EXTENSION_PROFILE_ONE_BYTE;
 use block::EXTENSION_PROFILE_TWO_BYTE;
 use block::grow;
@@ -27,8 +26,11 @@ use block::resize;
 use elements::Extensions;
 use elements::Run;
 use elements::find;
+use elements::replaced;
 use elements::total;
+use elements::without;
 use error::Error;
+use header_write::in_limits;
 
 // Whether a later set takes the id and the length.
 fn allowed(profile: u16, id: u8, len: usize) -> Change
@@ -100,7 +102,11 @@ impl Header {
         }
         Changed {
             change: Change::Made,
-            header: self.extended(profile, self.extensions.replaced(run, id, payload), padding),
+            header: self.extended(
+                profile,
+                replaced(self.extensions, run, id, payload),
+                padding,
+            ),
         }
     }
 
@@ -210,7 +216,7 @@ impl Header {
         let padding = (self.extensions_padding + gone) % 4;
         Changed {
             change: Change::Made,
-            header: self.extended(profile, self.extensions.without(run), padding),
+            header: self.extended(profile, without(self.extensions, run), padding),
         }
     }
 

@@ -15,7 +15,6 @@
 use error::Error;
 
 mod extension;
-mod limits;
 mod read;
 mod size;
 mod write;
@@ -24,6 +23,7 @@ pub use block::EXTENSION_ID_RESERVED;
 pub use block::EXTENSION_PROFILE_ONE_BYTE;
 pub use block::EXTENSION_PROFILE_TWO_BYTE;
 pub use elements::Extensions;
+pub use header_write::Length;
 
 #[repr(C)]
 pub struct Header {
@@ -65,12 +65,6 @@ pub struct Unmarshalled {
     pub read: HeaderRead,
     // all zeros beside a refusal
     pub header: Header,
-}
-
-// A number of bytes.
-pub enum Length {
-    Bytes(usize),
-    Refused(Error),
 }
 
 // What setting and deleting answer beside the record.

@@ -11,16 +11,10 @@ ghost use Rattle.header.specs.Said.{headerAt, heard, readingHeard};
 use crate::Header;
 use crate::HeaderRead;
 use crate::Unmarshalled;
-use block::Ending;
-use block::read_block;
+use block_read::Ending;
+use block_read::read_block;
 use elements::Extensions;
 use error::Error;
-
-fn wide(b: u8) -> usize
-    ensures { λ r. ⌜ (r ≡ b) × (r < 256) ⌝ }
-{
-    b as usize
-}
 
 fn csrcs(packet: &[u8], cc: usize) -> [u32; 15]
     requires { ⌜ (cc ≤ 15) × (12 + 4 * cc ≤ length (now packet)) ⌝ }
@@ -86,7 +80,7 @@ fn read_extended(packet: &[u8], cc: usize, at: usize) -> Unmarshalled
         return refused_header(Error::ErrHeaderSizeInsufficientForExtension);
     }
     let profile = wire::get_u16(packet, at);
-    let len = 4 * elements::wide(wire::get_u16(packet, at + 2));
+    let len = 4 * wire::wide16(wire::get_u16(packet, at + 2));
     let start = at + 4;
     if packet.len() < start + len {
         return refused_header(Error::ErrHeaderSizeInsufficientForExtension);
@@ -136,7 +130,7 @@ impl Header {
             return refused_header(Error::ErrHeaderSizeInsufficient);
         }
         let b0 = packet[0];
-        let cc = wide(b0 % 16);
+        let cc = wire::wide(b0 % 16);
         let at = 12 + 4 * cc;
         if packet.len() < at {
             return refused_header(Error::ErrHeaderSizeInsufficient);

@@ -12,11 +12,11 @@ use lib.Seq.{take-at, drop-at}
 use Rattle.error.specs.Said.{says, refuse}
 use Rattle.elements.specs.Elements.{Element}
 use Rattle.elements.proofs.Elements.{room, no-room}
-use Rattle.block.specs.Read.{Block, readBlock, itemsBy, wholeBlock}
+use Rattle.block_read.specs.Read.{Block, readBlock, itemsBy, wholeBlock}
 use Rattle.block.specs.Form.{formOf}
 use Rattle.block.specs.Form as forms
-use Rattle.block.specs.Read as paper
-use Rattle.block.proofs.Reading.{block-path}
+use Rattle.block_read.specs.Read as paper
+use Rattle.block_read.proofs.Reading.{block-path}
 use Rattle.block.proofs.Form.{form-other}
 use Rattle.header.specs.Read.{readHeader}
 use Rattle.rfc3550.specs.Rfc3550.{Fixed, LawfulFixed, Extension, LawfulExtension}

@@ -16,8 +16,8 @@ use Rattle.wire.specs.Net.{be16}
 use Rattle.wire.proofs.Turns.{run-more, run-done}
 use Rattle.elements.specs.Elements.{Element, dataOf, roomFor}
 use Rattle.elements.proofs.Elements.{dataOf-append}
-use Rattle.block.specs.Read.{Block, oneByte, twoByte, itemsBy, taken, turn}
-use Rattle.block.specs.Read as paper
+use Rattle.block_read.specs.Read.{Block, oneByte, twoByte, itemsBy, taken, turn}
+use Rattle.block_read.specs.Read as paper
 use Rattle.block.proofs.Form.{form-other}
 use Rattle.header.specs.Read.{readHeader}
 use Rattle.rfc3550.specs.Rfc3550.{Fixed, LawfulFixed, Extension, LawfulExtension, fixedOctets, extensionOctets}

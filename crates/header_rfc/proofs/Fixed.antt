@@ -16,7 +16,7 @@ use Rattle.rfc3550.specs.Rfc3550.{AllBelow, Fixed, LawfulFixed, bit, csrcOctets
 use Rattle.rfc3550.specs.Rfc3550 as rtp
 use Rattle.rfc3550.proofs.Places.{length-fixed, behind-fixed, version-at, padding-at, extension-at, count-at, marker-at, type-at, number-at, time-at, source-at, csrcs-at, length-extension, profile-at, words-at, content-at, extended-octets}
 use Rattle.elements.specs.Elements.{Element}
-use Rattle.block.specs.Read.{Block, blockAt, readBlock}
+use Rattle.block_read.specs.Read.{Block, blockAt, readBlock}
 use Rattle.block.specs.Form.{formOf}
 use Rattle.header.specs.Fields.{Fields}
 use Rattle.header.specs.Read.{Reading, csrcsAt, countOf, fixedLength, fieldsAt, readExtension, readHeader}

@@ -18,9 +18,9 @@ use Rattle.wire.proofs.Each.{each-by}
 use Rattle.wire.proofs.Turns.{run-more, run-done}
 use Rattle.elements.specs.Elements.{Element, dataOf, roomFor}
 use Rattle.elements.proofs.Elements.{dataOf-append, room, no-room}
-use Rattle.block.specs.Read.{Block, within, oneByte, twoByte, itemsBy, taken, turn, with-element, skip}
-use Rattle.block.specs.Read as paper
-use Rattle.block.proofs.Reading.{block-path, zero-first}
+use Rattle.block_read.specs.Read.{Block, within, oneByte, twoByte, itemsBy, taken, turn, with-element, skip}
+use Rattle.block_read.specs.Read as paper
+use Rattle.block_read.proofs.Reading.{block-path, zero-first}
 use Rattle.rfc3550.specs.Rfc8285.{Form, one-byte, two-byte, Item, padding, element, headOctets, blockOctets, LawfulElement, LawfulItem, AllLawful}
 use Rattle.header_rfc.specs.Says.{elementsAmong, padsAmong, Within, Over}
 use Rattle.header_rfc.specs.Taken.{TakenElement, TakenItem, AllTaken}

@@ -18,10 +18,10 @@ use Rattle.rfc3550.specs.Rfc8285.{Form, one-byte, two-byte}
 use Rattle.rfc3550.proofs.Places.{plain-octets}
 use Rattle.rfc3550.proofs.Parse.{begins-or-cut}
 use Rattle.elements.specs.Elements.{roomFor}
-use Rattle.block.specs.Read.{Block, itemsBy, taken, turn, skip, padded, with-element, readBlock, wholeBlock}
+use Rattle.block_read.specs.Read.{Block, itemsBy, taken, turn, skip, padded, with-element, readBlock, wholeBlock}
 use Rattle.block.specs.Form.{formOf}
 use Rattle.block.specs.Form as forms
-use Rattle.block.specs.Read as paper
+use Rattle.block_read.specs.Read as paper
 use Rattle.header.specs.Read.{Reading, readHeader}
 use Rattle.header_rfc.specs.Says.{Fits}
 use Rattle.header_rfc.proofs.Items.{isTwo, now, reads, turn-seen}

@@ -11,8 +11,8 @@ use Rattle.error.specs.Said.{says}
 use Rattle.elements.specs.Elements.{Element}
 use Rattle.block.specs.Form.{formOf, wordsFor}
 use Rattle.block.specs.Form as forms
-use Rattle.block.specs.Write as blocks
-use Rattle.block.proofs.Octets.{length-blockOctets}
+use Rattle.block_write.specs.Write as blocks
+use Rattle.block_write.proofs.Octets.{length-blockOctets}
 use Rattle.block.proofs.Form.{form-other}
 use Rattle.header.specs.Fields.{Fields}
 use Rattle.header.specs.Read.{readHeader}

@@ -13,7 +13,7 @@ use Rattle.error.specs.Said.{Said, says}
 use Rattle.wire.proofs.Each.{each-append}
 use Rattle.elements.specs.Elements.{Element, dataOf}
 use Rattle.block.specs.Form.{formOf, wordsFor}
-use Rattle.block.specs.Write.{fits, allWritable}
+use Rattle.block_write.specs.Write.{fits, allWritable}
 use Rattle.block.specs.Form as forms
 use Rattle.block.proofs.Form.{form-other}
 use Rattle.header.specs.Fields.{Fields}

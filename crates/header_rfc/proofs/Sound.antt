@@ -13,7 +13,7 @@ use lib.ListN.{length}
 use Rattle.error.specs.Said.{Said, says, refused, refuse}
 use Rattle.wire.specs.Net.{be16}
 use Rattle.elements.specs.Elements.{Element, dataOf}
-use Rattle.block.specs.Read.{Block, readBlock}
+use Rattle.block_read.specs.Read.{Block, readBlock}
 use Rattle.block.specs.Form.{formOf}
 use Rattle.header.specs.Fields.{Fields}
 use Rattle.header.specs.Read.{Reading, readHeader}

@@ -16,7 +16,7 @@ use Rattle.elements.specs.Elements.{Element, dataOf, layElements}
 use Rattle.elements.proofs.Elements.{elementsOf-layElements}
 use Rattle.elements.proofs.Packed.{length-elementsOf, length-dataOf}
 use Rattle.block.specs.Form.{formOf, perElement}
-use Rattle.block.specs.Write.{allWritable}
+use Rattle.block_write.specs.Write.{allWritable}
 use Rattle.block.specs.Form as forms
 use Rattle.block.proofs.Form.{form-other}
 use Rattle.header.specs.declared.Header.{Header}

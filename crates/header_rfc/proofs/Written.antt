@@ -11,11 +11,12 @@ use Rattle.wire.specs.Net.{be16, be32}
 use Rattle.elements.specs.Elements.{Element, dataOf}
 use Rattle.block.specs.Form.{formOf, perElement, wordsFor}
 use Rattle.block.specs.Form as forms
-use Rattle.block.specs.Write as blocks
-use Rattle.block.proofs.Octets.{length-blockOctets}
+use Rattle.block_write.specs.Write as blocks
+use Rattle.block_write.proofs.Octets.{length-blockOctets}
 use Rattle.header.specs.Fields.{Fields}
 use Rattle.header.specs.Size.{payloadLength}
-use Rattle.header.specs.Write.{flag, octetsOf}
+use Rattle.header_write.specs.Fixed.{flag}
+use Rattle.header.specs.Write.{octetsOf}
 use Rattle.header.specs.Write as written
 use Rattle.rfc3550.specs.Rfc3550.{Fixed, LawfulFixed, bit, LawfulExtension}
 use Rattle.rfc3550.specs.Rfc3550 as rtp

@@ -15,13 +15,13 @@ use borrow.Author.Tests.{eq-eqb, ne-eqb, le-ltb, lt-ltb, le-leb}
 use Rattle.error.specs.Said.{Said, says, refuse}
 use Rattle.wire.specs.Turns.{Turn, more, done, after, run}
 use Rattle.elements.specs.Elements.{Element, roomFor}
-use Rattle.block.specs.Read.{Block, within, oneByte, twoByte, itemsBy, taken, turn, skip, padded, with-element, readBlock, wholeBlock}
+use Rattle.block_read.specs.Read.{Block, within, oneByte, twoByte, itemsBy, taken, turn, skip, padded, with-element, readBlock, wholeBlock}
 use Rattle.block.specs.Form.{formOf}
-use Rattle.block.specs.Write.{fits, writable, allWritable}
+use Rattle.block_write.specs.Write.{fits, writable, allWritable}
 use Rattle.block.specs.Form as forms
-use Rattle.block.specs.Read as paper
-use Rattle.block.proofs.Reading.{item-bound, zero-first}
-use Rattle.block.proofs.Octets.{both}
+use Rattle.block_read.specs.Read as paper
+use Rattle.block_read.proofs.Reading.{item-bound, zero-first}
+use Rattle.block_write.proofs.Octets.{both}
 use Rattle.header.specs.Fields.{Fields}
 use Rattle.header.specs.Read.{Reading, readHeader}
 use Rattle.rfc3550.specs.Rfc3550.{Octets, Fixed, LawfulFixed, Extension, LawfulExtension, LawfulPart, Begins, CutShort}

@@ -6,8 +6,8 @@ use joiner::Closed;
 use joiner::Joined;
 use joiner::Joiner;
 use joiner::Step;
-use nal::Kind;
-use nal::Measured;
+use nal_read::Kind;
+use nal_read::Measured;
 use packet::PacketRead;
 
 pub enum Fault {
@@ -52,11 +52,11 @@ fn units_of(packet: &[u8], bytes: usize) -> usize {
         return 0;
     }
     let payload = stream::payload(packet);
-    let kind = nal::kind_of(payload);
+    let kind = nal_read::kind_of(payload);
     let Kind::Aggregate = kind else {
         return 1;
     };
-    let measured = nal::measure(payload);
+    let measured = nal_read::measure(payload);
     match measured {
         Measured::Units { count, bytes: _ } => count,
         Measured::Refused(_) => 0,

@@ -24,7 +24,7 @@ use Rattle.packet.proofs.Reading.{payload-inside}
 use Rattle.sequence.specs.Number.{distanceOf}
 use Rattle.nal.specs.Fed.{none, gathered, runOf, Fed, OutLaid, Laid, layFed}
 use Rattle.nal.specs.Ran.{RanOn, withRun, layRun}
-use Rattle.nal.proofs.Refusing.{not-says}
+use Rattle.error.proofs.Refusing.{not-says}
 use Rattle.nal.proofs.Running.{run-beside, nothing-out}
 use Rattle.joiner.specs.declared.Joiner.{Joiner}
 use Rattle.joiner.specs.Codec.{idle, feed}

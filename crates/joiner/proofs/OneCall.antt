@@ -16,13 +16,13 @@ use Rattle.wire.specs.Part.{splice, part}
 use Rattle.wire.specs.Packets.{joined}
 use Rattle.wire.proofs.Part.{part-of-splice, length-splice}
 use Rattle.packet.specs.Read.{PacketReading, readPacket}
-use Rattle.nal.specs.Kind.{Shape, short, unknown, plain, aggregate, fragment, shape}
-use Rattle.nal.specs.Unpack.{unpack}
+use Rattle.nal_read.specs.Kind.{Shape, short, unknown, plain, aggregate, fragment, shape}
+use Rattle.nal_read.specs.Unpack.{unpack}
 use Rattle.nal.specs.Fed.{Run, none, gathering, gathered, runOf, ongoing, prefixed, layBytes, Laid, tooLong, gatherAfter, layFed}
 use Rattle.nal.specs.Fed as nal
-use Rattle.nal.proofs.Refusing.{not-says}
+use Rattle.error.proofs.Refusing.{not-says}
 use Rattle.nal.proofs.Handing.{length-prefixed}
-use Rattle.nal.proofs.Shapes.{fragment-long}
+use Rattle.nal_read.proofs.Shapes.{fragment-long}
 use Rattle.sequence.specs.Number.{distanceOf, nextOf}
 use Rattle.sequence.specs.Event.{got, holes}
 use Rattle.sequence.specs.Rule.{late, onward, arriveBy, tooFar, ended}

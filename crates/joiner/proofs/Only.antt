@@ -15,8 +15,8 @@ use Rattle.wire.specs.Part.{part}
 use Rattle.packet.specs.Read.{PacketReading, readPacket}
 use Rattle.packet.proofs.Only.{packet-sayable}
 use Rattle.sequence.specs.Number.{distanceOf, nextOf}
-use Rattle.nal.specs.Kind.{Shape, short, unknown, plain, aggregate, fragment, shape}
-use Rattle.nal.specs.Unpack.{unpack}
+use Rattle.nal_read.specs.Kind.{Shape, short, unknown, plain, aggregate, fragment, shape}
+use Rattle.nal_read.specs.Unpack.{unpack}
 use Rattle.nal.proofs.Sayable.{unpack-sayable, handing-sayable, fed-sayable}
 use Rattle.nal.specs.Fed.{none, Run, Fed, Laid, layFed}
 use Rattle.joiner.specs.declared.Joiner.{Joiner}

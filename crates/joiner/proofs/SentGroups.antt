@@ -14,9 +14,9 @@ use Rattle.wire.specs.Net.{be16}
 use Rattle.wire.specs.Packets.{joined}
 use Rattle.wire.specs.Turns.{run}
 use Rattle.wire.proofs.Each.{each-by, each-map}
-use Rattle.nal.specs.Kind.{Shape, aggregate, fragment, bit, headOf, shape}
-use Rattle.nal.proofs.Shapes.{shape-plain, shape-aggregate, shape-fragment, unpack-sized}
-use Rattle.nal.specs.Unpack.{sizedUnits, Sized}
+use Rattle.nal_read.specs.Kind.{Shape, aggregate, fragment, bit, headOf, shape}
+use Rattle.nal_read.proofs.Shapes.{shape-plain, shape-aggregate, shape-fragment, unpack-sized}
+use Rattle.nal_read.specs.Unpack.{sizedUnits, Sized}
 use Rattle.nal.specs.Fed.{Run, none, gathering, prefixed, ongoing, finished}
 use Rattle.nal.specs.Fed as nal
 use Rattle.sequence.specs.Group.{Group, EachHanded}

@@ -6,8 +6,8 @@ use mathlib.Core.List.{List, [], _∷_, _++_}
 use Prim.Native.Nat.{ℕ}
 use lib.ListN.{drop}
 use Rattle.error.specs.Said.{Said, says, refused, refuse}
-use Rattle.nal.specs.Kind.{Shape, short, unknown, plain, aggregate, fragment, shape}
-use Rattle.nal.specs.Unpack.{unpack}
+use Rattle.nal_read.specs.Kind.{Shape, short, unknown, plain, aggregate, fragment, shape}
+use Rattle.nal_read.specs.Unpack.{unpack}
 use Rattle.nal.specs.Fed.{Run, none, gathering, Fed, ongoing, finished}
 use Rattle.nal.specs.Ran.{handing}
 

@@ -6,7 +6,7 @@ use Prim.Native.Nat.{ℕ, _+_, _*_, _/_, _%_, _≤_}
 use lib.ListN.{length, getD}
 use Rattle.wire.specs.Each.{Each}
 use Rattle.wire.specs.Packets.{joined}
-use Rattle.nal.specs.Unpack.{sizedUnits, Sized}
+use Rattle.nal_read.specs.Unpack.{sizedUnits, Sized}
 use Rattle.nal.specs.Fed.{prefixed}
 use Rattle.sequence.specs.Group.{Group}
 use Rattle.joiner.specs.General.{Units}

@@ -17,12 +17,6 @@ pub(crate) enum Arrival {
     Refused(Error),
 }
 
-fn wide(b: u8) -> usize
-    ensures { λ r. ⌜ (r ≡ b) × (r < 256) ⌝ }
-{
-    b as usize
-}
-
 // By the packet's reader.
 fn read(packet: &[u8]) -> Arrival
     ensures { λ r. ⌜ arrivalSaid r ≡ arrivalOf (readPacket (now (packet .entry))) ⌝ }
@@ -54,7 +48,7 @@ pub(crate) fn arrive(packet: &[u8]) -> Arrival
     if b0 / 16 % 4 != 0 {
         return read(packet);
     }
-    let at = 12 + 4 * wide(b0 % 16);
+    let at = 12 + 4 * wire::wide(b0 % 16);
     if packet.len() < at {
         return read(packet);
     }

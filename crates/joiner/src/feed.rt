@@ -8,8 +8,8 @@ ghost use Rattle.joiner.specs.Codec.{fragmented};
 ghost use Rattle.joiner.specs.Codec.{feed as feedOf};
 ghost use Rattle.nal.specs.Fed.{runOf};
 use error::Error;
-use nal::Kind;
 use nal::Ran;
+use nal_read::Kind;
 
 // A fragment. `run` bytes are gathered, 0 for no run.
 fn feed_fragment(
@@ -47,7 +47,7 @@ pub(crate) fn feed(run: usize, payload: &[u8], gather: &mut [u8], out: &mut [u8]
     requires { ⌜ (length (now payload) ≤ 65535) × (run ≤ length (now gather)) ⌝ }
     ensures { λ r. ⌜ ranHeard r (now (gather .exit)) (now (out .exit)) ≡ layRun false (now (gather .entry)) (now (out .entry)) (feedOf (runOf run (now (gather .entry))) (now (payload .entry))) ⌝ }
 {
-    let kind = nal::kind_of(payload);
+    let kind = nal_read::kind_of(payload);
     match kind {
         Kind::Short => Ran::Refused(Error::ErrShortPacket),
         Kind::Unknown(t) => Ran::Refused(Error::NaluTypeIsNotHandled(t)),

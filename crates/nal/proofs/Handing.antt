@@ -46,10 +46,6 @@ length-prefixed avc (u ∷ us) =
     let ih : length (prefixed avc us) ≡ length (joined us) + 4 * length us = length-prefixed avc us in
     omega arith
 
-pub joined-append : (us vs : List (List ℕ)) → joined (us ++ vs) ≡ joined us ++ joined vs
-joined-append [] vs = refl
-joined-append (u ∷ us) vs = ap (λ (l : List ℕ). u ++ l) (joined-append us vs) ∙ sym (append-assoc u (joined us) (joined vs))
-
 pub length-one : (avc : Bool) (u : List ℕ) → length (prefixed avc (u ∷ [])) ≡ length u + 4
 length-one avc u = ap length (prefixed-one avc u) ∙ omega (arith, length-unit avc u)
 

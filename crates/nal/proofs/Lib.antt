@@ -1,6 +1,4 @@
-pub mod Refusing
 pub mod Handing
-pub mod Unpacking
+pub mod Putting
 pub mod Running
-pub mod Shapes
 pub mod Sayable

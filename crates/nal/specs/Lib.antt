@@ -1,5 +1,3 @@
-pub mod Kind
-pub mod Unpack
 pub mod Fed
 pub mod Said
 pub mod Ran

@@ -6,13 +6,12 @@ ghost use lib.ListN.{length};
 ghost use Rattle.error.specs.Said.{says};
 ghost use Rattle.nal.specs.Said.{saidHanded};
 ghost use Rattle.nal.specs.Ran.{ranSaid, withRun, outRan, layUnits};
-ghost use Rattle.nal.specs.Unpack.{unpack};
+ghost use Rattle.nal_read.specs.Unpack.{unpack};
 use crate::Handed;
-use crate::Measured;
 use crate::Ran;
 use crate::aggregate::hand_units;
-use crate::aggregate::measure;
 use crate::buffers::hand_plain;
+use nal_read::Measured;
 
 // The answer of handing out, where a run of `gathered` bytes is open afterwards.
 pub fn with_run(handed: Handed, gathered: usize) -> Ran
@@ -37,7 +36,7 @@ pub fn run_units(payload: &[u8], avc: bool, gathered: usize, out: &mut [u8]) -> 
     requires { ⌜ length (now payload) ≤ 65535 ⌝ }
     ensures { λ r. ⌜ outRan r (now (out .exit)) ≡ layUnits avc gathered (now (out .entry)) (unpack (now (payload .entry))) ⌝ }
 {
-    let measured = measure(payload);
+    let measured = nal_read::measure(payload);
     match measured {
         Measured::Units { count, bytes } => {
             with_run(hand_units(payload, count, bytes, avc, out), gathered)

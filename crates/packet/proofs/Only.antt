@@ -13,12 +13,14 @@ use Rattle.error.proofs.Inverse.{errorOf, errorOf-refusalOf}
 use Rattle.error.proofs.Only.{by-view, Sayable, either, known, passed}
 use Rattle.block.specs.Form.{Form, formOf}
 use Rattle.header.specs.declared.Header.{Header}
-use Rattle.header.specs.declared.Length.{Length}
+use Rattle.header_write.specs.declared.Length.{Length}
 use Rattle.header.specs.Fields.{Fields, fieldsOf, blank, inDomain}
 use Rattle.header.specs.Read.{Reading, readHeader}
 use Rattle.header.specs.Size.{payloadLength}
-use Rattle.header.specs.Write.{inWritingDomain, judged}
-use Rattle.header.specs.Said.{saidLength, written}
+use Rattle.header_write.specs.Judge.{judged}
+use Rattle.header.specs.Write.{inWritingDomain}
+use Rattle.header_write.specs.Said.{saidLength}
+use Rattle.header.specs.Said.{written}
 use Rattle.header.proofs.Only.{length-only, Left, heardLeft, written-only, judged-sayable, read-sayable}
 use Rattle.packet.specs.declared.PacketRead.{PacketRead}
 use Rattle.packet.specs.declared.PacketRead.the-variants as read

@@ -12,11 +12,12 @@ use Rattle.error.specs.Said.{Said, says}
 use Rattle.wire.specs.Net.{u16At, u32At, be16, be32}
 use Rattle.wire.specs.Part.{part}
 use Rattle.elements.specs.Elements.{elementsOf, layElements}
-use Rattle.block.specs.Read.{blockAt}
+use Rattle.block_read.specs.Read.{blockAt}
 use Rattle.header.specs.Fields.{Fields, fieldsOf, layOut, inDomain}
 use Rattle.header.specs.Read.{Reading, bit, fieldsAt, readHeader}
 use Rattle.header.specs.Size.{headerSize}
-use Rattle.header.specs.Write.{flag, fixedFor, octetsOf, inWritingDomain}
+use Rattle.header_write.specs.Fixed.{flag, fixedFor}
+use Rattle.header.specs.Write.{octetsOf, inWritingDomain}
 use Rattle.header.proofs.Reading.{header-plain}
 use Rattle.packet.specs.Read.{Payload, PacketReading, behind, readPacket}
 use Rattle.packet.specs.Write.{payloadOctets, packetOctets, packetSize, writePacket}

@@ -14,14 +14,15 @@ use Rattle.error.specs.Said.{says, refused, refuse}
 use Rattle.wire.specs.Part.{splice}
 use Rattle.wire.proofs.Part.{length-splice, splice-behind, splice-lent}
 use Rattle.block.specs.Form.{formOf}
-use Rattle.block.proofs.Octets.{both}
+use Rattle.block_write.proofs.Octets.{both}
 use Rattle.header.specs.declared.Header.{Header}
-use Rattle.header.specs.declared.Length.{Length}
-use Rattle.header.specs.declared.Length.the-variants as len
+use Rattle.header_write.specs.declared.Length.{Length}
+use Rattle.header_write.specs.declared.Length.the-variants as len
 use Rattle.header.specs.Fields.{fieldsOf, inDomain}
 use Rattle.header.specs.Size.{payloadLength, headerSize}
 use Rattle.header.specs.Write.{octetsOf, inWritingDomain, writeHeader}
-use Rattle.header.specs.Said.{saidLength, heardWritten, written}
+use Rattle.header_write.specs.Said.{saidLength}
+use Rattle.header.specs.Said.{heardWritten, written}
 use Rattle.header.proofs.Sizes.{never}
 use Rattle.header.proofs.Octets.{octets-fit}
 use Rattle.header.proofs.Writing.{blockAsked, write-asked, blockAsked-refused, blockAsked-says, written-out}

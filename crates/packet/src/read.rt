@@ -12,12 +12,6 @@ use error::Error;
 use header::Header;
 use header::HeaderRead;
 
-fn wide(b: u8) -> usize
-    ensures { λ r. ⌜ (r ≡ b) × (r < 256) ⌝ }
-{
-    b as usize
-}
-
 // The header's refusal is the packet's.
 fn passed_on(read: HeaderRead) -> PacketRead
     ensures { λ r. ⌜ saidRead r ≡ passedOn read ⌝ }
@@ -38,7 +32,7 @@ fn strip(packet: &[u8], at: usize) -> PacketRead
     if left == 0 {
         return PacketRead::Refused(Error::ErrShortPacket);
     }
-    let n = wide(packet[packet.len() - 1]);
+    let n = wire::wide(packet[packet.len() - 1]);
     if left < n {
         return PacketRead::Refused(Error::ErrShortPacket);
     }

@@ -13,12 +13,13 @@ use Rattle.error.specs.Said.{Said, says, refused}
 use Rattle.wire.specs.Part.{splice}
 use Rattle.wire.proofs.Part.{length-part}
 use Rattle.header.specs.declared.Header.{Header}
-use Rattle.header.specs.declared.Length.{Length}
-use Rattle.header.specs.declared.Length.the-variants as len
+use Rattle.header_write.specs.declared.Length.{Length}
+use Rattle.header_write.specs.declared.Length.the-variants as len
 use Rattle.header.specs.Fields.{Fields, fieldsOf, layOut, inDomain}
 use Rattle.header.specs.Read.{readHeader}
 use Rattle.header.specs.Write.{octetsOf, inWritingDomain, writeHeader}
-use Rattle.header.specs.Said.{saidLength, Written, heardWritten, written}
+use Rattle.header_write.specs.Said.{saidLength}
+use Rattle.header.specs.Said.{Written, heardWritten, written}
 use Rattle.header.proofs.Sizes.{never}
 use Rattle.rfc3550.specs.Rfc3550.{Octets}
 use Rattle.rfc3550.specs.Packet.{Packet, LawfulPacket, packetOctets}

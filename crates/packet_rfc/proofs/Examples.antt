@@ -6,7 +6,7 @@ use Prim.Native.Nat.{ℕ}
 use Rattle.error.specs.Said.{says, refuse}
 use Rattle.wire.specs.Net.{u16At, u32At}
 use Rattle.wire.specs.Turns.{run}
-use Rattle.block.specs.Read.{oneByte, taken, turn}
+use Rattle.block_read.specs.Read.{oneByte, taken, turn}
 use Rattle.header.specs.Fields.{Fields}
 use Rattle.header.specs.Read.{fieldsAt, readExtension, readFixed, readHeader}
 use Rattle.packet.specs.Read.{stripped, readPacket}

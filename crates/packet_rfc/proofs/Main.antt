@@ -20,8 +20,8 @@ use Rattle.error.specs.Refusal.{Refusal}
 use Rattle.error.specs.Said.{Said, says, refused, refuse}
 use Rattle.wire.specs.Part.{splice}
 use Rattle.header.specs.declared.Header.{Header}
-use Rattle.header.specs.declared.Length.{Length}
-use Rattle.header.specs.declared.Length.the-variants as len
+use Rattle.header_write.specs.declared.Length.{Length}
+use Rattle.header_write.specs.declared.Length.the-variants as len
 use Rattle.header.specs.Fields.{Fields, fieldsOf, layOut, inDomain}
 use Rattle.header.specs.Said as answers
 use Rattle.rfc3550.specs.Rfc3550.{Octets}

@@ -14,7 +14,7 @@ use lib.ListN.{length, drop, getD}
 use lib.Seq.{drop-at}
 use Rattle.error.specs.Said.{Said, says, refused, refuse}
 use Rattle.wire.specs.Net.{u16At}
-use Rattle.block.specs.Read.{Block, blockAt, readBlock}
+use Rattle.block_read.specs.Read.{Block, blockAt, readBlock}
 use Rattle.block.specs.Form.{formOf}
 use Rattle.block.proofs.Form.{form-other}
 use Rattle.header.specs.Read.{Reading, bit, countOf, fixedLength, readingOf, readExtension, readFixed, readHeader}

@@ -7,8 +7,8 @@ use Prim.Native.Nat.{ℕ, _+_, _%_, _≤_}
 use lib.ListN.{length, take, replicate}
 use Rattle.error.specs.Said.{Said, says}
 use Rattle.header.specs.declared.Header.{Header}
-use Rattle.header.specs.declared.Length.{Length}
-use Rattle.header.specs.declared.Length.the-variants as len
+use Rattle.header_write.specs.declared.Length.{Length}
+use Rattle.header_write.specs.declared.Length.the-variants as len
 use Rattle.header.specs.Fields.{Fields, fieldsOf, layOut, inDomain}
 use Rattle.header.specs.Write.{octetsOf}
 use Rattle.rfc3550.specs.Packet.{Padding, countIn, LawfulPadding, paddingOctets, Packet, LawfulPacket, packetOctets}

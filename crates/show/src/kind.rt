@@ -3,8 +3,8 @@ use crate::line::field;
 use crate::line::refused;
 use crate::line::word;
 use error::Error;
-use nal::Kind;
-use nal::Measured;
+use nal_read::Kind;
+use nal_read::Measured;
 use vp8::read::Vp8Packet;
 use vp8::read::Vp8Read;
 
@@ -15,7 +15,7 @@ pub enum Codec {
 
 // The units of a STAP-A.
 fn aggregate(payload: &[u8]) {
-    let measured = nal::measure(payload);
+    let measured = nal_read::measure(payload);
     match measured {
         Measured::Units { count, bytes: _ } => field(b" h264 STAP-A of ", count as u64),
         Measured::Refused(e) => {
@@ -48,7 +48,7 @@ fn h264_refused(e: Error) {
 }
 
 fn h264(payload: &[u8]) {
-    let kind = nal::kind_of(payload);
+    let kind = nal_read::kind_of(payload);
     match kind {
         Kind::Short => h264_refused(Error::ErrShortPacket),
         Kind::Unknown(t) => h264_refused(Error::NaluTypeIsNotHandled(t)),

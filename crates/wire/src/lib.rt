@@ -7,14 +7,27 @@ ghost use lib.ListN.{length, replicate};
 ghost use Rattle.wire.specs.Net.{u16At, u32At, be16, be32};
 ghost use Rattle.wire.specs.Part.{splice};
 
+// A byte, as a length or a place.
+pub fn wide(b: u8) -> usize
+    ensures { λ r. ⌜ (r ≡ b) × (r < 256) ⌝ }
+{
+    b as usize
+}
+
+pub fn wide16(n: u16) -> usize
+    ensures { λ r. ⌜ (r ≡ n) × (r < 65536) ⌝ }
+{
+    n as usize
+}
+
 // A byte, as wide as the number it is a part of.
-fn wide16(b: u8) -> u16
+pub fn octet16(b: u8) -> u16
     ensures { λ r. ⌜ (r ≡ b) × (r < 256) ⌝ }
 {
     b as u16
 }
 
-fn wide32(b: u8) -> u32
+fn octet32(b: u8) -> u32
     ensures { λ r. ⌜ (r ≡ b) × (r < 256) ⌝ }
 {
     b as u32
@@ -24,17 +37,17 @@ pub fn get_u16(s: &[u8], at: usize) -> u16
     requires { ⌜ at + 2 ≤ length (now s) ⌝ }
     ensures { λ r. ⌜ r ≡ u16At (now (s .entry)) at ⌝ }
 {
-    wide16(s[at]) * 256 + wide16(s[at + 1])
+    octet16(s[at]) * 256 + octet16(s[at + 1])
 }
 
 pub fn get_u32(s: &[u8], at: usize) -> u32
     requires { ⌜ at + 4 ≤ length (now s) ⌝ }
     ensures { λ r. ⌜ r ≡ u32At (now (s .entry)) at ⌝ }
 {
-    wide32(s[at]) * 16777216
-        + wide32(s[at + 1]) * 65536
-        + wide32(s[at + 2]) * 256
-        + wide32(s[at + 3])
+    octet32(s[at]) * 16777216
+        + octet32(s[at + 1]) * 65536
+        + octet32(s[at + 2]) * 256
+        + octet32(s[at + 3])
 }
 
 pub fn put_u16(s: &mut [u8], at: usize, n: u16)

@@ -6,19 +6,20 @@ use Rattle.wire.specs.Packets.{whole}
 use Rattle.wire.specs.Part.{splice, padTo}
 use Rattle.wire.specs.Turns.{run}
 use Rattle.elements.specs.Elements.{elementsOf, layElements}
-use Rattle.block.specs.Read.{oneByte, taken, turn}
+use Rattle.block_read.specs.Read.{oneByte, taken, turn}
 use Rattle.header.specs.Fields.{fieldsOf, layOut, inDomain}
 use Rattle.header.specs.Read.{fieldsAt, readExtension, readFixed, readHeader}
 use Rattle.header.specs.Size.{headerSize}
-use Rattle.header.specs.Write.{fixedFor, octetsOf, inWritingDomain}
+use Rattle.header_write.specs.Fixed.{fixedFor}
+use Rattle.header.specs.Write.{octetsOf, inWritingDomain}
 use Rattle.packet.specs.Read.{stripped, readPacket}
 use Rattle.packet.specs.Write.{payloadOctets, packetOctets, packetSize, writePacket}
 use Rattle.vp8.specs.Read as reader
 use Rattle.h264.specs.Units.{units, unitsAt}
 use Rattle.h264.specs.Groups.{keep, stapA, pairFor, unitFor, groupsFor, fragment}
 use Rattle.h264.specs.Payload.{payloadOf}
-use Rattle.nal.specs.Kind.{shape}
-use Rattle.nal.specs.Unpack.{unpackTurn, unpack}
+use Rattle.nal_read.specs.Kind.{shape}
+use Rattle.nal_read.specs.Unpack.{unpackTurn, unpack}
 use Rattle.nal.specs.Fed.{layBytes, layFed}
 use Rattle.h264_packet.specs.Depacketize as h264
 use Rattle.joiner.specs.Codec.{feed}

@@ -26,7 +26,7 @@ returns : tie.Need-returns Inv-loop μ-loop
 returns c es s =
     let a = c .before .before .before .before .before .before .args in
     let head = c .before .before .before .before .before .loop in
-    let len : getD (a .lens .now) (head .i) 0 ≡ c .before .before .wide .result = search needs in
+    let len : getD (a .lens .now) (head .i) 0 ≡ c .before .before .wide16 .result = search needs in
     ap (λ (n : ℕ). record { first = head .i; count = 1; at = head .at; len = n }) (sym len)
     ∙ sym (run-here (a .id) (head .i) (head .at) (a .count) (a .ids .now) (a .lens .now) es s (search needs) (c .if1 .taken))
     ∙ head .inv .2 es s
@@ -38,7 +38,7 @@ loop-again c = (
   λ es s.
       let a = c .before .before .before .before .before .before .args in
       let head = c .before .before .before .before .before .loop in
-      let len : getD (a .lens .now) (head .i) 0 ≡ c .before .before .wide .result = search needs in
+      let len : getD (a .lens .now) (head .i) 0 ≡ c .before .before .wide16 .result = search needs in
       ap (λ (n : ℕ). runOf (a .id) (head .i + 1) (head .at + n) (drop (head .i + 1) es)) (sym len)
       ∙ sym (run-on (a .id) (head .i) (head .at) (a .count) (a .ids .now) (a .lens .now) es s (search needs) (c .if1 .left))
       ∙ head .inv .2 es s,

@@ -59,7 +59,7 @@ carried-spec =
     (λ c. sym (ap carriedIn (c .enum-told16 .given .1)))
     (λ c. sym (ap carriedIn (c .before .e .given .1)))
     (λ c. sym (ap carriedIn (c .enum-told17 .given .1)))
-    (λ c. ap (λ (n : ℕ). n ∷ 0 ∷ []) (c .wide .ensures) ∙ sym (ap carriedIn (c .before .before .e2 .given .1)))
+    (λ c. ap (λ (n : ℕ). n ∷ 0 ∷ []) (c .wide .ensures .0) ∙ sym (ap carriedIn (c .before .before .e2 .given .1)))
     (λ c. sym (ap carriedIn (c .enum-told18 .given .1)))
     (λ c. sym (ap carriedIn (c .enum-told19 .given .1)))
     (λ c. sym (ap carriedIn (c .enum-told20 .given .1)))

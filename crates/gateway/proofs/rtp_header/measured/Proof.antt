@@ -1,8 +1,8 @@
 -- Each arm lays out what the variant that it matched says.
 use mathlib.Core.Path.{sym, ap, _∙_}
 use borrow.Author.Needs.{needs}
-use Rattle.header.specs.declared.Length.{Length}
-use Rattle.header.specs.Said.{saidLength}
+use Rattle.header_write.specs.declared.Length.{Length}
+use Rattle.header_write.specs.Said.{saidLength}
 use Rattle.gateway.specs.declared.refused.Refused.{Refused}
 use Rattle.gateway.specs.declared.rtp_header.RtpLength.{RtpLength}
 use Rattle.gateway.specs.HeaderAnswers.{lengthAs}

@@ -8,7 +8,7 @@ use borrow.Author.Needs.{needs}
 use Rattle.error.specs.Refusal.{Refusal}
 use Rattle.error.specs.Said.{Said, says, refused}
 use Rattle.nal.specs.declared.Ran.{Ran}
-use Rattle.nal.specs.Kind.{Shape}
+use Rattle.nal_read.specs.Kind.{Shape}
 use Rattle.nal.specs.Ran.{ranSaid}
 use Rattle.h264_packet.specs.declared.H264Packet.{H264Packet}
 use Rattle.h264_packet.specs.Depacketize.{Showing, nowhere, shownOf}

@@ -6,14 +6,14 @@ use Prim.Native.Nat.{ℕ, _≤_}
 use lib.ListN.{length, drop}
 use borrow.Author.Needs.{needs}
 use Rattle.error.specs.Said.{Said, says}
-use Rattle.nal.specs.declared.Kind.{Kind}
-use Rattle.nal.specs.Kind.{Shape}
+use Rattle.nal_read.specs.declared.Kind.{Kind}
+use Rattle.nal_read.specs.Kind.{Shape}
 use Rattle.nal.specs.Fed.{runOf, Laid}
 use Rattle.nal.specs.Ran.{handing, RanOn, OutRan, layRun, layUnits}
-use Rattle.nal.specs.Said.{shapeSaid}
-use Rattle.nal.specs.Unpack.{unpack}
+use Rattle.nal_read.specs.Said.{shapeSaid}
+use Rattle.nal_read.specs.Unpack.{unpack}
 use Rattle.nal.proofs.Running.{units-heard}
-use Rattle.nal.proofs.Shapes.{fragment-long}
+use Rattle.nal_read.proofs.Shapes.{fragment-long}
 use Rattle.h264_packet.specs.Depacketize.{beside, gatheredOn, readBy, readPayload}
 use Rattle.h264_packet.proofs.Depacketizing.{gathered-run, length-run}
 use Rattle.h264_packet.proofs.read.read_payload.Statement.{statement}

@@ -4,9 +4,9 @@ use mathlib.Core.Bool.{Bool, true}
 use Prim.Native.Nat.{ℕ, _+_, _-_}
 use native.Mathlib.Omega.{arith}
 use borrow.Author.Needs.{needs}
-use Rattle.nal.specs.declared.Kind.{Kind}
-use Rattle.nal.specs.Kind.{Shape, fragment}
-use Rattle.nal.specs.Said.{shapeSaid}
+use Rattle.nal_read.specs.declared.Kind.{Kind}
+use Rattle.nal_read.specs.Kind.{Shape, fragment}
+use Rattle.nal_read.specs.Said.{shapeSaid}
 use Rattle.h264_packet.specs.Depacketize.{in-gather, shownOf}
 use Rattle.h264_packet.proofs.read.shown_by.Statement.{statement}
 use Rattle.h264_packet.proofs.read.shown_by.Tie as tie

@@ -6,7 +6,7 @@ use native.Mathlib.Omega.{arith}
 use borrow.Author.Needs.{needs}
 use Rattle.error.specs.Said.{says}
 use Rattle.header.specs.Fields.{inDomain}
-use Rattle.header.specs.Size.{sizeFor}
+use Rattle.header_write.specs.Size.{sizeFor}
 use Rattle.header.proofs.Sizes.{Arrays, LimitsOf, limits-of, packed, header-size, size-asked}
 use Rattle.header.proofs.Header.marshal_size.Statement.{statement}
 use Rattle.header.proofs.Header.marshal_size.Tie as tie

@@ -13,14 +13,17 @@ use Rattle.wire.proofs.Part.{splice-behind}
 use Rattle.elements.specs.Elements.{elementsIn}
 use Rattle.elements.proofs.Packed.{length-elementsOf}
 use Rattle.block.specs.Form.{formOf}
-use Rattle.block.specs.Write.{extensionFor}
-use Rattle.block.proofs.Octets.{allWritable-fit}
+use Rattle.block_write.specs.Write.{extensionFor}
+use Rattle.block_write.proofs.Octets.{allWritable-fit}
 use Rattle.header.specs.declared.Header.{Header}
-use Rattle.header.specs.declared.Length.{Length}
+use Rattle.header_write.specs.declared.Length.{Length}
 use Rattle.header.specs.Fields.{fieldsOf}
-use Rattle.header.specs.Size.{headerSize, sizeFor}
-use Rattle.header.specs.Write.{csrcOctets, firstFor, secondFor, fixedFor, inWritingDomain, octetsOf, writeHeader}
-use Rattle.header.specs.Said.{written, heardWritten, saidLength}
+use Rattle.header_write.specs.Size.{sizeFor}
+use Rattle.header.specs.Size.{headerSize}
+use Rattle.header_write.specs.Fixed.{csrcOctets, firstFor, secondFor, fixedFor}
+use Rattle.header.specs.Write.{inWritingDomain, octetsOf, writeHeader}
+use Rattle.header_write.specs.Said.{saidLength}
+use Rattle.header.specs.Said.{written, heardWritten}
 use Rattle.header.proofs.Sizes.{Arrays, payload-length, header-size}
 use Rattle.header.proofs.Writing.{Writable, writable, blockAsked, write-outside, write-short, write-asked, blockAsked-refused, blockAsked-says, fixedIn, extensionIn, octets-on, octets-off, length-fixedIn, fixed-fits, extension-fits, fixed-on}
 use Rattle.header.proofs.Header.marshal_to.Statement.{statement}

@@ -8,7 +8,7 @@ use borrow.Author.Needs.{needs}
 use Rattle.error.specs.Said.{says}
 use Rattle.elements.specs.declared.Extensions.{Extensions}
 use Rattle.elements.specs.Elements.{layElements}
-use Rattle.block.specs.Read.{blockAt}
+use Rattle.block_read.specs.Read.{blockAt}
 use Rattle.header.specs.declared.Header.{Header}
 use Rattle.header.specs.Read.{fixedLength, countOf, readExtension}
 use Rattle.header.specs.Said.{Heard, headerAt, readingHeard}

@@ -6,8 +6,8 @@ use lib.ListN.{length}
 use borrow.Author.Needs.{needs}
 use Rattle.wire.specs.Net.{u16At}
 use Rattle.block.specs.Form.{formOf}
-use Rattle.block.specs.Read.{readBlock, blockAt}
-use Rattle.block.specs.Said.{BlockHeard, saidEnding}
+use Rattle.block_read.specs.Read.{readBlock, blockAt}
+use Rattle.block_read.specs.Said.{BlockHeard, saidEnding}
 use Rattle.header.specs.Read.{readingOf, readExtension}
 use Rattle.header.specs.Said.{readingHeard}
 use Rattle.header.proofs.Reading.{around, heard-around, extension-cut, block-cut, block-whole, heard-payload, heard-refused}
@@ -15,9 +15,9 @@ use Rattle.header.proofs.read.read_extended.Statement.{statement}
 use Rattle.header.proofs.read.read_extended.Tie as tie
 
 -- the length that the code reads is the one that the packet says
-words : (c : tie.After-wide) →
-    c .wide .result ≡ u16At (c .before .before .before .before .before .args .packet .now) (c .before .before .before .before .before .args .at + 2)
-words c = c .wide .ensures .0 ∙ c .before .get-u162 .ensures
+words : (c : tie.After-wide16) →
+    c .wide16 .result ≡ u16At (c .before .before .before .before .before .args .packet .now) (c .before .before .before .before .before .args .at + 2)
+words c = c .wide16 .ensures .0 ∙ c .before .get-u162 .ensures
 
 returns : tie.Need-returns
 returns c =
@@ -45,7 +45,7 @@ block c =
     let a = c .before .before .before .before .before .before .before .args in
     let s = a .packet .now in
     let profile = c .before .before .before .before .get-u16 .result in
-    let n = c .before .before .wide .result in
+    let n = c .before .before .wide16 .result in
     let w = words (c .before .before) in
     ap (λ (h : BlockHeard). around s (a .cc) profile (h .list) (h .pads) (h .answer)) (c .read-block .ensures)
     ∙ sym (heard-around s (a .cc) profile (readBlock (formOf profile) (blockAt s (a .at + 4) (4 * n))))

@@ -6,14 +6,14 @@ use Prim.Native.Nat.{ℕ}
 use native.Mathlib.Omega.{arith}
 use borrow.Author.Needs.{needs}
 use Rattle.error.specs.Said.{Said, says}
-use Rattle.nal.specs.declared.Kind.{Kind}
-use Rattle.nal.specs.Kind.{Shape}
+use Rattle.nal_read.specs.declared.Kind.{Kind}
+use Rattle.nal_read.specs.Kind.{Shape}
 use Rattle.nal.specs.Fed.{none, runOf, Laid}
 use Rattle.nal.specs.Ran.{RanOn, OutRan, layRun, layUnits}
-use Rattle.nal.specs.Said.{shapeSaid}
-use Rattle.nal.specs.Unpack.{unpack}
+use Rattle.nal_read.specs.Said.{shapeSaid}
+use Rattle.nal_read.specs.Unpack.{unpack}
 use Rattle.nal.proofs.Running.{units-heard}
-use Rattle.nal.proofs.Shapes.{fragment-long}
+use Rattle.nal_read.proofs.Shapes.{fragment-long}
 use Rattle.joiner.specs.Codec.{handedOut, feedBy, feed}
 use Rattle.joiner.proofs.feed.feed.Statement.{statement}
 use Rattle.joiner.proofs.feed.feed.Tie as tie

@@ -9,9 +9,9 @@ use borrow.Author.Needs.{needs}
 use Rattle.error.specs.Said.{says}
 use Rattle.wire.specs.Packets.{joined}
 use Rattle.nal.specs.Fed.{prefixed}
-use Rattle.nal.specs.Unpack.{unpack, unitsOf}
+use Rattle.nal_read.specs.Unpack.{unpack, unitsOf}
 use Rattle.nal.proofs.Handing.{length-prefixed, bytes-short, bytes-fit}
-use Rattle.nal.proofs.Unpacking.{measured, unpack-bound}
+use Rattle.nal_read.proofs.Unpacking.{measured, unpack-bound}
 use Rattle.nal.proofs.aggregate.hand_units.Statement.{statement}
 use Rattle.nal.proofs.aggregate.hand_units.Tie as tie
 

@@ -11,7 +11,8 @@ use Rattle.wire.specs.Net.{u16At}
 use Rattle.wire.specs.Part.{splice}
 use Rattle.nal.specs.Fed.{prefixOf, prefixed}
 use Rattle.nal.specs.Said.{Room}
-use Rattle.nal.proofs.Unpacking.{Units, Putting, putting-first, putting-unit, unit-fits, size-there, size-fits, going-end, length-unitAt, all-written}
+use Rattle.nal_read.proofs.Unpacking.{Units, size-there, size-fits, going-end, length-unitAt}
+use Rattle.nal.proofs.Putting.{Putting, putting-first, putting-unit, unit-fits, all-written}
 use Rattle.nal.proofs.aggregate.put_units.Statement.{statement}
 use Rattle.nal.proofs.aggregate.put_units.Tie as tie
 
@@ -34,16 +35,16 @@ there : (c : tie.In-loop Inv-loop μ-loop) → c .before .loop .at + 1 < length 
 there c = size-there _ _ _ _ (c .before .loop .inv .putting .going) (c .loop-test .taken)
 
 -- the size that the code reads is the one that the packet says, and lies within the packet
-size : (c : tie.After-wide Inv-loop μ-loop) →
-    (c .wide .result ≡ u16At (c .before .before .before .before .before .before .args .payload .now) (c .before .before .before .loop .at))
-    × (c .wide .result ≤ length (c .before .before .before .before .before .before .args .payload .now) - (c .before .before .before .loop .at + 2))
+size : (c : tie.After-wide16 Inv-loop μ-loop) →
+    (c .wide16 .result ≡ u16At (c .before .before .before .before .before .before .args .payload .now) (c .before .before .before .loop .at))
+    × (c .wide16 .result ≤ length (c .before .before .before .before .before .before .args .payload .now) - (c .before .before .before .loop .at + 2))
 size c =
-    let e : c .wide .result ≡ u16At (c .before .before .before .before .before .before .args .payload .now) (c .before .before .before .loop .at) = c .wide .ensures .0 ∙ c .before .get-u16 .ensures in
+    let e : c .wide16 .result ≡ u16At (c .before .before .before .before .before .before .args .payload .now) (c .before .before .before .loop .at) = c .wide16 .ensures .0 ∙ c .before .get-u16 .ensures in
     let f = size-fits _ _ _ _ (c .before .before .before .loop .inv .putting .going) (c .before .before .loop-test .taken) in
     (e, omega (arith, e, f))
 
 -- the next unit fits the output
-fits : (c : tie.After-wide Inv-loop μ-loop) → c .before .before .before .loop .to + 4 + c .wide .result ≤ length (c .before .before .before .before .before .before .args .out .now)
+fits : (c : tie.After-wide16 Inv-loop μ-loop) → c .before .before .before .loop .to + 4 + c .wide16 .result ≤ length (c .before .before .before .before .before .before .args .out .now)
 fits c =
     let w = c .before .before .before .loop .inv in
     omega (arith, size c .0, w .putting .long, unit-fits _ _ _ (w .room) _ _ _ (w .putting) (c .before .before .loop-test .taken))
@@ -53,9 +54,9 @@ put-unit-requires c κs =
     let s = c .before .before .before .before .before .before .before .before .args .payload .now in
     let h = c .before .before .before .before .before .loop in
     let e = size (c .before .before) in
-    let back : h .at + 2 + c .before .before .wide .result - (h .at + 2) ≡ u16At s (h .at) = omega (arith, e .0) in
+    let back : h .at + 2 + c .before .before .wide16 .result - (h .at + 2) ≡ u16At s (h .at) = omega (arith, e .0) in
     let n : length (take (u16At s (h .at)) (drop (h .at + 2) s)) ≡ u16At s (h .at) = length-unitAt s (h .at) (omega (arith, e .0, e .1)) in
-    rw back (omega (arith, n, e .0, fits (c .before .before), h .inv .putting .long), omega (arith, n, e .0, c .before .before .wide .ensures .1))
+    rw back (omega (arith, n, e .0, fits (c .before .before), h .inv .putting .long), omega (arith, n, e .0, c .before .before .wide16 .ensures .1))
 
 loop-again : tie.Need-loop-again Inv-loop μ-loop
 loop-again c =
@@ -63,7 +64,7 @@ loop-again c =
     let s = a .payload .now in
     let h = c .before .before .before .before .before .before .before .before .loop in
     let w = h .inv in
-    let n = c .before .before .before .before .before .wide .result in
+    let n = c .before .before .before .before .before .wide16 .result in
     let e = size (c .before .before .before .before .before) .0 in
     let back : h .at + 2 + n - (h .at + 2) ≡ u16At s (h .at) = omega (arith, e) in
     rw e

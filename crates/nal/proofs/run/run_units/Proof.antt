@@ -3,10 +3,10 @@ use mathlib.Core.Path.{_≡_, sym, ap, _∙_}
 use borrow.Author.Needs.{needs}
 use Rattle.error.specs.Said.{Said, says}
 use Rattle.nal.specs.Fed.{OutLaid}
-use Rattle.nal.specs.Said.{measureSaid, measureOf}
+use Rattle.nal_read.specs.Said.{measureSaid, measureOf}
 use Rattle.nal.specs.Ran.{RanOn, withRun, layUnits}
-use Rattle.nal.specs.Unpack.{unpack}
-use Rattle.nal.proofs.Unpacking.{measured, unmeasured}
+use Rattle.nal_read.specs.Unpack.{unpack}
+use Rattle.nal_read.proofs.Unpacking.{measured, unmeasured}
 use Rattle.nal.proofs.run.run_units.Statement.{statement}
 use Rattle.nal.proofs.run.run_units.Tie as tie
 

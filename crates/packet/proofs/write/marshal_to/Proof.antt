@@ -10,7 +10,7 @@ use borrow.Author.Tests.{not-true, not-false}
 use Rattle.error.specs.Refusal.{refusalOf}
 use Rattle.error.specs.Said.{refused}
 use Rattle.header.specs.declared.Header.{Header}
-use Rattle.header.specs.declared.Length.{Length}
+use Rattle.header_write.specs.declared.Length.{Length}
 use Rattle.header.specs.Fields.{fieldsOf}
 use Rattle.header.specs.Write.{inWritingDomain, writeHeader}
 use Rattle.header.specs.Said.{heardWritten, written}

@@ -1,0 +1,5 @@
+pub mod Limits
+pub mod Size
+pub mod Fixed
+pub mod Judge
+pub mod Said

@@ -1,9 +1,0 @@
--- A refusal is no answer. Assumes nothing.
-use mathlib.Core.Path.{_≡_}
-use Prim.Native.Nat.{ℕ}
-use native.Mathlib.Omega.{arith}
-use Rattle.error.specs.Refusal.{Refusal}
-use Rattle.error.specs.Said.{says, refused}
-
-pub not-says : {A : Type 0} {r : Refusal} {x : A} → refused r ≡ says x → ⊥
-not-says e = let z : _≡_ {A = ℕ} 0 1 = cc in omega arith

@@ -1,0 +1,3 @@
+pub mod Unpacking
+pub mod Shapes
+pub mod Sayable
