@@ -22,7 +22,7 @@ use Rattle.nal_read.specs.Kind.{shape}
 use Rattle.nal_read.specs.Unpack.{unpackTurn, unpack}
 use Rattle.nal.specs.Fed.{layBytes, layFed}
 use Rattle.sequence.specs.Arrival.{Arrival, ours, other, Window}
-use Rattle.joiner.specs.Codec.{feed}
+use Rattle.joiner_feed.specs.Codec.{feed}
 use Rattle.joiner.specs.Join.{Stepped, bySource, joinStep, closeStep, opened}
 use Rattle.joiner.specs.Sent.{fuA}
 use Rattle.joiner.specs.Sent as sent

@@ -16,7 +16,8 @@ use Rattle.nal_read.specs.Kind.{Shape, short, unknown, plain, aggregate, fragme
 use Rattle.nal_read.specs.Unpack.{unpack}
 use Rattle.nal.specs.Fed.{Run, gathered, runOf, Fed, Laid}
 use Rattle.nal.specs.Ran.{RanOn, layRun}
-use Rattle.nal.proofs.Sayable.{unpack-sayable, handing-sayable, run-sayable}
+use Rattle.nal_read.proofs.Sayable.{unpack-sayable}
+use Rattle.nal.proofs.Sayable.{handing-sayable, run-sayable}
 use Rattle.h264_packet.specs.declared.H264Packet.{H264Packet}
 use Rattle.h264_packet.specs.declared.Shown.{Shown}
 use Rattle.h264_packet.specs.declared.Shown.the-variants as shown

@@ -1,108 +1,28 @@
 -- How the joiner's definitions go on, from the facts that the code tests. Assumes nothing.
-use mathlib.Core.Path.{_≡_, refl, sym, ap, subst⁻¹, _∙_}
+use mathlib.Core.Path.{_≡_, refl, sym, ap, _∙_}
 use mathlib.Core.Bool.{Bool, true, false, cond, or-true}
-use mathlib.Core.List.{List, []}
+use mathlib.Core.List.{List}
 use mathlib.Core.Logic.{_⊎_, inl, inr}
-use Prim.Native.Nat.{ℕ, _+_, _-_, _/_, _%_, _≤_, _<_}
-use native.Mathlib.Decide.{decLe}
-use native.Mathlib.Nat.{lt-of-not-le}
+use Prim.Native.Nat.{ℕ, _+_, _≤_, _<_}
 use native.Mathlib.Omega.{arith}
 use lib.Dec.{ltb, leb}
-use lib.ListN.{length, drop, getD, length-drop}
+use lib.ListN.{length}
 use borrow.Author.Tests.{lt-ltb, le-ltb, le-leb, lt-leb, eq-eqb, ne-eqb}
 use Rattle.error.specs.Refusal.{Refusal}
 use Rattle.error.specs.Said.{Said, says, refused, refuse}
-use Rattle.wire.specs.Net.{u16At, u32At}
 use Rattle.wire.specs.Part.{part}
-use Rattle.header.specs.declared.Header.{Header}
-use Rattle.header.specs.Fields.{layOut}
-use Rattle.header.specs.Read.{Reading, fieldsAt, countOf, fixedLength}
-use Rattle.header.proofs.Reading.{header-plain, header-long}
-use Rattle.packet.specs.Read.{Payload, PacketReading, behind, readPacket}
-use Rattle.packet.specs.Said.{Heard, readingHeard}
-use Rattle.packet.proofs.Reading.{payload-inside}
+use Rattle.packet.specs.Read.{readPacket}
 use Rattle.sequence.specs.Number.{distanceOf}
-use Rattle.nal.specs.Fed.{none, gathered, runOf, Fed, OutLaid, Laid, layFed}
+use Rattle.nal.specs.Fed.{none, gathered, runOf, Fed, Laid, layFed}
 use Rattle.nal.specs.Ran.{RanOn, withRun, layRun}
-use Rattle.error.proofs.Refusing.{not-says}
-use Rattle.nal.proofs.Running.{run-beside, nothing-out}
+use Rattle.joiner_read.specs.Arrive.{Arrived, arrivalOf}
+use Rattle.joiner_read.proofs.Arriving.{came-from, came-refused}
+use Rattle.joiner_feed.specs.Codec.{feed}
 use Rattle.joiner.specs.declared.Joiner.{Joiner}
-use Rattle.joiner.specs.Codec.{idle, feed}
 use Rattle.joiner.specs.Join.{runAt, outside, Stepped, late, unchanged, laidBy, fedBy, byDistance, bySource, byReading, joinStep, ClosingStepped, shut, closeBy, closeStep}
-use Rattle.joiner.specs.Said.{Arrived, arrivalOf, acceptedJoiner, acceptedAnswer}
+use Rattle.joiner.specs.Said.{acceptedJoiner, acceptedAnswer}
 
 -- ---- a packet
-
--- the reader's answer, shrunk to what the joiner needs
-abbrev pub shrunk : Heard → Said Arrived
-shrunk h = shrink (h .answer) (h .header)
-  where
-    shrink : Said Payload → Header → Said Arrived
-    shrink (says p) r = says (record { source = r .ssrc; number = r .«sequence_number»; place = p .place; len = p .len })
-    shrink (refused e) r = refused e
-
-pub shrunk-is : (x : Said PacketReading) → shrunk (readingHeard x) ≡ arrivalOf x
-unfolding layOut
-shrunk-is (says r) = refl
-shrunk-is (refused r) = refl
-
--- a packet whose padding and extension bits are clear
-pub arrival-plain : (s : List ℕ) → 12 ≤ length s → length s ≤ 65535 → fixedLength (countOf s) ≤ length s → getD s 0 0 / 16 % 4 ≡ 0 →
-    arrivalOf (readPacket s)
-    ≡ says (record { source = u32At s 8; number = u16At s 2; place = fixedLength (countOf s); len = length s - fixedLength (countOf s) })
-unfolding readPacket fieldsAt
-arrival-plain s long within fits flags =
-    let n : ℕ = fixedLength (countOf s) in
-    let no-x : getD s 0 0 / 16 % 2 ≡ 1 → ⊥ = λ e. omega arith in
-    let no-p : getD s 0 0 / 32 % 2 ≡ 1 → ⊥ = λ e. omega arith in
-    let place : length s - length (drop n s) ≡ n = rw (length-drop n s) (omega arith) in
-    ap (λ (r : _). arrivalOf (behind s r)) (header-plain s within (omega arith) fits no-x)
-    ∙ rw (ne-eqb (getD s 0 0 / 32 % 2) 1 no-p)
-    (ap (λ (k : ℕ). says (record { source = u32At s 8; number = u16At s 2; place = k; len = length s - k })) place)
-
--- what was read of a packet, had back from what arrived
-module _ (x : Said PacketReading) where
-  pub came-from : (a : Arrived) → arrivalOf x ≡ says a →
-      (r : PacketReading) × (x ≡ says r)
-      × (a ≡ record { source = r .fields .source; number = r .fields .number; place = r .payload .place; len = r .payload .len })
-  came-from a e = go x refl
-    where
-      go : (y : Said PacketReading) → x ≡ y →
-          (r : PacketReading) × (x ≡ says r)
-          × (a ≡ record { source = r .fields .source; number = r .fields .number; place = r .payload .place; len = r .payload .len })
-      go (says r) is =
-          let q : says a ≡ says (record { source = r .fields .source; number = r .fields .number; place = r .payload .place; len = r .payload .len }) =
-          sym e ∙ ap arrivalOf is in
-          let same : a ≡ record { source = r .fields .source; number = r .fields .number; place = r .payload .place; len = r .payload .len } = cc in
-          (r, is, same)
-      go (refused n) is = absurd (not-says (sym (ap arrivalOf is) ∙ e))
-
-  pub came-refused : (n : Refusal) → arrivalOf x ≡ refused n → x ≡ refused n
-  came-refused n e = go x refl
-    where
-      go : (y : Said PacketReading) → x ≡ y → x ≡ refused n
-      go (says r) is = absurd (not-says (sym e ∙ ap arrivalOf is))
-      go (refused m) is =
-          let q : refused n ≡ refused m = sym e ∙ ap arrivalOf is in
-          let same : m ≡ n = cc in
-          is ∙ ap refused same
-
--- what arrived lies within the packet
-pub arrived-inside : (s : List ℕ) (a : Arrived) → arrivalOf (readPacket s) ≡ says a → a .place + a .len ≤ length s
-arrived-inside s a e =
-    let c = came-from (readPacket s) a e in
-    let fits : c .0 .payload .place + c .0 .payload .len ≤ length s = payload-inside s (c .0) (c .1) in
-    subst⁻¹ (λ (b : Arrived). b .place + b .len ≤ length s) (c .2) fits
-
--- and the packet is one of the domain
-pub arrived-short : (s : List ℕ) (a : Arrived) → arrivalOf (readPacket s) ≡ says a → length s ≤ 65535
-unfolding readPacket
-arrived-short s a e =
-    elim (decLe (length s) 65535) [
-      | yes h ↦ h
-      | no h ↦
-          absurd (not-says (sym (ap (λ (r : Said Reading). arrivalOf (behind s r)) (header-long s (lt-of-not-le h))) ∙ e))
-    ]
 
 module _ (j : Joiner) (packet gather out : List ℕ) where
   pub by-arrival : (a : Arrived) → arrivalOf (readPacket packet) ≡ says a →
@@ -145,14 +65,6 @@ module _ (j : Joiner) (packet gather out : List ℕ) where
     where
       fine : outside (j .gathered) gather ≡ false
       fine = rw (le-ltb (length gather) (j .gathered) h, le-ltb 16777215 (j .gathered) g)
-
--- ---- a payload
-
-pub run-idle : (gather out : List ℕ) →
-    layRun false gather out (says idle) ≡ record { answer = says (record { gathered = 0; bytes = 0 }); gather = gather; out = out }
-run-idle gather out =
-    run-beside false gather out 0 none [] (omega arith) (omega arith)
-    ∙ ap (λ (l : OutLaid). record { answer = withRun 0 (l .answer); gather = gather; out = l .out }) (nothing-out false gather out)
 
 -- ---- the step
 

@@ -31,7 +31,7 @@ use Rattle.sequence.specs.Joiner.{Made, stays, byFed, byRule, byHeard, call, re
 use Rattle.sequence.specs.Joiner as any
 use Rattle.sequence.proofs.Feeding.{lostIn-holes, feed-holes, feed-only-holes}
 use Rattle.joiner.specs.declared.Joiner.{Joiner}
-use Rattle.joiner.specs.Codec.{feedBy, feed, handedOut, fragmented, continued}
+use Rattle.joiner_feed.specs.Codec.{feedBy, feed, handedOut, fragmented, continued}
 use Rattle.joiner.specs.Join.{outside, Accepted, Answer, Stepped, unchanged, laidBy, fedBy, runAt, byDistance, bySource, byReading, joinStep, ClosingStepped, closeStep}
 use Rattle.joiner.specs.Join as join
 use Rattle.joiner.specs.General.{Units, Room, refusing, groupIn, within, h264, heardFrom, parts, standing, handedBytes, seenBy, asBytes, closingSaid, closingSeen}

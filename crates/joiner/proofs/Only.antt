@@ -17,7 +17,8 @@ use Rattle.packet.proofs.Only.{packet-sayable}
 use Rattle.sequence.specs.Number.{distanceOf, nextOf}
 use Rattle.nal_read.specs.Kind.{Shape, short, unknown, plain, aggregate, fragment, shape}
 use Rattle.nal_read.specs.Unpack.{unpack}
-use Rattle.nal.proofs.Sayable.{unpack-sayable, handing-sayable, fed-sayable}
+use Rattle.nal_read.proofs.Sayable.{unpack-sayable}
+use Rattle.nal.proofs.Sayable.{handing-sayable, fed-sayable}
 use Rattle.nal.specs.Fed.{none, Run, Fed, Laid, layFed}
 use Rattle.joiner.specs.declared.Joiner.{Joiner}
 use Rattle.joiner.specs.declared.Joined.{Joined}
@@ -26,7 +27,7 @@ use Rattle.joiner.specs.declared.Step.{Step}
 use Rattle.joiner.specs.declared.Closed.{Closed}
 use Rattle.joiner.specs.declared.Closed.the-variants as closed
 use Rattle.joiner.specs.declared.Closing.{Closing}
-use Rattle.joiner.specs.Codec.{fragmented, feedBy, feed}
+use Rattle.joiner_feed.specs.Codec.{fragmented, feedBy, feed}
 use Rattle.joiner.specs.Join.{outside, Accepted, Answer, accepted, late, Stepped, unchanged, laidBy, fedBy, runAt, byDistance, bySource, byReading, joinStep, ClosingStepped, closeStep, opened}
 use Rattle.joiner.specs.Said.{saidJoined, stepHeard, placeHeard, saidClosed, closingHeard}
 use Rattle.joiner.proofs.Joining.{closing-cases}

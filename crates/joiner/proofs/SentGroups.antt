@@ -23,7 +23,7 @@ use Rattle.sequence.specs.Group.{Group, EachHanded}
 use Rattle.sequence.specs.Codec.{Fed, Does, Owes, OwesAll, Cuts}
 use Rattle.sequence.proofs.Feeding.{AtMost}
 use Rattle.sequence.proofs.Cutting.{joinedTo, cut-owes}
-use Rattle.joiner.specs.Codec.{feedBy, feed, handedOut, idle, fragmented}
+use Rattle.joiner_feed.specs.Codec.{feedBy, feed, handedOut, idle, fragmented}
 use Rattle.joiner.specs.General.{Units, Room, Enough, groupIn, within, h264, tooMuch}
 use Rattle.joiner.specs.Sent.{Sent, aggregated, alone, stapA, fuA, body, groupOf, groupsOf, gatheredOf, handedLength, NoneEmpty, PlainUnit, Lawful}
 use Rattle.joiner.specs.Sent as sent

@@ -17,7 +17,7 @@ use Rattle.sequence.specs.Codec.{Fed, refusal, fed, Codec}
 use Rattle.sequence.specs.Joiner.{Heard, notOurs, numbered, Parts, State, refuses, tooLate, takes, notShut, shut}
 use Rattle.sequence.specs.Joiner as any
 use Rattle.joiner.specs.declared.Joiner.{Joiner}
-use Rattle.joiner.specs.Codec.{feed}
+use Rattle.joiner_feed.specs.Codec.{feed}
 use Rattle.joiner.specs.Join.{Accepted, Answer, accepted, late, ClosingStepped}
 
 -- the units that are handed out together

@@ -12,7 +12,7 @@ use Rattle.packet.specs.Read.{PacketReading, readPacket}
 use Rattle.sequence.specs.Number.{distanceOf, nextOf}
 use Rattle.nal.specs.Fed.{Run, none, gathered, runOf, Fed, Laid, layFed}
 use Rattle.joiner.specs.declared.Joiner.{Joiner}
-use Rattle.joiner.specs.Codec.{feed}
+use Rattle.joiner_feed.specs.Codec.{feed}
 
 -- ---- the record
 

@@ -1,4 +1,3 @@
-pub mod Codec
 pub mod Join
 pub mod Said
 pub mod General

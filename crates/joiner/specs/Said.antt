@@ -4,7 +4,6 @@ use mathlib.Core.List.{List}
 use Prim.Native.Nat.{ℕ}
 use Rattle.error.specs.Refusal.{refusalOf}
 use Rattle.error.specs.Said.{Said, says, refused}
-use Rattle.packet.specs.Read.{PacketReading}
 use Rattle.sequence.specs.Number.{nextOf}
 use Rattle.nal.specs.Ran.{RanOn}
 use Rattle.joiner.specs.declared.Joiner.{Joiner}
@@ -14,30 +13,7 @@ use Rattle.joiner.specs.declared.Step.{Step}
 use Rattle.joiner.specs.declared.Closed.{Closed}
 use Rattle.joiner.specs.declared.Closed.the-variants as closed
 use Rattle.joiner.specs.declared.Closing.{Closing}
-use Rattle.joiner.specs.declared.arrival.Arrival.{Arrival}
-use Rattle.joiner.specs.declared.arrival.Arrival.the-variants as arrival
 use Rattle.joiner.specs.Join.{Accepted, Answer, accepted, late, Stepped, ClosingStepped}
-
--- ---- a packet
-
--- what the joiner needs of a packet
-pub record Arrived : Type 0 where
-  pub source : ℕ
-  pub number : ℕ
-  pub place : ℕ
-  pub len : ℕ
-
-abbrev pub arrivalSaid : Arrival → Said Arrived
-arrivalSaid (arrival.Packet source number at len) =
-    says (record { source = source; number = number; place = at; len = len })
-arrivalSaid (arrival.Refused e) = refused (refusalOf e)
-
-abbrev pub arrivalOf : Said PacketReading → Said Arrived
-arrivalOf (says r) =
-    says (record { source = r .fields .source; number = r .fields .number; place = r .payload .place; len = r .payload .len })
-arrivalOf (refused r) = refused r
-
--- ---- the calls
 
 abbrev pub saidJoined : Joined → Said Answer
 saidJoined (joined.Accepted first count bytes) = says (accepted (record { first = first; count = count; bytes = bytes }))

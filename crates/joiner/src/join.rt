@@ -14,10 +14,10 @@ use crate::Closing;
 use crate::Joined;
 use crate::Joiner;
 use crate::Step;
-use crate::arrival::Arrival;
-use crate::arrival::arrive;
-use crate::feed::feed;
 use error::Error;
+use joiner_feed::feed;
+use joiner_read::Arrival;
+use joiner_read::arrive;
 use nal::Ran;
 
 fn sum(n: u32, d: u16) -> u64

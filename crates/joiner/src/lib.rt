@@ -1,8 +1,6 @@
 // Puts H.264 units together from the packets of one source, by sequence number.
 use error::Error;
 
-mod arrival;
-mod feed;
 mod join;
 mod place;
 

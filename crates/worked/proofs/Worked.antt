@@ -22,7 +22,7 @@ use Rattle.nal_read.specs.Kind.{shape}
 use Rattle.nal_read.specs.Unpack.{unpackTurn, unpack}
 use Rattle.nal.specs.Fed.{layBytes, layFed}
 use Rattle.h264_packet.specs.Depacketize as h264
-use Rattle.joiner.specs.Codec.{feed}
+use Rattle.joiner_feed.specs.Codec.{feed}
 use Rattle.joiner.specs.Join.{bySource, joinStep, opened}
 use Rattle.worked.specs.Asked.{Question, Says, say}
 use Rattle.worked.specs.Table.{Row, table}

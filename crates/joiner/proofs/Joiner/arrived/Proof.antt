@@ -10,7 +10,7 @@ use Rattle.sequence.specs.Number.{distanceOf}
 use Rattle.nal.specs.Fed.{Run, runOf}
 use Rattle.nal.specs.Ran.{layRun}
 use Rattle.joiner.specs.declared.Joiner.{Joiner}
-use Rattle.joiner.specs.Codec.{feed}
+use Rattle.joiner_feed.specs.Codec.{feed}
 use Rattle.joiner.specs.Join.{Answer, runAt}
 use Rattle.joiner.proofs.Joining.{steppedWith, run-held, held-le, source-other, source-own, distance-late, distance-full, distance-fed}
 use Rattle.joiner.proofs.Joiner.arrived.Statement.{statement}

@@ -9,9 +9,10 @@ use lib.Seq.{length-take-le}
 use borrow.Author.Needs.{needs}
 use Rattle.error.specs.Said.{says}
 use Rattle.packet.specs.Read.{readPacket}
+use Rattle.joiner_read.specs.Arrive.{arrivalSaid, arrivalOf}
+use Rattle.joiner_read.proofs.Arriving.{arrived-inside, arrived-short}
 use Rattle.joiner.specs.Join.{bySource}
-use Rattle.joiner.specs.Said.{arrivalSaid, arrivalOf}
-use Rattle.joiner.proofs.Joining.{join-closed, join-outside, join-reads, by-arrival, by-refusal, arrived-inside, arrived-short}
+use Rattle.joiner.proofs.Joining.{join-closed, join-outside, join-reads, by-arrival, by-refusal}
 use Rattle.joiner.proofs.Joiner.join.Statement.{statement}
 use Rattle.joiner.proofs.Joiner.join.Tie as tie
 

@@ -11,10 +11,10 @@ use Rattle.nal.specs.Fed.{Run, none, gathering, runOf}
 use Rattle.nal.specs.Ran.{layRun}
 use Rattle.nal.proofs.Handing.{length-gathered}
 use Rattle.nal.proofs.Running.{ongoing-heard, finished-heard}
-use Rattle.joiner.specs.Codec.{fragmented, continued}
-use Rattle.joiner.proofs.Joining.{run-idle}
-use Rattle.joiner.proofs.feed.feed_fragment.Statement.{statement}
-use Rattle.joiner.proofs.feed.feed_fragment.Tie as tie
+use Rattle.joiner_feed.specs.Codec.{fragmented, continued}
+use Rattle.joiner_feed.proofs.Feeding.{run-idle}
+use Rattle.joiner_feed.proofs.feed_fragment.Statement.{statement}
+use Rattle.joiner_feed.proofs.feed_fragment.Tie as tie
 
 returns : tie.Need-returns
 returns c =

@@ -1,11 +1,13 @@
 // What a payload does to the open run.
+//
+// Only proved code calls this crate, so its function may ask that the run lies in the gather buffer.
 ghost use mathlib.Core.Path.{_≡_};
 ghost use Prim.Native.Nat.{_≤_};
 ghost use lib.ListN.{length, drop};
 ghost use mathlib.Core.Bool.{false};
 ghost use Rattle.nal.specs.Ran.{ranHeard, layRun};
-ghost use Rattle.joiner.specs.Codec.{fragmented};
-ghost use Rattle.joiner.specs.Codec.{feed as feedOf};
+ghost use Rattle.joiner_feed.specs.Codec.{fragmented};
+ghost use Rattle.joiner_feed.specs.Codec.{feed as feedOf};
 ghost use Rattle.nal.specs.Fed.{runOf};
 use error::Error;
 use nal::Ran;
@@ -43,7 +45,7 @@ fn feed_fragment(
     nal::with_run(nal::gather_on(payload, run, gather), run + n)
 }
 
-pub(crate) fn feed(run: usize, payload: &[u8], gather: &mut [u8], out: &mut [u8]) -> Ran
+pub fn feed(run: usize, payload: &[u8], gather: &mut [u8], out: &mut [u8]) -> Ran
     requires { ⌜ (length (now payload) ≤ 65535) × (run ≤ length (now gather)) ⌝ }
     ensures { λ r. ⌜ ranHeard r (now (gather .exit)) (now (out .exit)) ≡ layRun false (now (gather .entry)) (now (out .entry)) (feedOf (runOf run (now (gather .entry))) (now (payload .entry))) ⌝ }
 {

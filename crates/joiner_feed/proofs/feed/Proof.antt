@@ -14,9 +14,9 @@ use Rattle.nal_read.specs.Said.{shapeSaid}
 use Rattle.nal_read.specs.Unpack.{unpack}
 use Rattle.nal.proofs.Running.{units-heard}
 use Rattle.nal_read.proofs.Shapes.{fragment-long}
-use Rattle.joiner.specs.Codec.{handedOut, feedBy, feed}
-use Rattle.joiner.proofs.feed.feed.Statement.{statement}
-use Rattle.joiner.proofs.feed.feed.Tie as tie
+use Rattle.joiner_feed.specs.Codec.{handedOut, feedBy, feed}
+use Rattle.joiner_feed.proofs.feed.Statement.{statement}
+use Rattle.joiner_feed.proofs.feed.Tie as tie
 
 -- the shape that the code goes by is the payload's
 by-shape : (c : tie.After-kind-of) (k : Kind) → c .kind-of .result ≡ k →

@@ -4,9 +4,9 @@ use borrow.Author.Needs.{needs}
 use Rattle.packet.specs.declared.PacketRead.{PacketRead}
 use Rattle.packet.specs.Read.{readPacket}
 use Rattle.packet.specs.Said.{saidRead}
-use Rattle.joiner.proofs.Joining.{shrunk, shrunk-is}
-use Rattle.joiner.proofs.arrival.read.Statement.{statement}
-use Rattle.joiner.proofs.arrival.read.Tie as tie
+use Rattle.joiner_read.proofs.Arriving.{shrunk, shrunk-is}
+use Rattle.joiner_read.proofs.read.Statement.{statement}
+use Rattle.joiner_read.proofs.read.Tie as tie
 
 returns : tie.Need-returns
 returns c =

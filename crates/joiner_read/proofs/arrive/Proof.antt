@@ -7,9 +7,9 @@ use borrow.Author.Needs.{needs}
 use Rattle.error.specs.Said.{says}
 use Rattle.wire.specs.Net.{u16At, u32At}
 use Rattle.header.specs.Read.{countOf, fixedLength}
-use Rattle.joiner.proofs.Joining.{arrival-plain}
-use Rattle.joiner.proofs.arrival.arrive.Statement.{statement}
-use Rattle.joiner.proofs.arrival.arrive.Tie as tie
+use Rattle.joiner_read.proofs.Arriving.{arrival-plain}
+use Rattle.joiner_read.proofs.arrive.Statement.{statement}
+use Rattle.joiner_read.proofs.arrive.Tie as tie
 
 returns-5 : tie.Need-returns-5
 returns-5 c =

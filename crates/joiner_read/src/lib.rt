@@ -1,12 +1,11 @@
 // What the joiner needs of a packet: its source, its number, and where its payload is.
 ghost use mathlib.Core.Path.{_≡_};
-ghost use Prim.Native.Nat.{_<_, _+_};
 ghost use Rattle.packet.specs.Read.{readPacket};
-ghost use Rattle.joiner.specs.Said.{arrivalSaid, arrivalOf};
+ghost use Rattle.joiner_read.specs.Arrive.{arrivalSaid, arrivalOf};
 use error::Error;
 use packet::PacketRead;
 
-pub(crate) enum Arrival {
+pub enum Arrival {
     // the payload is `len` bytes of the packet from `at` on
     Packet {
         source: u32,
@@ -35,7 +34,7 @@ fn read(packet: &[u8]) -> Arrival
 }
 
 // A packet without padding and extensions needs no record: its fields stand at fixed places.
-pub(crate) fn arrive(packet: &[u8]) -> Arrival
+pub fn arrive(packet: &[u8]) -> Arrival
     ensures { λ r. ⌜ arrivalSaid r ≡ arrivalOf (readPacket (now (packet .entry))) ⌝ }
 {
     if packet.len() < 12 {
