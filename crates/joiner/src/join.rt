@@ -39,6 +39,16 @@ impl Joiner {
         }
     }
 
+    // "A refusal .. changes no buffer and no state"; nor does Late.
+    fn unchanged(self, answer: Joined) -> Step
+        ensures { λ r. ⌜ r ≡ record { joiner = self; answer = answer } ⌝ }
+    {
+        Step {
+            joiner: self,
+            answer,
+        }
+    }
+
     // A packet of the sender's was accepted after `d` numbers were passed over.
     fn accept(self, d: u16, number: u16, missed: u32, ran: Ran) -> Step
         ensures { λ r. ⌜ (r .joiner ≡ acceptedJoiner self number missed (ranSaid ran)) × (saidJoined (r .answer) ≡ acceptedAnswer self d (ranSaid ran)) ⌝ }
@@ -58,10 +68,7 @@ impl Joiner {
                     bytes,
                 },
             },
-            Ran::Refused(e) => Step {
-                joiner: self,
-                answer: Joined::Refused(e),
-            },
+            Ran::Refused(e) => self.unchanged(Joined::Refused(e)),
         }
     }
 
@@ -78,24 +85,15 @@ impl Joiner {
         ensures { λ r. ⌜ stepHeard r (now (gather .exit)) (now (out .exit)) ≡ bySource self source number (now (payload .entry)) (now (gather .entry)) (now (out .entry)) ⌝ }
     {
         if source != self.source {
-            return Step {
-                joiner: self,
-                answer: Joined::Refused(Error::OtherSource),
-            };
+            return self.unchanged(Joined::Refused(Error::OtherSource));
         }
         let d = sequence::distance(number, self.awaited);
         if 32768 <= d {
-            return Step {
-                joiner: self,
-                answer: Joined::Late,
-            };
+            return self.unchanged(Joined::Late);
         }
         let missed = sum(self.missed, d);
         if 4294967295 < missed {
-            return Step {
-                joiner: self,
-                answer: Joined::Refused(Error::MissedTotalFull),
-            };
+            return self.unchanged(Joined::Refused(Error::MissedTotalFull));
         }
         let run = held(self.gathered, d);
         let ran = feed(run, payload, gather, out);
@@ -106,23 +104,14 @@ impl Joiner {
         ensures { λ r. ⌜ stepHeard r (now (gather .exit)) (now (out .exit)) ≡ joinStep self (now (packet .entry)) (now (gather .entry)) (now (out .entry)) ⌝ }
     {
         if self.closed {
-            return Step {
-                joiner: self,
-                answer: Joined::Refused(Error::AlreadyClosed),
-            };
+            return self.unchanged(Joined::Refused(Error::AlreadyClosed));
         }
         let gathered = self.gathered;
         if gather.len() < gathered {
-            return Step {
-                joiner: self,
-                answer: Joined::Refused(Error::OutsideDomain),
-            };
+            return self.unchanged(Joined::Refused(Error::OutsideDomain));
         }
         if 16777215 < gathered {
-            return Step {
-                joiner: self,
-                answer: Joined::Refused(Error::OutsideDomain),
-            };
+            return self.unchanged(Joined::Refused(Error::OutsideDomain));
         }
         let arrival = arrive(packet);
         match arrival {
@@ -132,10 +121,7 @@ impl Joiner {
                 at,
                 len,
             } => self.arrived(source, number, &packet[at..at + len], gather, out),
-            Arrival::Refused(e) => Step {
-                joiner: self,
-                answer: Joined::Refused(e),
-            },
+            Arrival::Refused(e) => self.unchanged(Joined::Refused(e)),
         }
     }
 

@@ -5,7 +5,8 @@ use Prim.Native.Nat.{ℕ}
 use borrow.Author.Needs.{needs}
 use Rattle.nal.specs.declared.Ran.{Ran}
 use Rattle.nal.specs.Ran.{ranSaid}
-use Rattle.joiner.specs.Said.{acceptedJoiner, acceptedAnswer}
+use Rattle.joiner.specs.declared.Step.{Step}
+use Rattle.joiner.specs.Said.{saidJoined, acceptedJoiner, acceptedAnswer}
 use Rattle.joiner.proofs.Joiner.accept.Statement.{statement}
 use Rattle.joiner.proofs.Joiner.accept.Tie as tie
 
@@ -20,10 +21,12 @@ returns c =
 
 returns-2 : tie.Need-returns-2
 returns-2 c =
-    let a = c .before .before .before .args in
-    let told = c .before .ran2 .given .1 in (
-      sym (ap (λ (r : Ran). acceptedJoiner (a .self) (a .number) (a .missed) (ranSaid r)) told),
-      sym (ap (λ (r : Ran). acceptedAnswer (a .self) (a .d) (ranSaid r)) told),
+    let a = c .before .before .before .before .args in
+    let told = c .before .before .ran2 .given .1 in (
+      ap (λ (s : Step). s .joiner) (c .unchanged .ensures)
+          ∙ sym (ap (λ (r : Ran). acceptedJoiner (a .self) (a .number) (a .missed) (ranSaid r)) told),
+      ap (λ (s : Step). saidJoined (s .answer)) (c .unchanged .ensures)
+          ∙ sym (ap (λ (r : Ran). acceptedAnswer (a .self) (a .d) (ranSaid r)) told),
     )
 
 pub accept-spec : {M : Type 1} → statement M
@@ -33,5 +36,6 @@ accept-spec =
     (λ c. search needs)
     (λ c κs. search needs)
     (λ c. search needs)
+    (λ c κs. search needs)
     returns
     returns-2)
