@@ -13,7 +13,7 @@ use Rattle.header.specs.Size.{headerSize}
 use Rattle.header.specs.Write.{fixedFor, octetsOf, inWritingDomain}
 use Rattle.packet.specs.Read.{stripped, readPacket}
 use Rattle.packet.specs.Write.{payloadOctets, packetOctets, packetSize, writePacket}
-use Rattle.vp8.specs.Read as reader
+use Rattle.vp8_read.specs.Read as reader
 use Rattle.h264.specs.Units.{units, unitsAt}
 use Rattle.h264.specs.Groups.{keep, stapA, pairFor, unitFor, groupsFor, fragment}
 use Rattle.h264.specs.Payload.{payloadOf}
