@@ -15,8 +15,8 @@ use Rattle.wire.proofs.Each.{each-append, each-by}
 use Rattle.header.specs.Write.{fixedFor, octetsOf}
 use Rattle.packet.specs.Write.{payloadOctets, packetOctets}
 use Rattle.packet.specs.Plain.{plainPacket}
-use Rattle.h264.specs.Units.{units, unitsAt}
-use Rattle.h264.specs.Groups.{keep, stapA, pairFor, unitFor, groupsFor}
+use Rattle.annexb.specs.Units.{units, unitsAt}
+use Rattle.h264_put.specs.Groups.{keep, stapA, pairFor, unitFor, groupsFor}
 use Rattle.sequence.specs.Arrival.{Arrival}
 use Rattle.sequence.proofs.InOrder.{inOrder, in-order-within}
 use Rattle.joiner.specs.declared.Joiner.{Joiner}

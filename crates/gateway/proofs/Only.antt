@@ -23,7 +23,7 @@ use Rattle.vp8_send.specs.Send.{Sending, payloaded}
 use Rattle.vp8_read.specs.Read.{depacketized}
 use Rattle.vp8_read.specs.Partition.{partitionHead}
 use Rattle.h264.specs.declared.send.H264Payloader.{H264Payloader}
-use Rattle.h264.specs.Groups.{nothingSaved}
+use Rattle.h264_put.specs.Groups.{nothingSaved}
 use Rattle.h264.specs.Payload.{Left, layOut, payloadOf}
 use Rattle.h264_packet.specs.declared.H264Packet.{H264Packet}
 use Rattle.h264_packet.specs.Depacketize.{headTest}

@@ -14,8 +14,8 @@ use Rattle.header.specs.Write.{fixedFor, octetsOf, inWritingDomain}
 use Rattle.packet.specs.Read.{stripped, readPacket}
 use Rattle.packet.specs.Write.{payloadOctets, packetOctets, packetSize, writePacket}
 use Rattle.vp8_read.specs.Read as reader
-use Rattle.h264.specs.Units.{units, unitsAt}
-use Rattle.h264.specs.Groups.{keep, stapA, pairFor, unitFor, groupsFor, fragment}
+use Rattle.annexb.specs.Units.{units, unitsAt}
+use Rattle.h264_put.specs.Groups.{keep, stapA, pairFor, unitFor, groupsFor, fragment}
 use Rattle.h264.specs.Payload.{payloadOf}
 use Rattle.nal.specs.Kind.{shape}
 use Rattle.nal.specs.Unpack.{unpackTurn, unpack}
