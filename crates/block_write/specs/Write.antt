@@ -1,21 +1,14 @@
 -- The octets of a block of elements, and which elements can be written. Assumes nothing.
-use mathlib.Core.Path.{_≡_}
 use mathlib.Core.Bool.{Bool, true, _&&_}
 use mathlib.Core.List.{List, [], _∷_, _++_}
-use Prim.Native.Nat.{ℕ, _+_, _-_, _*_}
+use Prim.Native.Nat.{ℕ, _-_, _*_}
 use lib.Dec.{leb}
 use lib.ListN.{length, replicate}
 use Rattle.wire.specs.Net.{be16}
-use Rattle.wire.specs.Part.{splice}
 use Rattle.elements.specs.Elements.{Element}
 use Rattle.block.specs.Form.{Form, one-byte, two-byte, other, formOf, wordsFor}
 
 -- ---- the octets
-
--- what every inner function that writes promises: octets were put at `at` into `buf`, which is now `exit`, and r is the place behind them
-pub record Put (buf : List ℕ) (at : ℕ) (octets : List ℕ) (r : ℕ) (exit : List ℕ) : Type 0 where
-  pub next : r ≡ at + length octets
-  pub buffer : exit ≡ splice buf at octets
 
 -- RFC 8285's one-byte element: id and length less one in one byte; its two-byte element: id, length
 abbrev pub elementOctets : Form → Element → List ℕ

@@ -16,8 +16,8 @@ use Rattle.header.specs.Write.{octetsOf}
 use Rattle.packet.specs.Read.{PacketReading, readPacket}
 use Rattle.packet.specs.Write.{payloadOctets, packetOctets}
 use Rattle.packet.specs.Plain.{plainPacket}
-use Rattle.h264.specs.Units.{units, unitsAt}
-use Rattle.h264.specs.Groups.{keep, stapA, pairFor, unitFor, groupsFor}
+use Rattle.annexb.specs.Units.{units, unitsAt}
+use Rattle.h264_put.specs.Groups.{keep, stapA, pairFor, unitFor, groupsFor}
 use Rattle.nal_read.specs.Kind.{shape}
 use Rattle.nal_read.specs.Unpack.{unpackTurn, unpack}
 use Rattle.nal.specs.Fed.{layBytes, layFed}

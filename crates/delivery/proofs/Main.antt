@@ -11,7 +11,7 @@ use mathlib.Core.Bool.{true}
 use mathlib.Core.List.{List}
 use mathlib.Core.Logic.{_↔_}
 use Prim.Native.Nat.{ℕ, _<_}
-use Rattle.h264.specs.Groups.{nothingSaved, packetsOf}
+use Rattle.h264_put.specs.Groups.{nothingSaved, packetsOf}
 use Rattle.h264.specs.Payload.{layOut}
 use Rattle.h264.specs.Frames.{groupsSent}
 use Rattle.sequence.specs.Arrival.{Arrival, ours, isAccepted}

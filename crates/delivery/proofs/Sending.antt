@@ -11,15 +11,15 @@ use Rattle.wire.specs.Each.{Each}
 use Rattle.wire.specs.Net.{be16}
 use Rattle.wire.proofs.Each.{each-append, each-by, each-map}
 use Rattle.h264.specs.declared.send.H264Payloader.{H264Payloader}
-use Rattle.h264.specs.Units.{units, unitsAt}
-use Rattle.h264.specs.Groups.{Saved, Group, pair, plain, fragments, keepAll, groupsOf, stapA, fragment, packetsOfGroup, packetsOf}
+use Rattle.annexb.specs.Units.{units, unitsAt}
+use Rattle.h264_put.specs.Groups.{Saved, Group, pair, plain, fragments, keepAll, groupsOf, stapA, fragment, packetsOfGroup, packetsOf}
 use Rattle.h264.specs.Conformance.{Divided, Sendable, unitsIn}
 use Rattle.h264.specs.Payload.{Counts, Left, layOut, savedIn, outside, overLimit, tooSmall, refusedWith, sentAs, leftBy, payloadOf}
 use Rattle.h264.specs.Frames.{groupsFrom, groupsSent}
 use Rattle.h264.proofs.Fits.{sendable, fits}
 use Rattle.h264.proofs.FrameUnits.{those-short}
 use Rattle.h264.proofs.LeftOut.{left-out}
-use Rattle.h264.proofs.Sizes.{packets-append}
+use Rattle.h264_put.proofs.Sizes.{packets-append}
 use Rattle.h264.proofs.State.{saved-laid}
 use Rattle.error.proofs.Refusing.{not-says}
 use Rattle.sequence.specs.Group.{packetsIn}

@@ -16,8 +16,8 @@ use Rattle.header_write.specs.Fixed.{fixedFor}
 use Rattle.header.specs.Write.{octetsOf}
 use Rattle.packet.specs.Write.{payloadOctets, packetOctets}
 use Rattle.packet.specs.Plain.{plainPacket}
-use Rattle.h264.specs.Units.{units, unitsAt}
-use Rattle.h264.specs.Groups.{keep, stapA, pairFor, unitFor, groupsFor}
+use Rattle.annexb.specs.Units.{units, unitsAt}
+use Rattle.h264_put.specs.Groups.{keep, stapA, pairFor, unitFor, groupsFor}
 use Rattle.sequence.specs.Arrival.{Arrival}
 use Rattle.sequence.proofs.InOrder.{inOrder, in-order-within}
 use Rattle.joiner.specs.declared.Joiner.{Joiner}

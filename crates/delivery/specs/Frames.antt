@@ -7,8 +7,8 @@ use Rattle.error.specs.Said.{says}
 use Rattle.wire.specs.Each.{Each}
 use Rattle.packet.specs.Plain.{Stamp, Stampable}
 use Rattle.h264.specs.declared.send.H264Payloader.{H264Payloader}
-use Rattle.h264.specs.Units.{unitsAt}
-use Rattle.h264.specs.Groups.{Saved, Group, pair, plain, fragments, fateOf, keepAll, groupsOf, packetsOf}
+use Rattle.annexb.specs.Units.{unitsAt}
+use Rattle.h264_put.specs.Groups.{Saved, Group, pair, plain, fragments, fateOf, keepAll, groupsOf, packetsOf}
 use Rattle.h264.specs.Frames.{groupsSent, WhereCoded}
 use Rattle.h264.specs.Payload.{Counts, Left, sentAs, payloadOf}
 use Rattle.sequence.specs.Arrival.{Arrival, Window}

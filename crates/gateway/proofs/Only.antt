@@ -17,13 +17,13 @@ use Rattle.header.specs.Said.{Written, written, changeHeard, idsHeard, readingH
 use Rattle.packet.specs.Read.{readPacket}
 use Rattle.packet.specs.Write.{packetSizeAsked, writePacket}
 use Rattle.packet.specs.Said.{readingHeard as packetHeard}
-use Rattle.vp8.specs.declared.send.Vp8Payloader.{Vp8Payloader}
-use Rattle.vp8.specs.declared.read.Vp8Packet.{Vp8Packet}
-use Rattle.vp8.specs.Send.{Sending, payloaded}
-use Rattle.vp8.specs.Read.{depacketized}
-use Rattle.vp8.specs.Partition.{partitionHead}
+use Rattle.vp8_send.specs.declared.Vp8Payloader.{Vp8Payloader}
+use Rattle.vp8_read.specs.declared.Vp8Packet.{Vp8Packet}
+use Rattle.vp8_send.specs.Send.{Sending, payloaded}
+use Rattle.vp8_read.specs.Read.{depacketized}
+use Rattle.vp8_read.specs.Partition.{partitionHead}
 use Rattle.h264.specs.declared.send.H264Payloader.{H264Payloader}
-use Rattle.h264.specs.Groups.{nothingSaved}
+use Rattle.h264_put.specs.Groups.{nothingSaved}
 use Rattle.h264.specs.Payload.{Left, layOut, payloadOf}
 use Rattle.h264_packet.specs.declared.H264Packet.{H264Packet}
 use Rattle.h264_packet.specs.Depacketize.{headTest}

@@ -29,17 +29,17 @@ use Rattle.header.specs.Said as header
 use Rattle.packet.specs.declared.PacketRead.{PacketRead}
 use Rattle.packet.specs.declared.PacketRead.the-variants as whole
 use Rattle.packet.specs.Said as packet
-use Rattle.vp8.specs.declared.send.Vp8Payloader.{Vp8Payloader}
-use Rattle.vp8.specs.declared.send.Vp8Answer.{Vp8Answer}
-use Rattle.vp8.specs.declared.send.Vp8Answer.the-variants as sent
-use Rattle.vp8.specs.declared.read.Vp8Packet.{Vp8Packet}
-use Rattle.vp8.specs.declared.read.Vp8Read.{Vp8Read}
-use Rattle.vp8.specs.declared.read.Vp8Read.the-variants as vp8
-use Rattle.vp8.specs.declared.read.Vp8PartitionHead.{Vp8PartitionHead}
-use Rattle.vp8.specs.declared.read.Vp8PartitionHead.the-variants as starts
-use Rattle.vp8.specs.SendAnswer.{saidSent}
-use Rattle.vp8.specs.ReadAnswer as fields
-use Rattle.vp8.specs.Partition.{saidHead}
+use Rattle.vp8_send.specs.declared.Vp8Payloader.{Vp8Payloader}
+use Rattle.vp8_send.specs.declared.Vp8Answer.{Vp8Answer}
+use Rattle.vp8_send.specs.declared.Vp8Answer.the-variants as sent
+use Rattle.vp8_read.specs.declared.Vp8Packet.{Vp8Packet}
+use Rattle.vp8_read.specs.declared.Vp8Read.{Vp8Read}
+use Rattle.vp8_read.specs.declared.Vp8Read.the-variants as vp8
+use Rattle.vp8_read.specs.declared.Vp8PartitionHead.{Vp8PartitionHead}
+use Rattle.vp8_read.specs.declared.Vp8PartitionHead.the-variants as starts
+use Rattle.vp8_send.specs.SendAnswer.{saidSent}
+use Rattle.vp8_read.specs.ReadAnswer as fields
+use Rattle.vp8_read.specs.Partition.{saidHead}
 use Rattle.h264.specs.declared.send.H264Payloader.{H264Payloader}
 use Rattle.h264.specs.declared.send.Payloads.{Payloads}
 use Rattle.h264.specs.declared.send.Payloads.the-variants as payloads

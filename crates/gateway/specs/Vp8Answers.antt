@@ -1,6 +1,6 @@
 -- How the answers about VP8 stand in their records. Assumes nothing.
-use Rattle.vp8.specs.Send.{Sent, Sending}
-use Rattle.vp8.specs.Read.{Reading}
+use Rattle.vp8_send.specs.Send.{Sent, Sending}
+use Rattle.vp8_read.specs.Read.{Reading}
 use Rattle.gateway.specs.declared.rtp_vp8.RtpVp8Sent.{RtpVp8Sent}
 use Rattle.gateway.specs.declared.rtp_vp8.RtpVp8Read.{RtpVp8Read}
 use Rattle.gateway.specs.Refused.{refusedIn, numberIn}

@@ -1,11 +1,11 @@
 // VP8: frames sent, payloads read, the partition tests.
 ghost use mathlib.Core.Path.{_≡_};
 ghost use mathlib.Core.List.{[]};
-ghost use Rattle.vp8.specs.Send.{payloaded};
-ghost use Rattle.vp8.specs.SendAnswer.{sending};
-ghost use Rattle.vp8.specs.Read.{depacketized};
-ghost use Rattle.vp8.specs.ReadAnswer.{reading};
-ghost use Rattle.vp8.specs.Partition.{partitionHead, saidHead};
+ghost use Rattle.vp8_send.specs.Send.{payloaded};
+ghost use Rattle.vp8_send.specs.SendAnswer.{sending};
+ghost use Rattle.vp8_read.specs.Read.{depacketized};
+ghost use Rattle.vp8_read.specs.ReadAnswer.{reading};
+ghost use Rattle.vp8_read.specs.Partition.{partitionHead, saidHead};
 ghost use Rattle.gateway.specs.Refused.{testAs};
 ghost use Rattle.gateway.specs.Vp8Answers.{vp8SentAs, vp8ReadAs};
 use crate::refused::Refused;
@@ -14,13 +14,13 @@ use crate::refused::answered;
 use crate::refused::refusal;
 use crate::refused::tested;
 use crate::refused::untested;
-use vp8::read::Vp8Depacketized;
-use vp8::read::Vp8Packet;
-use vp8::read::Vp8PartitionHead;
-use vp8::read::Vp8Read;
-use vp8::send::Vp8Answer;
-use vp8::send::Vp8Payloaded;
-use vp8::send::Vp8Payloader;
+use vp8::Vp8Answer;
+use vp8::Vp8Depacketized;
+use vp8::Vp8Packet;
+use vp8::Vp8PartitionHead;
+use vp8::Vp8Payloaded;
+use vp8::Vp8Payloader;
+use vp8::Vp8Read;
 
 // The payloads of a frame.
 #[repr(C)]
@@ -121,12 +121,12 @@ pub extern "C" fn rtp_vp8_depacketize(packet: Vp8Packet, payload: &[u8]) -> RtpV
 pub extern "C" fn rtp_vp8_is_partition_head(payload: &[u8]) -> RtpTest
     ensures { λ r. ⌜ r ≡ testAs (partitionHead (now (payload .entry))) ⌝ }
 {
-    vp8_head(vp8::read::is_partition_head(payload))
+    vp8_head(vp8::is_partition_head(payload))
 }
 
 #[no_mangle]
 pub extern "C" fn rtp_vp8_is_partition_tail(marker: bool) -> bool
     ensures { λ r. ⌜ r ≡ marker ⌝ }
 {
-    vp8::read::is_partition_tail(marker)
+    vp8::is_partition_tail(marker)
 }

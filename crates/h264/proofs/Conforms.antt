@@ -14,9 +14,9 @@ use Rattle.rfc6184.specs.Sending as rfc
 use Rattle.rfc6184.specs.Sending.{Each, Nal, octet, octetsOf, Part, payloadsOf, unitsOf, payloadsOfAll, unitsOfAll, FormedSending, Sized, Rules, Lawful, Packetization}
 use Rattle.rfc6184.proofs.Each.{each-append, each-any, each-map}
 use Rattle.rfc6184.proofs.Octets.{formed-fields, octets-of-nal}
-use Rattle.h264.specs.declared.fate.Fate.{Fate}
-use Rattle.h264.specs.declared.fate.Fate.the-variants.{Empty, Dropped, Sps, Pps, Coded}
-use Rattle.h264.specs.Groups.{Saved, Group, pair, plain, fragments, nothingSaved, bothSaved, fateOf, keep, keepBy, stapA, fragment, pairFor, fragmentsOf, unitFor, groupsBy, groupsFor, groupsOf, packetsOfGroup, packetsOf}
+use Rattle.h264_put.specs.declared.fate.Fate.{Fate}
+use Rattle.h264_put.specs.declared.fate.Fate.the-variants.{Empty, Dropped, Sps, Pps, Coded}
+use Rattle.h264_put.specs.Groups.{Saved, Group, pair, plain, fragments, nothingSaved, bothSaved, fateOf, keep, keepBy, stapA, fragment, pairFor, fragmentsOf, unitFor, groupsBy, groupsFor, groupsOf, packetsOfGroup, packetsOf}
 use Rattle.h264.specs.Conformance.{Octets, SavedOctets, nal, part, fragmented, sendingOf, nalsOf, nalsOfAll, Regular, LaidOut, Sendable}
 use Rattle.h264.proofs.Fits.{sendable}
 

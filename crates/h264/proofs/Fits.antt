@@ -11,14 +11,14 @@ use lib.ListN.{length}
 use borrow.Author.Tests.{ltb-true, leb-true}
 use Rattle.rfc6184.specs.Sending.{Each}
 use Rattle.rfc6184.proofs.Each.{each-append, each-by, each-map}
-use Rattle.h264.specs.declared.fate.Fate.{Fate}
-use Rattle.h264.specs.declared.fate.Fate.the-variants.{Empty, Dropped, Sps, Pps, Coded}
-use Rattle.h264.specs.Groups.{Saved, Group, pair, plain, fragments, bothSaved, fateOf, keep, stapA, fragment, pairFor, fragmentsOf, unitFor, groupsBy, groupsFor, groupsOf, packetsOfGroup, packetsOf}
+use Rattle.h264_put.specs.declared.fate.Fate.{Fate}
+use Rattle.h264_put.specs.declared.fate.Fate.the-variants.{Empty, Dropped, Sps, Pps, Coded}
+use Rattle.h264_put.specs.Groups.{Saved, Group, pair, plain, fragments, bothSaved, fateOf, keep, stapA, fragment, pairFor, fragmentsOf, unitFor, groupsBy, groupsFor, groupsOf, packetsOfGroup, packetsOf}
 use Rattle.h264.specs.Conformance.{Sendable}
-use Rattle.h264.proofs.Bools.{and-both}
-use Rattle.h264.proofs.UnitFates.{coded-some}
-use Rattle.h264.proofs.Sinks.{length-stapA, length-fragment}
-use Rattle.h264.proofs.Sizes.{unit-alone, unit-dropped, unit-divided}
+use Rattle.annexb.proofs.Bools.{and-both}
+use Rattle.h264_put.proofs.UnitFates.{coded-some}
+use Rattle.h264_put.proofs.Sinks.{length-stapA, length-fragment}
+use Rattle.h264_put.proofs.Sizes.{unit-alone, unit-dropped, unit-divided}
 use Rattle.h264.proofs.Parts.{unit-rebuilt, unit-divided-well}
 
 -- ---- every group can be sent

@@ -1,55 +1,19 @@
--- The units of a frame: none is longer than the frame, and those that go out have what every coded unit has. Assumes nothing.
-use mathlib.Core.Path.{_≡_}
+-- The units of a frame that count have what every unit has, and those that go out what every coded unit has. Assumes nothing.
 use mathlib.Core.Bool.{Bool, true, false, cond, _&&_, _||_}
-use mathlib.Core.List.{List, [], _∷_, _++_}
-use Prim.Native.Nat.{ℕ, suc, _+_, _≤_}
+use mathlib.Core.List.{List, [], _∷_}
+use Prim.Native.Nat.{ℕ, _≤_}
 use native.Mathlib.Omega.{arith}
-use lib.Dec.{leb, eqb}
-use lib.ListN.{length, replicate, length-append, length-replicate}
-use Rattle.wire.specs.Packets.{joined}
+use lib.Dec.{leb}
+use lib.ListN.{length}
 use Rattle.rfc6184.specs.Sending.{Each}
 use Rattle.rfc6184.proofs.Each.{each-by}
-use Rattle.h264.specs.declared.fate.Fate.{Fate}
-use Rattle.h264.specs.declared.fate.Fate.the-variants.{Empty, Dropped, Sps, Pps, Coded}
-use Rattle.h264.specs.Search.{zerosBy, endsCode}
-use Rattle.h264.specs.Units.{Cut, cut, cutBy, units, unitsOfCut, noUnits, unitsAt}
-use Rattle.h264.specs.Groups.{fateOf}
+use Rattle.h264_put.specs.declared.fate.Fate.{Fate}
+use Rattle.h264_put.specs.declared.fate.Fate.the-variants.{Empty, Dropped, Sps, Pps, Coded}
+use Rattle.annexb.specs.Units.{units, noUnits, unitsAt}
+use Rattle.h264_put.specs.Groups.{fateOf}
 use Rattle.h264.specs.Conformance.{Octets, isCoded, goesOut, thoseThat}
 use Rattle.h264.specs.Frames.{WhereCoded}
-use Rattle.h264.proofs.OneUnit.{units-octets}
-
--- ---- no unit is longer than its frame
-
-total : Cut → ℕ
-total c = length (c .before) + length (joined (c .behind))
-
-cut-total : (s : List ℕ) (z : ℕ) → total (cut s z) ≤ length s + z
-unfolding total
-cut-total [] z = omega (arith, length-replicate {A = ℕ} z 0)
-cut-total (b ∷ s) z = go (eqb b 0) (endsCode b z) (λ k. cut-total s k)
-  where
-    go : (isZero isCode : Bool) → ((k : ℕ) → total (cut s k) ≤ length s + k) →
-        total (cutBy isZero isCode b z (cut s (zerosBy isZero z))) ≤ suc (length s) + z
-    go true isCode rec = omega (arith, rec (z + 1))
-    go false true rec =
-        omega (arith, rec 0, length-append (cut s 0 .before) (joined (cut s 0 .behind)))
-    go false false rec =
-        omega (arith, rec 0, length-append (replicate z 0) (b ∷ cut s 0 .before), length-replicate {A = ℕ} z 0)
-
-each-short : (n : ℕ) (us : List (List ℕ)) → length (joined us) ≤ n → Each (λ (u : List ℕ). length u ≤ n) us
-each-short n [] h = tt
-each-short n (u ∷ us) h =
-    let l : length (u ++ joined us) ≡ length u + length (joined us) = length-append u (joined us) in
-    (omega arith, each-short n us (omega arith))
-
-units-short : (frame : List ℕ) → Each (λ (u : List ℕ). length u ≤ length frame) (units frame)
-unfolding units total
-units-short frame = go (cut frame 0 .before) (cut frame 0 .behind) (omega (arith, cut-total frame 0))
-  where
-    go : (before : List ℕ) (behind : List (List ℕ)) → length before + length (joined behind) ≤ length frame →
-        Each (λ (u : List ℕ). length u ≤ length frame) (unitsOfCut before behind)
-    go before [] h = (omega arith, tt)
-    go before (u ∷ us) h = each-short (length frame) (u ∷ us) (omega arith)
+use Rattle.annexb.proofs.Within.{units-short, units-octets}
 
 -- ---- the units that count
 

@@ -1,11 +1,3 @@
-pub mod Bools
-pub mod Codes
-pub mod Pieces
-pub mod Sinks
-pub mod Fragments
-pub mod UnitFates
-pub mod Sizes
-pub mod Measures
 pub mod State
 pub mod Steps
 pub mod Walks
@@ -19,4 +11,5 @@ pub mod FrameUnits
 pub mod StartEnd
 pub mod Only
 pub mod Frames
+pub mod AnySender
 pub mod Sender

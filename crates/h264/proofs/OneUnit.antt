@@ -3,19 +3,16 @@
 use mathlib.Core.Path.{_≡_, sym, ap, ap₂, subst, _∙_}
 use mathlib.Core.List.{List, [], _∷_, map}
 use mathlib.Core.Bool.{Bool, true, false, _||_, true≢false}
-use Prim.Native.Nat.{ℕ, zero, suc, _-_, _≤_, _<_}
+use Prim.Native.Nat.{ℕ, _-_, _≤_, _<_}
 use native.Mathlib.Decide.{decLe}
 use native.Mathlib.Omega.{arith}
-use lib.Dec.{eqb, leb}
-use lib.ListN.{length, replicate}
+use lib.Dec.{leb}
+use lib.ListN.{length}
 use borrow.Author.Tests.{lt-leb}
 use Rattle.rfc6184.specs.Sending.{Each, Nal, UnitType, Packetization}
-use Rattle.rfc6184.proofs.Each.{each-append}
-use Rattle.h264.specs.Search.{endsCode, zerosBy}
-use Rattle.h264.specs.Units.{Cut, cut, cutBy, units, unitsOfCut}
-use Rattle.h264.specs.Groups.{fragmentsOf, unitFor, packetsOf}
+use Rattle.h264_put.specs.Groups.{fragmentsOf, unitFor, packetsOf}
 use Rattle.h264.specs.Conformance.{Octets, nal, sendingOf, cleared, nalsOfAll, Regular}
-use Rattle.h264.proofs.Sizes.{unit-alone, unit-divided}
+use Rattle.h264_put.proofs.Sizes.{unit-alone, unit-divided}
 use Rattle.h264.proofs.Parts.{unit-rebuilt}
 use Rattle.h264.proofs.Fits.{unit-sendable}
 use Rattle.h264.proofs.Conforms.{unit-headed, all-laid, all-units, all-lawful}
@@ -63,27 +60,3 @@ module _ (mtu : ℕ) (small : mtu ≤ 65535) (u : List ℕ) (some : 0 < length u
           subst (λ (n : Nal). Packetization (packetsOf (unitFor mtu u)) (n ∷ [])) same (divided-packetized g (omega arith))
       go (no h) (no g) =
           absurd (true≢false (sym e ∙ ap₂ (λ (x y : Bool). x || y) (lt-leb (length u) mtu (omega arith)) (lt-leb 3 mtu (omega arith))))
-
--- ---- the units of a frame of octets are octets
-
-zeros : (n : ℕ) → Octets (replicate n 0)
-zeros zero = tt
-zeros (suc n) = (omega arith, zeros n)
-
-cut-octets : (s : List ℕ) (z : ℕ) → Octets s → Octets (cut s z .before) × Each Octets (cut s z .behind)
-cut-octets [] z o = (zeros z, tt)
-cut-octets (b ∷ s) z o = go (eqb b 0) (endsCode b z) (cut s (zerosBy (eqb b 0) z)) (cut-octets s (zerosBy (eqb b 0) z) (o .1))
-  where
-    go : (isZero isCode : Bool) (c : Cut) → Octets (c .before) × Each Octets (c .behind) →
-        Octets (cutBy isZero isCode b z c .before) × Each Octets (cutBy isZero isCode b z c .behind)
-    go true isCode c w = w
-    go false true c w = (tt, (w .0, w .1))
-    go false false c w = (each-append (λ (x : ℕ). x < 256) (replicate z 0) (b ∷ c .before) (zeros z) (o .0, w .0), w .1)
-
-pub units-octets : (frame : List ℕ) → Octets frame → Each Octets (units frame)
-unfolding units
-units-octets frame o = go (cut frame 0 .before) (cut frame 0 .behind) (cut-octets frame 0 o)
-  where
-    go : (before : List ℕ) (behind : List (List ℕ)) → Octets before × Each Octets behind → Each Octets (unitsOfCut before behind)
-    go before [] w = (w .0, tt)
-    go before (u ∷ us) w = w .1

@@ -7,16 +7,16 @@ use Rattle.error.specs.Said.{Said, says, refused, refuse}
 use Rattle.error.specs.Only.{Determined}
 use Rattle.error.proofs.Inverse.{errorOf, errorOf-refusalOf}
 use Rattle.error.proofs.Only.{by-value, by-view}
-use Rattle.h264.specs.declared.search.Found.{Found}
-use Rattle.h264.specs.declared.search.Search.{Search}
-use Rattle.h264.specs.declared.search.Search.the-variants as search-variants
+use Rattle.annexb.specs.declared.Found.{Found}
+use Rattle.annexb.specs.declared.Search.{Search}
+use Rattle.annexb.specs.declared.Search.the-variants as search-variants
 use Rattle.h264.specs.declared.send.H264Payloader.{H264Payloader}
 use Rattle.h264.specs.declared.send.Payloads.{Payloads}
 use Rattle.h264.specs.declared.send.Payloads.the-variants.{Written, Refused}
 use Rattle.h264.specs.declared.send.Sent.{Sent}
-use Rattle.h264.specs.Search.{nextCode, saidSearch, beyond, nextInd}
-use Rattle.h264.specs.Units.{unitsAt}
-use Rattle.h264.specs.Groups.{Saved, nothingSaved, keepAll, groupsOf, packetsOf}
+use Rattle.annexb.specs.Search.{nextCode, saidSearch, beyond, nextInd}
+use Rattle.annexb.specs.Units.{unitsAt}
+use Rattle.h264_put.specs.Groups.{Saved, nothingSaved, keepAll, groupsOf, packetsOf}
 use Rattle.h264.specs.Payload.{layOut, savedIn, outside, overLimit, tooSmall, Counts, said, Left, left, refusedWith, sentAs, leftBy, payloadOf}
 
 -- an answer's values, back from what it says

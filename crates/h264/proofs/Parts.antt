@@ -8,9 +8,9 @@ use lib.ListN.{length, take, drop, length-drop, take-append-drop}
 use lib.Seq.{length-take-le}
 use Rattle.wire.specs.Packets.{joined}
 use Rattle.rfc6184.specs.Sending.{Each}
-use Rattle.h264.specs.Groups.{Parts, parts}
+use Rattle.h264_put.specs.Groups.{Parts, parts}
 use Rattle.h264.specs.Conformance.{Divided, rebuilt}
-use Rattle.h264.proofs.Fragments.{parts-last, parts-more}
+use Rattle.h264_put.proofs.Fragments.{parts-last, parts-more}
 
 record Filled (size : ℕ) (s : List ℕ) (p : Parts) : Type 0 where
   full : Each (λ (x : List ℕ). length x ≡ size) (p .middle)

@@ -9,15 +9,16 @@ use lib.ListN.{length}
 use Rattle.error.specs.Only.{Determined}
 use Rattle.rfc6184.specs.Sending.{Each, UnitType, Packetization}
 use Rattle.h264.specs.declared.send.H264Payloader.{H264Payloader}
-use Rattle.h264.specs.Units.{unitsAt}
-use Rattle.h264.specs.Groups.{Saved, fragments, unitFor, groupsOf, packetsOfGroup, packetsOf}
+use Rattle.annexb.specs.Units.{unitsAt}
+use Rattle.h264_put.specs.Groups.{Saved, fragments, unitFor, groupsOf, packetsOfGroup, packetsOf}
 use Rattle.h264.specs.Payload.{left, payloadOf}
-use Rattle.h264.specs.AnnexB.{Prefixed, written, Apart, unitsWritten}
-use Rattle.h264.specs.Conformance.{Octets, SavedOctets, nal, nalsOfAll, Regular, Sendable, unitsIn, goesOut, thoseThat, startBit, endBit}
+use Rattle.annexb.specs.AnnexB.{Prefixed, written, Apart, unitsWritten}
+use Rattle.h264.specs.Conformance.{Octets, SavedOctets, nal, nalsOfAll, Regular, Sendable, unitsIn, goesOut, thoseThat, startBit, endBit, SendsFrames, packetsSent}
 use Rattle.h264.proofs.Fits as F
 use Rattle.h264.proofs.Frames as A
 use Rattle.h264.proofs.Conforms as C
 use Rattle.h264.proofs.OneUnit as U
+use Rattle.h264.proofs.AnySender as N
 use Rattle.h264.proofs.StartEnd as S
 use Rattle.h264.proofs.Only as O
 
@@ -34,6 +35,14 @@ sent-by-rfc6184 = C.packetized
 pub unit-by-rfc6184 : (mtu : ℕ) → mtu ≤ 65535 → (u : List ℕ) → 0 < length u → Octets u → UnitType (nal u .type) → nal u .f ≡ 0 →
     (leb (length u) mtu || leb 3 mtu) ≡ true → Packetization (packetsOf (unitFor mtu u)) (nal u ∷ [])
 unit-by-rfc6184 = U.unit-packetized
+
+-- A frame of such units, as an encoder writes it, is sent as a packetization of exactly these units. A sender that emits nothing does not so.
+pub frame-by-rfc6184 : SendsFrames packetsSent
+frame-by-rfc6184 = N.sends-frames
+
+pub no-silent-sender : (send : Saved → ℕ → List ℕ → List (List ℕ)) →
+    ((v : Saved) (mtu : ℕ) (frame : List ℕ) → send v mtu frame ≡ []) → SendsFrames send → ⊥
+no-silent-sender = N.no-silent-sender
 
 -- Nothing but empty units, types 9 and 12, saved sets and what cannot fit is left out of a frame as an encoder writes it.
 pub nothing-else-left-out : (mtu : ℕ) (v : Saved) (end : ℕ) (c : Prefixed) (cs : List Prefixed) → 0 < mtu →

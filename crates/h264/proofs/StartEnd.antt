@@ -7,7 +7,7 @@ use native.Mathlib.Omega.{arith}
 use lib.ListN.{length, length-append}
 use Rattle.rfc6184.specs.Sending.{Each}
 use Rattle.rfc6184.proofs.Each.{each-append, each-any, each-map}
-use Rattle.h264.specs.Groups.{fragments, fragment, packetsOfGroup}
+use Rattle.h264_put.specs.Groups.{fragments, fragment, packetsOfGroup}
 use Rattle.h264.specs.Conformance.{startBit, endBit}
 
 -- a fragment of a unit with this first byte bears these bits

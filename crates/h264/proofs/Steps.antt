@@ -8,14 +8,15 @@ use lib.ListN.{length}
 use borrow.Author.Tests.{ltb-false}
 use Rattle.wire.specs.Packets.{Sink, Room, putAll}
 use Rattle.wire.proofs.Packets.{putAll-append, room-front, room-behind}
-use Rattle.h264.specs.declared.fate.Fate.{Fate}
-use Rattle.h264.specs.declared.fate.Fate.the-variants.{Empty, Dropped, Sps, Pps, Coded}
+use Rattle.h264_put.specs.declared.fate.Fate.{Fate}
+use Rattle.h264_put.specs.declared.fate.Fate.the-variants.{Empty, Dropped, Sps, Pps, Coded}
 use Rattle.h264.specs.declared.send.ParameterSet.{ParameterSet}
 use Rattle.h264.specs.declared.send.H264Payloader.{H264Payloader}
-use Rattle.h264.specs.Groups.{fateOf, forgotten, keep, keepBy, pairFor, unitFor, groupsFor, groupsBy, packetsOf}
-use Rattle.h264.specs.Payload.{setOut, layOut, savedIn, isSaved}
+use Rattle.h264_put.specs.Groups.{fateOf, forgotten, keep, keepBy, pairFor, unitFor, groupsFor, groupsBy, packetsOf}
+use Rattle.h264.specs.Payload.{setOut, layOut, savedIn}
+use Rattle.h264_put.specs.Step.{isSaved}
 use Rattle.h264.specs.Step.{Ready, Done}
-use Rattle.h264.proofs.Sizes.{packets-append}
+use Rattle.h264_put.proofs.Sizes.{packets-append}
 
 module _ (h : H264Payloader) (mtu : ℕ) (u : List ℕ) (s : Sink) (r : Ready h mtu u s) where
   done-by : (k : Fate) → fateOf u ≡ k → (h′ : H264Payloader) (s′ : Sink) → h′ ≡ layOut (keepBy k (savedIn h) u) →

@@ -9,16 +9,17 @@ use lib.ListN.{length, take, drop}
 use borrow.Author.Tests.{ltb-false}
 use Rattle.wire.specs.Packets.{Sink, Room, putAll}
 use Rattle.wire.proofs.Packets.{putAll-append, room-front, room-behind}
-use Rattle.h264.specs.declared.search.Piece.{Piece}
-use Rattle.h264.specs.declared.fate.Fate.{Fate}
-use Rattle.h264.specs.declared.fate.Fate.the-variants.{Empty, Dropped, Sps, Pps, Coded}
+use Rattle.annexb.specs.declared.Piece.{Piece}
+use Rattle.h264_put.specs.declared.fate.Fate.{Fate}
+use Rattle.h264_put.specs.declared.fate.Fate.the-variants.{Empty, Dropped, Sps, Pps, Coded}
 use Rattle.h264.specs.declared.send.H264Payloader.{H264Payloader}
-use Rattle.h264.specs.Units.{pieces, Pieced}
-use Rattle.h264.specs.Groups.{Saved, nothingSaved, bothSaved, fateOf, keep, keepBy, keepAll, groupsFor, groupsOf, packetsOf}
-use Rattle.h264.specs.Payload.{layOut, savedIn, isSaved, tooLong, overLimit}
+use Rattle.annexb.specs.Units.{pieces, Pieced}
+use Rattle.h264_put.specs.Groups.{Saved, nothingSaved, bothSaved, fateOf, keep, keepBy, keepAll, groupsFor, groupsOf, packetsOf}
+use Rattle.h264.specs.Payload.{layOut, savedIn, overLimit}
+use Rattle.h264_put.specs.Step.{isSaved, tooLong}
 use Rattle.h264.specs.Step.{Tidy, Ready, Done}
-use Rattle.h264.proofs.Bools.{or-false-left, or-false-right}
-use Rattle.h264.proofs.Sizes.{packets-append}
+use Rattle.annexb.proofs.Bools.{or-false-left, or-false-right}
+use Rattle.h264_put.proofs.Sizes.{packets-append}
 use Rattle.h264.proofs.State.{Short, saved-laid, tidy-laid, sps-length, pps-length}
 
 -- ---- the limit

@@ -1,10 +1,10 @@
 -- Frames one after the other through a sender: what is saved goes from call to call. Assumes nothing.
 use mathlib.Core.List.{List, [], _∷_, _++_}
 use Prim.Native.Nat.{ℕ}
-use Rattle.h264.specs.declared.fate.Fate.{Fate}
-use Rattle.h264.specs.declared.fate.Fate.the-variants.{Empty, Dropped, Sps, Pps, Coded}
-use Rattle.h264.specs.Units.{unitsAt}
-use Rattle.h264.specs.Groups.{Saved, nothingSaved, Group, keepAll, groupsOf}
+use Rattle.h264_put.specs.declared.fate.Fate.{Fate}
+use Rattle.h264_put.specs.declared.fate.Fate.the-variants.{Empty, Dropped, Sps, Pps, Coded}
+use Rattle.annexb.specs.Units.{unitsAt}
+use Rattle.h264_put.specs.Groups.{Saved, nothingSaved, Group, keepAll, groupsOf}
 
 -- the groups sent for frames in order, where v is saved
 abbrev pub groupsFrom : ℕ → Saved → List (List ℕ) → List Group

@@ -1,6 +1,6 @@
 -- One call of `payload`: its answer, the state after it, and output and table at exit. Assumes nothing.
 use mathlib.Core.List.{List, [], _∷_}
-use mathlib.Core.Bool.{Bool, true, false, _&&_, _||_}
+use mathlib.Core.Bool.{Bool, true, false, _||_}
 use Prim.Native.Nat.{ℕ}
 use lib.Dec.{ltb}
 use lib.ListN.{length, take}
@@ -13,10 +13,9 @@ use Rattle.h264.specs.declared.send.H264Payloader.{H264Payloader}
 use Rattle.h264.specs.declared.send.Sent.{Sent}
 use Rattle.h264.specs.declared.send.Payloads.{Payloads}
 use Rattle.h264.specs.declared.send.Payloads.the-variants.{Written, Refused}
-use Rattle.h264.specs.declared.fate.Fate.{Fate}
-use Rattle.h264.specs.declared.fate.Fate.the-variants.{Empty, Dropped, Sps, Pps, Coded}
-use Rattle.h264.specs.Units.{unitsAt}
-use Rattle.h264.specs.Groups.{Saved, fateOf, keepAll, groupsOf, packetsOf}
+use Rattle.annexb.specs.Units.{unitsAt}
+use Rattle.h264_put.specs.Groups.{Saved, keepAll, groupsOf, packetsOf}
+use Rattle.h264_put.specs.Step.{tooLong}
 
 -- ---- the record
 
@@ -39,18 +38,7 @@ abbrev pub outside : H264Payloader → ℕ → List ℕ → Bool
 outside h mtu frame =
     ltb 1024 (h .sps .len) || (ltb 1024 (h .pps .len) || (ltb 65535 mtu || ltb 16777216 (length frame)))
 
--- whether a unit is to be saved, by its fate
-abbrev pub isSaved : Fate → Bool
-isSaved Empty = false
-isSaved Dropped = false
-isSaved Sps = true
-isSaved Pps = true
-isSaved Coded = false
-
--- 7: "an SPS or PPS to be saved is over 1,024"
-abbrev pub tooLong : List ℕ → Bool
-tooLong u = isSaved (fateOf u) && ltb 1024 (length u)
-
+-- 7: "an SPS or PPS to be saved is over 1,024", of a frame's units
 abbrev pub overLimit : List (List ℕ) → Bool
 overLimit [] = false
 overLimit (u ∷ us) = tooLong u || overLimit us

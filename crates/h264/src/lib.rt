@@ -1,6 +1,14 @@
-// H.264 over RTP (RFC 6184), carried over from codecs/h264/mod.rs of rtp 0.17.2.
-pub mod search; // search.rt: the start codes of a frame, and the units between them
-pub mod fate; // fate.rt: what is to be done with a unit
-pub mod measure; // measure.rt: how much the packets of a frame take
-pub mod put; // put.rt: packets into one output, with a table of their ends
-pub mod send; // send.rt: frames to payloads
+// H.264 over RTP (RFC 6184), carried over from codecs/h264/mod.rs of rtp 0.17.2: frames sent. `h264_packet` has the reader.
+mod send; // send.rt: frames to payloads
+
+pub use annexb::Found;
+pub use annexb::Search;
+pub use annexb::next_ind;
+pub use h264_put::AUD_NALU_TYPE;
+pub use h264_put::FILLER_NALU_TYPE;
+pub use h264_put::PPS_NALU_TYPE;
+pub use h264_put::SPS_NALU_TYPE;
+pub use send::H264Payloader;
+pub use send::ParameterSet;
+pub use send::Payloads;
+pub use send::Sent;

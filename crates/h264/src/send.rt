@@ -8,21 +8,22 @@ ghost use Prim.Native.Nat.{_≤_};
 ghost use lib.Dec.{ltb};
 ghost use lib.ListN.{length, take};
 ghost use Rattle.wire.specs.Packets.{Room, putAll};
-ghost use Rattle.h264.specs.Units.{units, noUnits};
-ghost use Rattle.h264.specs.Groups.{nothingSaved, forgotten, keep, keepAll, pairFor, groupsFor, groupsOf, packetsOf};
+ghost use Rattle.annexb.specs.Units.{units, noUnits};
+ghost use Rattle.h264_put.specs.Groups.{nothingSaved, forgotten, keep, keepAll, pairFor, groupsFor, groupsOf, packetsOf};
 ghost use Rattle.h264.specs.Payload.{setOut, layOut, savedIn, overLimit, emptySink, left, payloadOf};
-ghost use Rattle.h264.specs.Step.{sinkAt, Tidy, Ready, Done};
-use crate::fate::Fate;
-use crate::fate::both;
-use crate::fate::fate_of;
-use crate::measure::Measure;
-use crate::measure::measure_frame;
-use crate::put::Place;
-use crate::put::put_pair;
-use crate::put::put_unit;
-use crate::search::first_unit;
-use crate::search::unit_at;
+ghost use Rattle.h264_put.specs.Step.{sinkAt};
+ghost use Rattle.h264.specs.Step.{Tidy, Ready, Done};
+use annexb::first_unit;
+use annexb::unit_at;
 use error::Error;
+use h264_put::Fate;
+use h264_put::Measure;
+use h264_put::Place;
+use h264_put::both;
+use h264_put::fate_of;
+use h264_put::measure_frame;
+use h264_put::put_pair;
+use h264_put::put_unit;
 
 // A parameter set that waits to be sent.
 #[repr(C)]
@@ -66,10 +67,10 @@ pub struct H264Payloader {
 }
 
 // What the step that sends one unit leaves.
-pub struct Emitted {
-    pub sender: H264Payloader,
+struct Emitted {
+    sender: H264Payloader,
     // how far output and table are written
-    pub place: Place,
+    place: Place,
 }
 
 impl H264Payloader {
@@ -128,14 +129,7 @@ impl H264Payloader {
     }
 
     // Sends one unit: drops or saves it, or writes it behind the pair that waits.
-    pub(crate) fn emit(
-        self,
-        mtu: usize,
-        unit: &[u8],
-        out: &mut [u8],
-        ends: &mut [usize],
-        to: Place,
-    ) -> Emitted
+    fn emit(self, mtu: usize, unit: &[u8], out: &mut [u8], ends: &mut [usize], to: Place) -> Emitted
         requires { ⌜ Ready self mtu (now unit) (sinkAt (now out) (now ends) to) ⌝ }
         ensures { λ r. ⌜ Done (keep (savedIn self) (now (unit .entry))) (groupsFor mtu (savedIn self) (now (unit .entry)))
             (sinkAt (now (out .entry)) (now (ends .entry)) to) (r .sender) (sinkAt (now (out .exit)) (now (ends .exit)) (r .place)) ⌝ }

@@ -12,8 +12,8 @@ use Rattle.nal_read.specs.Kind.{shape}
 use Rattle.nal_read.specs.Unpack.{unpackTurn, unpack}
 use Rattle.nal.specs.Fed.{layBytes, layFed}
 use Rattle.rfc6184.specs.Sending.{Each, octet, octetsOf}
-use Rattle.h264.specs.Units.{units, unitsAt}
-use Rattle.h264.specs.Groups.{keep, stapA, fragment, pairFor, unitFor, groupsFor, packetsOf}
+use Rattle.annexb.specs.Units.{units, unitsAt}
+use Rattle.h264_put.specs.Groups.{keep, stapA, fragment, pairFor, unitFor, groupsFor, packetsOf}
 use Rattle.h264.specs.Frames.{groupsSent}
 use Rattle.h264_packet.specs.Depacketize.{readPayload, depacketized}
 use Rattle.h264_rfc.specs.Reading.{fresh, calls, handedBy, Hears}

@@ -20,7 +20,7 @@ use Rattle.error.specs.Refusal.{Refusal}
 use Rattle.error.specs.Said.{refused}
 use Rattle.wire.specs.Packets.{joined}
 use Rattle.rfc6184.specs.Sending.{Each, Nal, Sending, payloadsOfAll, FormedSending, Packetization}
-use Rattle.h264.specs.Groups.{packetsOf}
+use Rattle.h264_put.specs.Groups.{packetsOf}
 use Rattle.h264.specs.Conformance.{nalsOfAll}
 use Rattle.h264.specs.Frames.{groupsSent}
 use Rattle.h264_packet.specs.Depacketize.{depacketized}

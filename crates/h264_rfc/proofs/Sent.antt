@@ -13,8 +13,8 @@ use Rattle.wire.specs.Packets.{joined}
 use Rattle.rfc6184.specs.Sending.{Each, Nal, octetsOf, Part, payloadsOfAll, bodyOf, FormedSending}
 use Rattle.rfc6184.proofs.Each.{each-append, each-by, each-map}
 use Rattle.rfc6184.proofs.Octets.{length-octets}
-use Rattle.h264.specs.Units.{unitsAt}
-use Rattle.h264.specs.Groups.{Saved, nothingSaved, Group, pair, plain, fragments, fateOf, keep, keepAll, groupsOf, packetsOfGroup, packetsOf}
+use Rattle.annexb.specs.Units.{unitsAt}
+use Rattle.h264_put.specs.Groups.{Saved, nothingSaved, Group, pair, plain, fragments, fateOf, keep, keepAll, groupsOf, packetsOfGroup, packetsOf}
 use Rattle.h264.specs.Conformance.{Octets, SavedOctets, nal, part, fragmented, sendingOf, cleared, rebuilt, nalsOfAll, Divided, Sendable, unitsIn, isCoded, goesOut, thoseThat}
 use Rattle.h264.specs.Frames.{groupsFrom, groupsSent}
 use Rattle.h264.proofs.Fits.{sendable, group-fits}

@@ -5,8 +5,8 @@ use Prim.Native.Nat.{ℕ, _≤_}
 use lib.Dec.{leb}
 use lib.ListN.{length}
 use Rattle.rfc6184.specs.Sending.{Each, Nal, UnitType}
-use Rattle.h264.specs.Units.{unitsAt}
-use Rattle.h264.specs.Groups.{Group, pair, plain, fragments, fateOf, packetsOfGroup}
+use Rattle.annexb.specs.Units.{unitsAt}
+use Rattle.h264_put.specs.Groups.{Group, pair, plain, fragments, fateOf, packetsOfGroup}
 use Rattle.h264.specs.Conformance.{Octets, nal, cleared, rebuilt, sendingOf, nalsOf, isCoded, thoseThat}
 use Rattle.h264.specs.Frames.{WhereCoded}
 use Rattle.h264_rfc.specs.Reading.{lastly, handedAs, gatheredOf}

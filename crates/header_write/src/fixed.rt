@@ -3,8 +3,7 @@ ghost use mathlib.Core.Path.{_≡_};
 ghost use mathlib.Core.List.{[]};
 ghost use Prim.Native.Nat.{_+_, _≤_};
 ghost use lib.ListN.{length, take};
-ghost use Rattle.wire.specs.Part.{splice};
-ghost use Rattle.block_write.specs.Write.{Put};
+ghost use Rattle.wire.specs.Part.{splice, Put};
 ghost use Rattle.header_write.specs.Fixed.{flag, csrcOctets, firstFor, secondFor, fixedFor};
 
 fn flag(on: bool, n: u8) -> u8

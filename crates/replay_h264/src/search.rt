@@ -1,6 +1,6 @@
 // The start code search.
-use h264::search::Found;
-use h264::search::Search;
+use h264::Found;
+use h264::Search;
 use rows::Verdict;
 
 // `at PLACE LEN` or `none`.
@@ -10,7 +10,7 @@ pub fn answer(question: &[u8], text: &mut [u8], bytes: &mut [u8]) -> Verdict {
         return Verdict::Skipped;
     }
     let start = rows::size(rows::token(question, 2));
-    let search = h264::search::next_ind(&bytes[0..n], start);
+    let search = h264::next_ind(&bytes[0..n], start);
     match search {
         Search::Yields(found) => Verdict::Answer(put_found(text, found)),
         Search::Refused(e) => Verdict::Answer(rows::put_refused(text, 0, e)),

@@ -1,8 +1,8 @@
 // Frames sent.
-use h264::send::H264Payloader;
-use h264::send::ParameterSet;
-use h264::send::Payloads;
-use h264::send::Sent;
+use h264::H264Payloader;
+use h264::ParameterSet;
+use h264::Payloads;
+use h264::Sent;
 use rows::Verdict;
 
 // What the lent buffers hold beforehand, and a record's arrays behind the sets' bytes.

@@ -1,9 +1,9 @@
 // Descriptors read, and the partition tests.
 use error::Error;
 use rows::Verdict;
-use vp8::read::Vp8Packet;
-use vp8::read::Vp8PartitionHead;
-use vp8::read::Vp8Read;
+use vp8::Vp8Packet;
+use vp8::Vp8PartitionHead;
+use vp8::Vp8Read;
 
 // The 13 fields stand behind the question's name.
 fn fields_fit(question: &[u8]) -> bool {
@@ -94,7 +94,7 @@ pub fn head(question: &[u8], text: &mut [u8], bytes: &mut [u8]) -> Verdict {
     if bytes.len() < n {
         return Verdict::Skipped;
     }
-    let answer = vp8::read::is_partition_head(&bytes[0..n]);
+    let answer = vp8::is_partition_head(&bytes[0..n]);
     match answer {
         Vp8PartitionHead::Head(is) => Verdict::Answer(rows::put_number(
             text,
@@ -106,6 +106,6 @@ pub fn head(question: &[u8], text: &mut [u8], bytes: &mut [u8]) -> Verdict {
 }
 
 pub fn tail(question: &[u8], text: &mut [u8]) -> Verdict {
-    let is = vp8::read::is_partition_tail(rows::flag(rows::token(question, 1)));
+    let is = vp8::is_partition_tail(rows::flag(rows::token(question, 1)));
     Verdict::Answer(rows::put_number(text, 0, rows::wide_flag(is)))
 }

@@ -1,8 +1,8 @@
 // Frames sent.
 use rows::Verdict;
-use vp8::send::Vp8Answer;
-use vp8::send::Vp8Payloaded;
-use vp8::send::Vp8Payloader;
+use vp8::Vp8Answer;
+use vp8::Vp8Payloaded;
+use vp8::Vp8Payloader;
 
 // What the lent buffers hold beforehand.
 const FILL: u8 = 0xA5;

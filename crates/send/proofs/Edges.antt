@@ -9,14 +9,14 @@ use lib.ListN.{length, getD}
 use borrow.Author.Tests.{lt-ltb, le-ltb}
 use Rattle.wire.specs.Turns.{Turn, more, done, run}
 use Rattle.wire.proofs.Turns.{run-more, run-done}
-use Rattle.h264.specs.declared.search.Found.{Found}
-use Rattle.h264.specs.declared.search.Found.the-variants as found
+use Rattle.annexb.specs.declared.Found.{Found}
+use Rattle.annexb.specs.declared.Found.the-variants as found
 use Rattle.error.specs.Said.{Said, says, refuse}
 use Rattle.error.specs.declared.Error.{Error}
-use Rattle.h264.specs.declared.search.Search.{Search}
-use Rattle.h264.specs.declared.search.Search.the-variants.{Yields, Refused}
-use Rattle.h264.specs.Search.{nextCode, beyond, saidSearch, nextInd}
-use Rattle.h264.proofs.Pieces.{piece-at}
+use Rattle.annexb.specs.declared.Search.{Search}
+use Rattle.annexb.specs.declared.Search.the-variants.{Yields, Refused}
+use Rattle.annexb.specs.Search.{nextCode, beyond, saidSearch, nextInd}
+use Rattle.annexb.proofs.Pieces.{piece-at}
 use Rattle.send.specs.declared.access.Edge.{Edge}
 use Rattle.send.specs.declared.access.Edge.the-variants.{At, Nothing}
 use Rattle.send.specs.Access.{isSlice, begins, Looked, judged, byCode, orNothing, codeFrom, look, edgeOf}

@@ -6,10 +6,10 @@ use Prim.Native.Nat.{ℕ, _+_, _%_, _≤_}
 use lib.Dec.{eqb, leb, ltb}
 use lib.ListN.{length, getD}
 use Rattle.wire.specs.Turns.{Turn, more, done, run}
-use Rattle.h264.specs.declared.search.Found.{Found}
-use Rattle.h264.specs.declared.search.Found.the-variants as found
+use Rattle.annexb.specs.declared.Found.{Found}
+use Rattle.annexb.specs.declared.Found.the-variants as found
 use Rattle.error.specs.Said.{Said, says, refused}
-use Rattle.h264.specs.Search.{nextInd}
+use Rattle.annexb.specs.Search.{nextInd}
 use Rattle.send.specs.declared.access.Edge.{Edge}
 use Rattle.send.specs.declared.access.Edge.the-variants.{At, Nothing}
 

@@ -7,9 +7,9 @@
 ghost use mathlib.Core.Path.{_≡_};
 ghost use lib.ListN.{length};
 ghost use Rattle.send.specs.Access.{isSlice, isBefore, hasHeader, begins as beginsOf, codeFrom, edgeOf, Inside};
-use h264::search::Found;
-use h264::search::Search;
-use h264::search::next_ind;
+use h264::Found;
+use h264::Search;
+use h264::next_ind;
 
 pub enum Edge {
     // the place of the start code before the second access unit

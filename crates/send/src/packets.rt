@@ -1,8 +1,8 @@
 // The packets of an access unit, written to a file.
 use error::Error;
-use h264::send::H264Payloader;
-use h264::send::Payloads;
-use h264::send::Sent;
+use h264::H264Payloader;
+use h264::Payloads;
+use h264::Sent;
 use header::Header;
 use header::Length;
 

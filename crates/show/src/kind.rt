@@ -5,8 +5,8 @@ use crate::line::word;
 use error::Error;
 use nal_read::Kind;
 use nal_read::Measured;
-use vp8::read::Vp8Packet;
-use vp8::read::Vp8Read;
+use vp8::Vp8Packet;
+use vp8::Vp8Read;
 
 pub enum Codec {
     H264,

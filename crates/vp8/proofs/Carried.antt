@@ -13,12 +13,12 @@ use Rattle.wire.specs.Net.{be16}
 use Rattle.wire.specs.Packets.{joined}
 use Rattle.rfc7741.specs.Descriptor.{Required, PictureId, absent, short, long, neither, Extension, Descriptor, plain, extended, octets, FormedRequired, FormedId, FormedExtension}
 use Rattle.rfc7741.specs.Frame.{Piece, packetOf, Sends, AllSend, StartsOnce, parts}
-use Rattle.vp8.specs.declared.send.Vp8Payloader.{Vp8Payloader}
-use Rattle.vp8.specs.Send.{headerSize, startOctet, descriptorOf, partsBy, partsOf, headed, packetsOf}
+use Rattle.vp8_send.specs.declared.Vp8Payloader.{Vp8Payloader}
+use Rattle.vp8_send.specs.Send.{headerSize, startOctet, descriptorOf, partsBy, partsOf, headed, packetsOf}
 use Rattle.vp8.specs.Conform.{startFlag, shownId, AtMost, SendsFrames}
-use Rattle.vp8.proofs.Header.{length-descriptor}
-use Rattle.vp8.proofs.Parts.{joined-parts}
-use Rattle.vp8.proofs.Deliver.{packets-are}
+use Rattle.vp8_send.proofs.Header.{length-descriptor}
+use Rattle.vp8_send.proofs.Parts.{joined-parts}
+use Rattle.vp8_send.proofs.Deliver.{packets-are}
 
 -- ---- the descriptor of a packet
 

@@ -3,27 +3,27 @@
 use mathlib.Core.Path.{_≡_, refl, sym, ap, subst, _∙_}
 use mathlib.Core.Bool.{Bool, true, false}
 use mathlib.Core.List.{List, [], _∷_, _++_, map}
-use Prim.Native.Nat.{ℕ, _≤_, _<_}
+use Prim.Native.Nat.{ℕ, _+_, _≤_, _<_}
 use native.Mathlib.Omega.{arith}
 use lib.Dec.{eqb, ltb, lit<, lit≤}
-use lib.ListN.{length, drop, length-append}
+use lib.ListN.{length, getD, drop, length-append}
 use lib.Seq.{drop-append-seam}
 use borrow.Author.Tests.{le-ltb, ltb-true}
 use Rattle.error.specs.Refusal.{Refusal}
 use Rattle.error.specs.Said.{says, refused}
 use Rattle.wire.specs.Packets.{joined}
-use Rattle.rfc7741.specs.Descriptor.{Required, PictureId, absent, short, long, Extension, Descriptor, plain, extended, octets, Formed, FormedId, Lawful}
-use Rattle.rfc7741.specs.Frame.{Piece, packetOf, required, parts}
+use Rattle.rfc7741.specs.Descriptor.{Required, PictureId, absent, short, long, Extension, Descriptor, plain, extended, flagI, flagL, flagT, flagK, firstOctet, extensionOctet, octets, Formed, FormedId, Lawful}
+use Rattle.rfc7741.specs.Frame.{Piece, packetOf, required, Sends, StartsOnce, parts}
 use Rattle.rfc7741.proofs.Fields.{firsts}
-use Rattle.vp8.specs.declared.read.Vp8Packet.{Vp8Packet}
-use Rattle.vp8.specs.declared.send.Vp8Payloader.{Vp8Payloader}
-use Rattle.vp8.specs.Read.{blank, Reading, depacketized}
-use Rattle.vp8.specs.Send.{headerSize, descriptorOf, packetsOf, sentAll, payloaded}
-use Rattle.vp8.specs.Partition.{partitionHead}
-use Rattle.vp8.specs.Conform.{TellsId, Tells, Readable, Complete, fields, shownId, SendsFrames, Own}
-use Rattle.vp8.proofs.Stages.{four-or-more}
-use Rattle.vp8.proofs.Header.{length-descriptor, shown-length}
-use Rattle.vp8.proofs.Deliver.{in-domain, has-room}
+use Rattle.vp8_read.specs.declared.Vp8Packet.{Vp8Packet}
+use Rattle.vp8_send.specs.declared.Vp8Payloader.{Vp8Payloader}
+use Rattle.vp8_read.specs.Read.{blank, Reading, depacketized}
+use Rattle.vp8_send.specs.Send.{headerSize, descriptorOf, partsBy, headed, packetsOf, sentAll, payloaded}
+use Rattle.vp8_read.specs.Partition.{partitionHead}
+use Rattle.vp8.specs.Conform.{TellsId, Tells, Readable, Complete, fields, shownId, SendsFrames, withMoreBehind, Own}
+use Rattle.vp8_read.proofs.Stages.{four-or-more}
+use Rattle.vp8_send.proofs.Header.{length-descriptor, shown-length}
+use Rattle.vp8_send.proofs.Deliver.{in-domain, has-room}
 use Rattle.vp8.proofs.ReadBack.{Head, fields-head, fields-id, fields-tl0, fields-layers, reads}
 use Rattle.vp8.proofs.Carried.{requiredBy, idAlone, planBy, octets-of, formed-required, formed-alone, carried}
 
@@ -136,6 +136,37 @@ no-silent-sender send silent s =
     no-pieces : (ps : List Piece) → map packetOf ps ≡ [] → parts ps ≡ 170 ∷ [] → ⊥
     no-pieces [] e w = let z : _≡_ {A = ℕ} 0 1 = ap length w in omega arith
     no-pieces (p ∷ ps) e w = let z = ap length e in omega arith
+
+-- a sender that is ours but for the first octet of the packets behind a frame's first
+pub no-more-behind : (k : ℕ) → 0 < k → SendsFrames (λ v mtu frame. withMoreBehind k (packetsOf v mtu frame)) → ⊥
+unfolding packetsOf headerSize headed partsBy descriptorOf shownId
+no-more-behind k more s =
+    let v : Vp8Payloader = record { «enable_picture_id» = false; «picture_id» = 0 } in
+    let c = s v 2 (170 ∷ 187 ∷ []) (record { some = lit< tt; above = lit< tt; id = lit≤ tt }) .0 in
+    two-pieces (c .pieces) (c .started) (c .are)
+  where
+    no-piece : (d : Descriptor) (part : List ℕ) → Sends absent 0 (record { descriptor = d; part = part }) →
+        (0 + k) ∷ 187 ∷ [] ≡ octets d ++ part → ⊥
+    no-piece (plain d) part h e = let first : 0 + k ≡ firstOctet 0 d = ap (λ l. getD l 0 0) e in omega arith
+    no-piece (extended d x) part h e =
+        let flags : 187 ≡ extensionOctet x = ap (λ l. getD l 1 0) e in
+        let i = ap flagI (h .pictureId) in
+        let l = ap flagL (h .layers .0) in
+        let t = ap flagT (h .layers .1) in
+        let k′ = ap flagK (h .layers .1) in
+        omega arith
+
+    two-pieces : (ps : List Piece) → StartsOnce absent ps → (16 ∷ 170 ∷ []) ∷ ((0 + k) ∷ 187 ∷ []) ∷ [] ≡ map packetOf ps → ⊥
+    two-pieces [] h e = let z = ap length e in omega arith
+    two-pieces (p ∷ []) h e = let z = ap length e in omega arith
+    two-pieces (p ∷ q ∷ ps) h e = no-piece (q .descriptor) (q .part) (h .1 .0) (ap (λ l. getD l 1 []) e)
+
+-- so one with PID 1 on each of them, and one with S on each of them
+pub no-pid-behind-the-first : SendsFrames (λ v mtu frame. withMoreBehind 1 (packetsOf v mtu frame)) → ⊥
+no-pid-behind-the-first = no-more-behind 1 (lit< tt)
+
+pub no-s-on-every-packet : SendsFrames (λ v mtu frame. withMoreBehind 16 (packetsOf v mtu frame)) → ⊥
+no-s-on-every-packet = no-more-behind 16 (lit< tt)
 
 -- within the limits and with room, these packets stand in the output, their ends in the table, and the id has advanced
 pub sent : (v : Vp8Payloader) (mtu : ℕ) (frame out ends : List ℕ) → length frame ≤ 16777216 → mtu ≤ 65535 → v .«picture_id» ≤ 32767 →

@@ -15,14 +15,14 @@ use Rattle.wire.specs.Net.{u16At, be16}
 use Rattle.wire.specs.Packets.{joined}
 use Rattle.rfc7741.specs.Descriptor.{Required, absent, short, long, neither, Extension, plain, extended, firstOctet, extensionOctet, idOctets, tl0Octets, octets, FormedRequired, FormedExtension, Formed, Strays}
 use Rattle.rfc7741.proofs.Fields.{firsts, id-size, tl0-size}
-use Rattle.vp8.specs.declared.read.Vp8Packet.{Vp8Packet}
-use Rattle.vp8.specs.declared.send.Vp8Payloader.{Vp8Payloader}
-use Rattle.vp8.specs.Read.{blank, Stage, Reading, putRequired, putFlags, putPictureId, putTl0, putTid, putKey, setRequired, setFlags, setTid, setKey, withFlags, withPictureId, withTl0, withLayers, orShort, third, second, readOn, depacketized}
-use Rattle.vp8.specs.Send.{headerSize, descriptorOf, partsBy, headed, packetsOf, advanced, Sending, delivered, payloaded}
+use Rattle.vp8_read.specs.declared.Vp8Packet.{Vp8Packet}
+use Rattle.vp8_send.specs.declared.Vp8Payloader.{Vp8Payloader}
+use Rattle.vp8_read.specs.Read.{blank, Stage, Reading, putRequired, putFlags, putPictureId, putTl0, putTid, putKey, setRequired, setFlags, setTid, setKey, withFlags, withPictureId, withTl0, withLayers, orShort, third, second, readOn, depacketized}
+use Rattle.vp8_send.specs.Send.{headerSize, descriptorOf, partsBy, headed, packetsOf, advanced, Sending, delivered, payloaded}
 use Rattle.vp8.specs.Conform.{Readable, Deviates, fields, shownId, Sendable, fieldsId, fieldsTl0}
 use Rattle.vp8.specs.Differences.{flagsOctet, withoutX, further, showing}
-use Rattle.vp8.proofs.Stages.{left-over, flags-no, id-no, tl0-no, layers-no, flags-yes, under-four, four-or-more, begun}
-use Rattle.vp8.proofs.Deliver.{in-domain, empty-frame, small-mtu, deliver-none, packets-count, some-packets}
+use Rattle.vp8_read.proofs.Stages.{left-over, flags-no, id-no, tl0-no, layers-no, flags-yes, under-four, four-or-more, begun}
+use Rattle.vp8_send.proofs.Deliver.{in-domain, empty-frame, small-mtu, deliver-none, packets-count, some-packets}
 use Rattle.vp8.proofs.ReadBack.{cut-first, cut-second, reads-empty}
 use Rattle.vp8.proofs.Conform.{exactly, as-formed, sent}
 use Rattle.vp8.proofs.Stale.{along, on, onR, along-on, clear, clearR, along-clear}

@@ -5,19 +5,19 @@ use mathlib.Core.List.{List}
 use Prim.Native.Nat.{ℕ}
 use Rattle.error.specs.Said.{Said, says, refused}
 use Rattle.error.proofs.Inverse.{errorOf, errorOf-refusalOf}
-use Rattle.vp8.specs.declared.read.Vp8Read.{Vp8Read}
-use Rattle.vp8.specs.declared.read.Vp8Read.the-variants as read
-use Rattle.vp8.specs.declared.read.Vp8Depacketized.{Vp8Depacketized}
-use Rattle.vp8.specs.declared.read.Vp8PartitionHead.{Vp8PartitionHead}
-use Rattle.vp8.specs.declared.read.Vp8PartitionHead.the-variants as head
-use Rattle.vp8.specs.declared.send.Vp8Answer.{Vp8Answer}
-use Rattle.vp8.specs.declared.send.Vp8Answer.the-variants as send
-use Rattle.vp8.specs.declared.send.Vp8Payloaded.{Vp8Payloaded}
-use Rattle.vp8.specs.Read.{Reading}
-use Rattle.vp8.specs.ReadAnswer.{saidRead, reading}
-use Rattle.vp8.specs.Partition.{saidHead}
-use Rattle.vp8.specs.Send.{Sent, Sending}
-use Rattle.vp8.specs.SendAnswer.{saidSent, sending}
+use Rattle.vp8_read.specs.declared.Vp8Read.{Vp8Read}
+use Rattle.vp8_read.specs.declared.Vp8Read.the-variants as read
+use Rattle.vp8_read.specs.declared.Vp8Depacketized.{Vp8Depacketized}
+use Rattle.vp8_read.specs.declared.Vp8PartitionHead.{Vp8PartitionHead}
+use Rattle.vp8_read.specs.declared.Vp8PartitionHead.the-variants as head
+use Rattle.vp8_send.specs.declared.Vp8Answer.{Vp8Answer}
+use Rattle.vp8_send.specs.declared.Vp8Answer.the-variants as send
+use Rattle.vp8_send.specs.declared.Vp8Payloaded.{Vp8Payloaded}
+use Rattle.vp8_read.specs.Read.{Reading}
+use Rattle.vp8_read.specs.ReadAnswer.{saidRead, reading}
+use Rattle.vp8_read.specs.Partition.{saidHead}
+use Rattle.vp8_send.specs.Send.{Sent, Sending}
+use Rattle.vp8_send.specs.SendAnswer.{saidSent, sending}
 
 abbrev pub readOf : Said ℕ → Vp8Read
 readOf (says at) = read.Payload at

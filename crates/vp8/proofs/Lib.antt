@@ -1,8 +1,3 @@
-pub mod Stages
-pub mod Header
-pub mod Parts
-pub mod Going
-pub mod Deliver
 pub mod ReadBack
 pub mod Carried
 pub mod Conform

@@ -13,17 +13,17 @@ use Rattle.error.specs.Said.{refused}
 use Rattle.wire.specs.Packets.{joined, whole}
 use Rattle.error.specs.Only.{Determined}
 use Rattle.error.proofs.Only.{by-value, by-view}
-use Rattle.vp8.specs.declared.read.Vp8Packet.{Vp8Packet}
-use Rattle.vp8.specs.declared.read.Vp8Read.the-variants as read
-use Rattle.vp8.specs.declared.read.Vp8Depacketized.{Vp8Depacketized}
-use Rattle.vp8.specs.declared.read.Vp8PartitionHead.{Vp8PartitionHead}
-use Rattle.vp8.specs.declared.read.Vp8PartitionHead.the-variants as head
-use Rattle.vp8.specs.declared.send.Vp8Payloader.{Vp8Payloader}
-use Rattle.vp8.specs.Read.{Stage, Reading, orShort, third, second, readOn, withTl0, withLayers, depacketized}
-use Rattle.vp8.specs.ReadAnswer.{reading}
-use Rattle.vp8.specs.Partition.{startBit, partitionHead, saidHead}
-use Rattle.vp8.specs.Send.{packetsOf, afterPackets, from0, sentAll, delivered, payloaded}
-use Rattle.vp8.specs.SendAnswer.{refusedBy, sentBy}
+use Rattle.vp8_read.specs.declared.Vp8Packet.{Vp8Packet}
+use Rattle.vp8_read.specs.declared.Vp8Read.the-variants as read
+use Rattle.vp8_read.specs.declared.Vp8Depacketized.{Vp8Depacketized}
+use Rattle.vp8_read.specs.declared.Vp8PartitionHead.{Vp8PartitionHead}
+use Rattle.vp8_read.specs.declared.Vp8PartitionHead.the-variants as head
+use Rattle.vp8_send.specs.declared.Vp8Payloader.{Vp8Payloader}
+use Rattle.vp8_read.specs.Read.{Stage, Reading, orShort, third, second, readOn, withTl0, withLayers, depacketized}
+use Rattle.vp8_read.specs.ReadAnswer.{reading}
+use Rattle.vp8_read.specs.Partition.{startBit, partitionHead, saidHead}
+use Rattle.vp8_send.specs.Send.{packetsOf, afterPackets, from0, sentAll, delivered, payloaded}
+use Rattle.vp8_send.specs.SendAnswer.{refusedBy, sentBy}
 use Rattle.vp8.proofs.Inverse.{depacketizedOf, depacketizedOf-reading, headOf, headOf-saidHead, Left, sendingOf, leftOf, leftOf-sendingOf}
 
 -- some answer is seen as this value; where both cases of a test are seen so, the test is

@@ -13,10 +13,10 @@ use Rattle.error.specs.Said.{says, refuse}
 use Rattle.wire.specs.Net.{u16At}
 use Rattle.rfc7741.specs.Descriptor.{Required, PictureId, absent, short, long, Indices, Layers, neither, onlyT, onlyK, bothTK, Extension, extended, flagI, flagL, flagT, flagK, firstOctet, extensionOctet, idOctets, tl0Octets, indicesOctet, layersOctets, octets, FormedRequired, FormedId, FormedLayers, FormedExtension}
 use Rattle.rfc7741.proofs.Fields.{firsts, flags, index-parts, apart}
-use Rattle.vp8.specs.declared.read.Vp8Packet.{Vp8Packet}
-use Rattle.vp8.specs.Read.{putRequired, putFlags, putPictureId, putTl0, putTid, putKey, setRequired, setFlags, setTid, setKey, withPictureId, withTl0, withLayers, third, second, readOn}
+use Rattle.vp8_read.specs.declared.Vp8Packet.{Vp8Packet}
+use Rattle.vp8_read.specs.Read.{putRequired, putFlags, putPictureId, putTl0, putTid, putKey, setRequired, setFlags, setTid, setKey, withPictureId, withTl0, withLayers, third, second, readOn}
 use Rattle.vp8.specs.Conform.{TellsId, TellsTl0, TellsLayers, tellId, tellTl0, tellLayers, fieldsFlags, fieldsId, fieldsTl0, fields}
-use Rattle.vp8.proofs.Stages.{flags-yes, id-no, id-short, id-long, tl0-no, tl0-yes, layers-no, layers-t, layers-k, left-over, none-left, begun}
+use Rattle.vp8_read.proofs.Stages.{flags-yes, id-no, id-short, id-long, tl0-no, tl0-yes, layers-no, layers-t, layers-k, left-over, none-left, begun}
 
 -- 0 is not 1
 flag-clear : {n : ℕ} → n ≡ 0 → n ≡ 1 → ⊥

@@ -15,10 +15,10 @@ use Rattle.rfc7741.specs.Descriptor.{Octets, Extension, Descriptor, extended, e
 use Rattle.rfc7741.proofs.Fields.{requiredAt, apart}
 use Rattle.rfc7741.proofs.Straying.{lawful-or-strays, never-both}
 use Rattle.rfc7741.proofs.Laid.{bits, required-laid, IdAt, id-laid, Tl0At, tl0-laid, LayersAt, layers-laid}
-use Rattle.vp8.specs.declared.read.Vp8Packet.{Vp8Packet}
-use Rattle.vp8.specs.Read.{Stage, Reading, putRequired, putFlags, setRequired, setFlags, withPictureId, withTl0, withLayers, orShort, third, second, readOn, depacketized}
+use Rattle.vp8_read.specs.declared.Vp8Packet.{Vp8Packet}
+use Rattle.vp8_read.specs.Read.{Stage, Reading, putRequired, putFlags, setRequired, setFlags, withPictureId, withTl0, withLayers, orShort, third, second, readOn, depacketized}
 use Rattle.vp8.specs.Conform.{Readable, Bears, Conforms, Deviates, tellId, tellTl0}
-use Rattle.vp8.proofs.Stages.{begun, flags-yes}
+use Rattle.vp8_read.proofs.Stages.{begun, flags-yes}
 use Rattle.vp8.proofs.ReadBack.{Head, id-stage, tl0-stage, layers-stage, id-head, tl0-head}
 use Rattle.vp8.proofs.Conform.{exactly}
 

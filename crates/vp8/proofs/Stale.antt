@@ -9,8 +9,8 @@ use lib.Dec.{ltb, eqb}
 use lib.ListN.{length, drop}
 use Rattle.error.specs.Said.{says, refuse}
 use Rattle.wire.specs.Net.{u16At}
-use Rattle.vp8.specs.declared.read.Vp8Packet.{Vp8Packet}
-use Rattle.vp8.specs.Read.{Stage, next, past, taken, putRequired, putPictureId, putTl0, putTid, putKey, setTid, setKey, setIndices, withPictureId, withTl0, withLayers, Reading, orShort, third, second, readOn}
+use Rattle.vp8_read.specs.declared.Vp8Packet.{Vp8Packet}
+use Rattle.vp8_read.specs.Read.{Stage, next, past, taken, putRequired, putPictureId, putTl0, putTid, putKey, setTid, setKey, setIndices, withPictureId, withTl0, withLayers, Reading, orShort, third, second, readOn}
 use Rattle.vp8.specs.Differences.{withoutX, further}
 
 -- ---- a change of the stage that every step of the reading goes along with

@@ -1,18 +1,18 @@
 -- What RFC 7741 asks of a reader and of a sender, as properties that any reader and any sender may have or not. Assumes nothing.
 use mathlib.Core.Path.{_≡_}
 use mathlib.Core.Bool.{Bool, true, false, cond}
-use mathlib.Core.List.{List, [], _∷_, _++_}
+use mathlib.Core.List.{List, [], _∷_, _++_, map}
 use mathlib.Core.Option.{Option, none, some}
-use Prim.Native.Nat.{ℕ, _≤_, _<_}
+use Prim.Native.Nat.{ℕ, _+_, _≤_, _<_}
 use lib.Dec.{ltb}
 use lib.ListN.{length}
 use Rattle.error.specs.Said.{says}
 use Rattle.rfc7741.specs.Descriptor.{Required, PictureId, absent, short, long, Layers, neither, onlyT, onlyK, bothTK, Extension, Descriptor, extended, flagI, flagL, flagT, flagK, octets, Lawful, Strays}
 use Rattle.rfc7741.specs.Frame.{Carries}
-use Rattle.vp8.specs.declared.read.Vp8Packet.{Vp8Packet}
-use Rattle.vp8.specs.declared.send.Vp8Payloader.{Vp8Payloader}
-use Rattle.vp8.specs.Read.{putRequired, putFlags, putPictureId, putTl0, putTid, putKey, Reading}
-use Rattle.vp8.specs.Send.{headerSize}
+use Rattle.vp8_read.specs.declared.Vp8Packet.{Vp8Packet}
+use Rattle.vp8_send.specs.declared.Vp8Payloader.{Vp8Payloader}
+use Rattle.vp8_read.specs.Read.{putRequired, putFlags, putPictureId, putTl0, putTid, putKey, Reading}
+use Rattle.vp8_send.specs.Send.{headerSize}
 
 -- ---- reading
 
@@ -134,6 +134,16 @@ abbrev pub SendsFrames : (Vp8Payloader → ℕ → List ℕ → List (List ℕ))
 SendsFrames send =
     (v : Vp8Payloader) (mtu : ℕ) (frame : List ℕ) → Sendable v mtu frame →
     Carries (shownId v) frame (send v mtu frame) × AtMost mtu (send v mtu frame)
+
+-- k more in a packet's first octet: PID 1 for 0 where k is 1, S for none where it is 16
+abbrev pub withMore : ℕ → List ℕ → List ℕ
+withMore k [] = []
+withMore k (b ∷ p) = (b + k) ∷ p
+
+-- that in each packet of a frame but the first
+abbrev pub withMoreBehind : ℕ → List (List ℕ) → List (List ℕ)
+withMoreBehind k [] = []
+withMoreBehind k (p ∷ ps) = p ∷ map (withMore k) ps
 
 -- what is sent with its id is read by this crate's own reader: the payload, the id and S
 abbrev pub Own : Vp8Payloader → Bool → Reading → Type 0

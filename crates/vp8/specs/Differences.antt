@@ -2,9 +2,9 @@
 use mathlib.Core.Bool.{true}
 use Prim.Native.Nat.{ℕ, _+_, _*_}
 use Rattle.error.specs.Said.{Said, says, refused}
-use Rattle.vp8.specs.declared.read.Vp8Packet.{Vp8Packet}
-use Rattle.vp8.specs.declared.send.Vp8Payloader.{Vp8Payloader}
-use Rattle.vp8.specs.Read.{putRequired}
+use Rattle.vp8_read.specs.declared.Vp8Packet.{Vp8Packet}
+use Rattle.vp8_send.specs.declared.Vp8Payloader.{Vp8Payloader}
+use Rattle.vp8_read.specs.Read.{putRequired}
 
 -- the extension octet that would send a record's own flags
 abbrev pub flagsOctet : Vp8Packet → ℕ

@@ -6,8 +6,8 @@ use crate::list::Filled;
 use crate::list::Store;
 use crate::list::Table;
 use crate::random::Random;
-use h264::send::H264Payloader;
-use h264::send::Payloads;
+use h264::H264Payloader;
+use h264::Payloads;
 use header::Header;
 use header::Length;
 

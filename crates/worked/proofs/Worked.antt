@@ -14,9 +14,9 @@ use Rattle.header_write.specs.Fixed.{fixedFor}
 use Rattle.header.specs.Write.{octetsOf, inWritingDomain}
 use Rattle.packet.specs.Read.{stripped, readPacket}
 use Rattle.packet.specs.Write.{payloadOctets, packetOctets, packetSize, writePacket}
-use Rattle.vp8.specs.Read as reader
-use Rattle.h264.specs.Units.{units, unitsAt}
-use Rattle.h264.specs.Groups.{keep, stapA, pairFor, unitFor, groupsFor, fragment}
+use Rattle.vp8_read.specs.Read as reader
+use Rattle.annexb.specs.Units.{units, unitsAt}
+use Rattle.h264_put.specs.Groups.{keep, stapA, pairFor, unitFor, groupsFor, fragment}
 use Rattle.h264.specs.Payload.{payloadOf}
 use Rattle.nal_read.specs.Kind.{shape}
 use Rattle.nal_read.specs.Unpack.{unpackTurn, unpack}

@@ -12,9 +12,9 @@ use Rattle.header.specs.Fields.{layOut}
 use Rattle.header.specs.Read.{Reading, readHeader}
 use Rattle.packet.specs.Read.{PacketReading, readPacket}
 use Rattle.packet.specs.Write.{writePacket}
-use Rattle.vp8.specs.declared.read.Vp8Packet.{Vp8Packet}
-use Rattle.vp8.specs.Read as reader
-use Rattle.h264.specs.Groups.{nothingSaved}
+use Rattle.vp8_read.specs.declared.Vp8Packet.{Vp8Packet}
+use Rattle.vp8_read.specs.Read as reader
+use Rattle.h264_put.specs.Groups.{nothingSaved}
 use Rattle.h264.specs.Payload.{Counts, Left, payloadOf}
 use Rattle.h264.specs.Payload as sender
 use Rattle.nal.specs.Fed.{Laid}

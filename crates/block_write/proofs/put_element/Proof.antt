@@ -8,11 +8,11 @@ use lib.Dec.{leb}
 use lib.ListN.{length, set, length-set}
 use borrow.Author.Needs.{needs}
 use borrow.Author.Tests.{leb-true}
-use Rattle.wire.specs.Part.{splice}
+use Rattle.wire.specs.Part.{splice, Put}
 use Rattle.wire.proofs.Part.{splice-one, splice-push, splice-on}
 use Rattle.elements.specs.Elements.{Element}
 use Rattle.block.specs.Form.{Form, one-byte, two-byte, other, formOf}
-use Rattle.block_write.specs.Write.{Put, fits, elementOctets}
+use Rattle.block_write.specs.Write.{fits, elementOctets}
 use Rattle.block_write.proofs.Octets.{both}
 use Rattle.block.proofs.Form.{form-one, form-two, form-other}
 use Rattle.block_write.proofs.put_element.Statement.{statement}

@@ -1,7 +1,7 @@
 -- The call's answer, laid out, and its buffers at exit.
 use mathlib.Core.Path.{ap, _∙_}
 use borrow.Author.Needs.{needs}
-use Rattle.vp8.specs.Send.{Sending}
+use Rattle.vp8_send.specs.Send.{Sending}
 use Rattle.gateway.specs.Vp8Answers.{vp8SentAs}
 use Rattle.gateway.proofs.rtp_vp8.rtp_vp8_payload.Statement.{statement}
 use Rattle.gateway.proofs.rtp_vp8.rtp_vp8_payload.Tie as tie

@@ -1,8 +1,8 @@
 -- Each arm lays out what the variant that it matched says.
 use mathlib.Core.Path.{sym, ap, _∙_}
 use borrow.Author.Needs.{needs}
-use Rattle.vp8.specs.declared.read.Vp8PartitionHead.{Vp8PartitionHead}
-use Rattle.vp8.specs.Partition.{saidHead}
+use Rattle.vp8_read.specs.declared.Vp8PartitionHead.{Vp8PartitionHead}
+use Rattle.vp8_read.specs.Partition.{saidHead}
 use Rattle.gateway.specs.declared.refused.RtpTest.{RtpTest}
 use Rattle.gateway.specs.Refused.{testAs}
 use Rattle.gateway.proofs.rtp_vp8.vp8_head.Statement.{statement}

@@ -1,9 +1,9 @@
 -- Each arm lays out what the variant that it matched says.
 use mathlib.Core.Path.{sym, ap, _∙_}
 use borrow.Author.Needs.{needs}
-use Rattle.vp8.specs.declared.read.Vp8Packet.{Vp8Packet}
-use Rattle.vp8.specs.declared.read.Vp8Read.{Vp8Read}
-use Rattle.vp8.specs.ReadAnswer.{saidRead}
+use Rattle.vp8_read.specs.declared.Vp8Packet.{Vp8Packet}
+use Rattle.vp8_read.specs.declared.Vp8Read.{Vp8Read}
+use Rattle.vp8_read.specs.ReadAnswer.{saidRead}
 use Rattle.gateway.specs.declared.refused.Refused.{Refused}
 use Rattle.gateway.specs.declared.rtp_vp8.RtpVp8Read.{RtpVp8Read}
 use Rattle.gateway.specs.Vp8Answers.{vp8ReadAs}

@@ -2,9 +2,9 @@
 use mathlib.Core.Path.{sym, ap, _∙_}
 use mathlib.Core.List.{[]}
 use borrow.Author.Needs.{needs}
-use Rattle.vp8.specs.declared.send.Vp8Payloader.{Vp8Payloader}
-use Rattle.vp8.specs.declared.send.Vp8Answer.{Vp8Answer}
-use Rattle.vp8.specs.SendAnswer.{saidSent}
+use Rattle.vp8_send.specs.declared.Vp8Payloader.{Vp8Payloader}
+use Rattle.vp8_send.specs.declared.Vp8Answer.{Vp8Answer}
+use Rattle.vp8_send.specs.SendAnswer.{saidSent}
 use Rattle.gateway.specs.declared.refused.Refused.{Refused}
 use Rattle.gateway.specs.declared.rtp_vp8.RtpVp8Sent.{RtpVp8Sent}
 use Rattle.gateway.specs.Vp8Answers.{vp8SentAs}

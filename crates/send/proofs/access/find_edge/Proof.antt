@@ -4,7 +4,7 @@ use Prim.Native.Nat.{_+_, _-_, _<_, _≤_}
 use native.Mathlib.Omega.{arith}
 use lib.ListN.{length}
 use borrow.Author.Needs.{needs}
-use Rattle.h264.specs.declared.search.Found.the-variants.{At}
+use Rattle.annexb.specs.declared.Found.the-variants.{At}
 use Rattle.send.specs.Access.{codeFrom}
 use Rattle.send.proofs.Edges.{Going, going-first, onward, ends-none, ends-short, ends-edge, goes-on-behind, goes-on-before}
 use Rattle.send.proofs.access.find_edge.Statement.{statement}

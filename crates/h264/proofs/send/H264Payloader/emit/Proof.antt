@@ -1,6 +1,6 @@
 -- One law for each fate.
 use mathlib.Core.Path.{sym, _∙_}
-use Rattle.h264.specs.Step.{sinkAt}
+use Rattle.h264_put.specs.Step.{sinkAt}
 use Rattle.h264.proofs.Steps.{done-empty, done-dropped, short-sps, short-pps, done-sps, done-pps, room-pair, room-unit, done-coded}
 use borrow.Author.Needs.{needs}
 use Rattle.h264.proofs.send.H264Payloader.emit.Statement.{statement}

@@ -3,7 +3,7 @@ use mathlib.Core.Path.{_≡_, sym, _∙_}
 use native.Mathlib.Omega.{arith}
 use lib.ListN.{length}
 use borrow.Author.Tests.{not-true, not-false}
-use Rattle.h264.specs.Step.{sinkAt}
+use Rattle.h264_put.specs.Step.{sinkAt}
 use Rattle.h264.proofs.State.{waiting-none, waiting-over, waiting-room, waiting-sent}
 use borrow.Author.Needs.{needs}
 use Rattle.h264.proofs.send.H264Payloader.put_waiting.Statement.{statement}

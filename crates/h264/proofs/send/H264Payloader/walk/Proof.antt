@@ -5,11 +5,11 @@ use native.Mathlib.Omega.{arith}
 use lib.ListN.{length, drop}
 use borrow.Author.Tests.{not-true, not-false}
 use Rattle.wire.specs.Packets.{putAll}
-use Rattle.h264.specs.Units.{pieces, units}
-use Rattle.h264.specs.Groups.{keepAll, groupsOf, packetsOf}
+use Rattle.annexb.specs.Units.{pieces, units}
+use Rattle.h264_put.specs.Groups.{keepAll, groupsOf, packetsOf}
 use Rattle.h264.specs.Payload.{savedIn}
-use Rattle.h264.specs.Step.{sinkAt}
-use Rattle.h264.proofs.Pieces.{piece-onward}
+use Rattle.h264_put.specs.Step.{sinkAt}
+use Rattle.annexb.proofs.Pieces.{piece-onward}
 use Rattle.h264.proofs.Walks.{Leads, leads-first, piece-ready, walk-on, walk-end}
 use borrow.Author.Needs.{needs}
 use Rattle.h264.proofs.send.H264Payloader.walk.Statement.{statement}

@@ -1,0 +1,5 @@
+pub mod Bools
+pub mod Codes
+pub mod Pieces
+pub mod Written
+pub mod Within

@@ -1,0 +1,5 @@
+pub mod Sinks
+pub mod Fragments
+pub mod UnitFates
+pub mod Sizes
+pub mod Measures

@@ -1,0 +1,4 @@
+pub mod Header
+pub mod Parts
+pub mod Going
+pub mod Deliver
