@@ -88,7 +88,7 @@ returns-4 c =
     ∙ sym
     (ap (blockHeard (length s))
     (going-full _ _ _ _ _ _ _ _ (c .before .before .before .before .before .before .before .before .loop .inv)
-    (c .before .before .before .before .before .before .before .loop-test .taken) _ _ _ (found (c .before .before .before)) (inr (c .before .if2 .taken))))
+    (c .before .before .before .before .before .before .before .loop-test .taken) _ _ _ (found (c .before .before .before)) (inr (omega (arith, c .before .if2 .taken)))))
 
 loop-again-2 : tie.Need-loop-again-2 Inv-loop μ-loop
 loop-again-2 c =
