@@ -17,6 +17,7 @@ use Rattle.header.specs.Fields.{Fields}
 use Rattle.header.specs.Size.{payloadLength}
 use Rattle.header_write.specs.Fixed.{flag}
 use Rattle.header.specs.Write.{octetsOf}
+use Rattle.header_write.specs.Fixed as figure
 use Rattle.header.specs.Write as written
 use Rattle.rfc3550.specs.Rfc3550.{Fixed, LawfulFixed, bit, LawfulExtension}
 use Rattle.rfc3550.specs.Rfc3550 as rtp
@@ -57,12 +58,12 @@ flag-bit : (b : Bool) (n : ℕ) → flag b n ≡ bit b * n
 flag-bit true n = omega arith
 flag-bit false n = omega arith
 
-csrcs-same : (cs : List ℕ) → written.csrcOctets cs ≡ rtp.csrcOctets cs
+csrcs-same : (cs : List ℕ) → figure.csrcOctets cs ≡ rtp.csrcOctets cs
 csrcs-same [] = refl
 csrcs-same (c ∷ cs) = ap (λ (l : List ℕ). be32 c ++ l) (csrcs-same cs)
 
 pub fixed-same : (f : Fields) → written.fixedOctets f ≡ rtp.fixedOctets (fixedFor f) (f .extension)
-unfolding written.fixedFor rtp.fixedOctets
+unfolding figure.fixedFor rtp.fixedOctets
 fixed-same f i =
     (first i ∷ second i ∷ [])
     ++ (be16 (f .number) ++ (be32 (f .time) ++ (be32 (f .source) ++ csrcs-same (f .csrcs) i)))
