@@ -25,6 +25,7 @@ use Rattle.header.specs.declared.Got.{Got}
 use Rattle.header.specs.declared.Got.the-variants as got
 use Rattle.header.specs.declared.IdCount.{IdCount}
 use Rattle.header.specs.declared.IdCount.the-variants as ids
+use Rattle.header_write.specs.Said.{saidLength}
 use Rattle.header.specs.Said as header
 use Rattle.packet.specs.declared.PacketRead.{PacketRead}
 use Rattle.packet.specs.declared.PacketRead.the-variants as whole
@@ -101,7 +102,7 @@ pub header-read-told : (a : HeaderRead) (h : Header) →
 header-read-told (head.Payload at) h = refl
 header-read-told (head.Refused e) h = refusal-told e 0
 
-pub length-told : (a : Length) → let r = lengthAs (header.saidLength a) in saidBy (r .refused) (r .bytes) ≡ header.saidLength a
+pub length-told : (a : Length) → let r = lengthAs (saidLength a) in saidBy (r .refused) (r .bytes) ≡ saidLength a
 length-told (len.Bytes n) = refl
 length-told (len.Refused e) = refusal-told e 0
 
