@@ -104,13 +104,11 @@ inside c = omega (arith, header-written c .room)
 
 put-payload-requires : tie.Need-put-payload-requires
 put-payload-requires c κs =
-    let s = c .before .before .before .before .before .before .before .before .before .before .before .before .before .before .before .before .before .before in
     let known = c .before .before in
-    let pads = c .before .padding-len in (
-      rest-room (known .before .before .before .before .before .marshal-to .last .1 .0) (known .before .head .given .0 .0) (length (payload s) + pads .result)
-          (omega (arith, header-written known .room, pads .ensures .0)),
-      pads .ensures .1,
-    )
+    let room = known .before .before .before .before .before .before .before in
+    let pads = c .before .padding-len in
+    let s = known .before .before .before .before .before .before .before .before .before .before .before .before .before .before .before .before in
+    (rest-room (known .before .before .before .before .before .marshal-to .last .1 .0) _ (length (payload s) + pads .result) (omega (arith, header-written known .room, pads .ensures .0, sized (room .before) .1, roomy room)), pads .ensures .1)
 
 returns-5 : tie.Need-returns-5
 returns-5 c =
