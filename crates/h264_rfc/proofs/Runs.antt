@@ -3,17 +3,17 @@
 use mathlib.Core.Path.{_≡_, refl, sym, ap, ap₂, subst, _∙_}
 use mathlib.Core.List.{List, [], _∷_, _++_, map, map-map, append-assoc}
 use mathlib.Core.Logic.{_⊎_, inl, inr}
-use Prim.Native.Nat.{ℕ, _+_, _*_, _/_, _%_, _≤_, _<_}
+use Prim.Native.Nat.{ℕ, _+_, _/_, _%_, _≤_, _<_}
 use native.Mathlib.Decide.{decLe, ℕ-discrete}
 use native.Mathlib.Nat.{lt-of-not-le}
 use native.Mathlib.Omega.{arith}
 use lib.ListN.{length, drop, getD, length-append}
 use Rattle.wire.specs.Packets.{joined}
-use Rattle.rfc6184.specs.Sending.{Each, octet, octetsOf, Part, Fragmented, fuA, fragment, fuHeader, payloadsOf, bodyOf, unitsOf, UnitType, Formed, FormedPart, FormedSending}
-use Rattle.rfc6184.proofs.Each.{each-append, each-by, each-map}
+use Rattle.rfc6184.specs.Sending.{Each, octet, octetsOf, Part, Fragmented, fuA, fragment, fuHeader, payloadsOf, bodyOf, UnitType, Formed, FormedPart, FormedSending, Lawful}
+use Rattle.rfc6184.proofs.Each.{each-by, each-any, each-map}
 use Rattle.rfc6184.proofs.Octets.{fields-of-octet, fields-of-header}
-use Rattle.h264_rfc.specs.Loose.{Loose, looseOctets, LooseFormed, partsOf, looseAll, looseUnit}
-use Rattle.h264_rfc.specs.Meaning.{Somewhere, OneFuA, Fragment, one-of, both-set, no-unit}
+use Rattle.h264_rfc.specs.Loose.{Loose, looseOctets, LooseFormed, partsOf, looseAll, looseUnit, bare, unreserved}
+use Rattle.h264_rfc.specs.Meaning.{Somewhere, Fragment, one-of, both-set, no-unit}
 use Rattle.h264_rfc.specs.Runs.{Came, piece, passing, piecesOf, fromFirst, SameUnit, IsPassing, firstOf, OneUnit, Deviates}
 use Rattle.h264_rfc.specs.Runs as runs
 
@@ -63,6 +63,15 @@ same-unit x l = by (ℕ-discrete (x .of .f) (l .of .f)) (ℕ-discrete (x .of .nr
     by (yes f) (no n) t = inr (λ s. n (s .1))
     by (no f) n t = inr (λ s. f (s .0))
 
+-- ---- Reserved bits aside
+
+lawful-bare : (g : Fragmented) → FormedSending (fuA g) → UnitType (g .type) → Lawful (fuA (unreserved g))
+lawful-bare g k t =
+    record {
+      formed = (k .0, omega arith, each-map FormedPart bare (g .middle) (each-any (λ (p : Part). FormedPart (bare p)) (λ p. omega arith) (g .middle)), omega arith);
+      rules = (t, refl, each-map (λ (p : Part). p .reserved ≡ 0) bare (g .middle) (each-any (λ (p : Part). bare p .reserved ≡ 0) (λ p. refl) (g .middle)), refl);
+    }
+
 -- ---- a fragment by itself
 
 abbrev inUnit : Loose → List Part → Fragmented
@@ -76,7 +85,8 @@ fragment-kind e x w he = by (unit-type (x .of .type)) (a-bit (x .start) (w .star
     among : (middle : List Part) → Each FormedPart middle → UnitType (x .of .type) →
         Somewhere (λ (q : List ℕ). looseOctets e x ≡ q) (payloadsOf (fuA (inUnit x middle))) → Fragment e x
     among middle v t h =
-        one-of (record { unit = inUnit x middle; formed = (w .formed, w .part-formed, v, w .part-formed); type = t; among = h })
+        let k : FormedSending (fuA (inUnit x middle)) = (w .formed, w .part-formed, v, w .part-formed) in
+        one-of (record { unit = inUnit x middle; formed = k; lawful = lawful-bare (inUnit x middle) k t; among = h })
 
     octets : (s d : ℕ) (middle : List Part) → x .start ≡ s → e ≡ d → looseOctets e x ≡ fragment (inUnit x middle) s d (x .part)
     octets s d middle p q = ap₂ (λ (s d : ℕ). fragment (x .of) s d (x .part)) p q
@@ -142,14 +152,9 @@ module _ (l : Loose) (w : LooseFormed l) where
   one-unit cs (x ∷ xs) e v near f s t once same =
       record {
         unit = g;
-        formed = (
-          w .formed,
-          v .0 .part-formed,
-          each-map FormedPart (λ (y : Loose). y .part) xs (each-by (λ (y : Loose). FormedPart (y .part)) LooseFormed (λ y k. k .part-formed) xs (v .1)),
-          w .part-formed,
-        );
+        formed = k;
+        lawful = lawful-bare g k t;
         f-clear = f;
-        type = t;
         payloads =
             ap (λ (ls : List Loose). looseAll ls l) e
             ∙ (λ i. as-of g refl refl refl 1 0 x (once .0) (same .0) i
@@ -160,6 +165,14 @@ module _ (l : Loose) (w : LooseFormed l) where
     where
       g : Fragmented
       g = wholeUnit x xs l
+
+      k : FormedSending (fuA g)
+      k = (
+        w .formed,
+        v .0 .part-formed,
+        each-map FormedPart (λ (y : Loose). y .part) xs (each-by (λ (y : Loose). FormedPart (y .part)) LooseFormed (λ y u. u .part-formed) xs (v .1)),
+        w .part-formed,
+      )
 
       body : partsOf (x ∷ xs) ++ l .part .octets ≡ bodyOf g
       body =
@@ -313,4 +326,4 @@ never-both cs l v w o d = by (alike (o .unit) (piecesOf cs) l (o .formed) v w (o
     by a (runs.not-adjacent h) = pieces-only (piecesOf cs) (subst (Somewhere IsPassing) (o .adjacent) h)
     by a (runs.differs h) =
         not-some (λ (x : Loose). SameUnit x l) (λ (x : Loose). SameUnit x l → ⊥) (λ x same other. other same) (piecesOf cs) (a .same) h
-    by a (runs.no-unit h) = h (subst UnitType (sym (a .last-same .2)) (o .type))
+    by a (runs.no-unit h) = h (subst UnitType (sym (a .last-same .2)) (o .lawful .rules .0))

@@ -25,7 +25,7 @@ use Rattle.nal.proofs.Refusing.{not-says}
 use Rattle.nal.proofs.Running.{run-beside}
 use Rattle.nal.proofs.Unpacking.{Units}
 use Rattle.nal.proofs.Shapes.{Facts, PlainFacts, FragmentFacts, told}
-use Rattle.rfc6184.specs.Sending.{Each, Nal, octet, octetsOf, nalOf, Part, fragment, UnitType, Sized}
+use Rattle.rfc6184.specs.Sending.{Each, Nal, octet, octetsOf, nalOf, fragment, UnitType, Sized}
 use Rattle.rfc6184.proofs.Octets.{formed-fields, octets-of-nal}
 use Rattle.h264.specs.Conformance.{Octets}
 use Rattle.h264_packet.specs.Depacketize.{beside, gatheredOn, readBy, readPayload, depacketized}

@@ -3,7 +3,7 @@
 use mathlib.Core.Path.{_≡_, refl, sym, ap, ap₂, subst, _∙_}
 use mathlib.Core.Bool.{Bool, true, false}
 use mathlib.Core.List.{List, [], _∷_, _++_, map, map-append, append-nil}
-use Prim.Native.Nat.{ℕ, suc, _/_, _%_, _<_}
+use Prim.Native.Nat.{ℕ, suc, _%_, _<_}
 use native.Mathlib.Omega.{arith}
 use lib.Dec.{eqb}
 use lib.ListN.{take, getD}
@@ -19,7 +19,7 @@ use Rattle.rfc6184.proofs.Octets.{fields-of-octet, fields-of-header}
 use Rattle.h264.specs.Conformance.{Octets}
 use Rattle.h264_packet.specs.Depacketize.{depacketized}
 use Rattle.h264_rfc.specs.Reading.{State, fresh, next, gatheredThen, behind, handedBy}
-use Rattle.h264_rfc.specs.Loose.{Loose, looseOctets, looseOf, LooseFormed, partsOf, headFrom, looseUnit}
+use Rattle.h264_rfc.specs.Loose.{Loose, looseOctets, looseOf, LooseFormed, partsOf, headFrom}
 use Rattle.h264_rfc.specs.Meaning.{SingleUnit, Aggregation, RunKept, Means, unit-alone, units-together, part-gathered, unit-joined}
 use Rattle.h264_rfc.specs.Runs.{Came, piece, passing, piecesOf, isFuA, hasEnd, cameBy, cameThen, since, Joined, Sound}
 use Rattle.h264_rfc.proofs.Kept.{refusals-keep}

@@ -60,6 +60,21 @@ pub record LooseRoom (gather : ℕ) (outs : ℕ → List ℕ) (ls : List Loose) 
   -- "output for the largest group as handed out, prefixes included"
   pub out-room : (i : ℕ) → 4 + length (looseUnit ls l) ≤ length (outs i)
 
+-- the same unit in the same parts, with every Reserved bit clear: 5.8 has the receiver ignore it
+abbrev pub bare : Part → Part
+bare p = record { reserved = 0; octets = p .octets }
+
+abbrev pub unreserved : Fragmented → Fragmented
+unreserved g =
+    record {
+      f = g .f;
+      nri = g .nri;
+      type = g .type;
+      first = bare (g .first);
+      middle = map bare (g .middle);
+      last = bare (g .last);
+    }
+
 -- g's fragments where one between those `before` and those `after` is lost
 abbrev pub without : Fragmented → List Part → List Part → Fragmented
 without g before after =

@@ -10,7 +10,7 @@ use Rattle.nal.specs.Ran.{RanOn}
 use Rattle.nal.specs.Unpack.{sizedUnits}
 use Rattle.rfc6184.specs.Sending.{Each, Nal, octet, octetsOf, Fragmented, Sending, single, stapA, fuA, payloadsOf, UnitType, Formed, Sized, FormedSending, Lawful}
 use Rattle.h264_rfc.specs.Reading.{gatheredThen, handedBy, TakenUnit}
-use Rattle.h264_rfc.specs.Loose.{Loose, looseOctets, looseOf, LooseFormed, headFrom}
+use Rattle.h264_rfc.specs.Loose.{Loose, looseOctets, looseOf, LooseFormed, headFrom, unreserved}
 
 -- 5.6: a single NAL unit packet
 pub record SingleUnit (payload : List ℕ) : Type 0 where
@@ -61,11 +61,11 @@ pub record AsSent (payload : List ℕ) (units : List (List ℕ)) : Type 0 where
   pub same : units ≡ map octetsOf nals
   pub payloads : payload ∷ [] ≡ payloadsOf (stapA f nri nals)
 
--- 5.8: one of the FU-As of a unit of type 1 to 23, whatever its Reserved bit, which a receiver ignores
+-- 5.8: one of the FU-As of a unit of type 1 to 23, lawful but for Reserved bits
 pub record OneFuA (payload : List ℕ) : Type 0 where
   pub unit : Fragmented
   pub formed : FormedSending (fuA unit)
-  pub type : UnitType (unit .type)
+  pub lawful : Lawful (fuA (unreserved unit))
   pub among : Somewhere (λ (q : List ℕ). payload ≡ q) (payloadsOf (fuA unit))
 
 -- an FU-A by itself, with End bit e

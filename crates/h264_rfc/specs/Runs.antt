@@ -10,10 +10,10 @@ use lib.ListN.{drop, getD}
 use Rattle.error.specs.Said.{Said, says, refused}
 use Rattle.nal.specs.Fed.{prefixed, Laid}
 use Rattle.nal.specs.Ran.{RanOn}
-use Rattle.rfc6184.specs.Sending.{Each, octetsOf, Fragmented, fuA, payloadsOf, unitsOf, UnitType, FormedSending}
+use Rattle.rfc6184.specs.Sending.{Each, octetsOf, Fragmented, fuA, payloadsOf, unitsOf, UnitType, FormedSending, Lawful}
 use Rattle.h264.specs.Conformance.{Octets}
 use Rattle.h264_rfc.specs.Reading.{Reader, State, fresh, next, behind, handedBy}
-use Rattle.h264_rfc.specs.Loose.{Loose, looseOf, looseAll, looseUnit}
+use Rattle.h264_rfc.specs.Loose.{Loose, looseOf, looseAll, looseUnit, unreserved}
 use Rattle.h264_rfc.specs.Meaning.{Somewhere, Means}
 
 -- ---- what came
@@ -73,13 +73,13 @@ abbrev pub firstOf : List Loose → Loose → Loose
 firstOf [] l = l
 firstOf (x ∷ xs) l = x
 
--- The FU-As of one unit of type 1 to 23 with F clear, with nothing between them, and this unit is what is joined of them. Their Reserved bits may
--- be set: a receiver ignores them.
+-- the FU-As of one unit of type 1 to 23 with F clear, lawful but for Reserved bits, with nothing between them; and this unit is what is joined of
+-- them
 pub record OneUnit (cs : List Came) (l : Loose) : Type 0 where
   pub unit : Fragmented
   pub formed : FormedSending (fuA unit)
+  pub lawful : Lawful (fuA (unreserved unit))
   pub f-clear : unit .f ≡ 0
-  pub type : UnitType (unit .type)
   pub payloads : looseAll (piecesOf cs) l ≡ payloadsOf (fuA unit)
   pub adjacent : fromFirst cs ≡ map piece (piecesOf cs)
   pub joined : looseUnit (piecesOf cs) l ∷ [] ≡ map octetsOf (unitsOf (fuA unit))

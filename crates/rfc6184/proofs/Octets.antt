@@ -1,7 +1,7 @@
 -- A NAL unit and its octets say each other: no field is lost, and every octet has fields. Assumes nothing.
 use mathlib.Core.Path.{_≡_, ap}
 use mathlib.Core.List.{List, _∷_}
-use Prim.Native.Nat.{ℕ, _+_, _*_, _/_, _%_, _<_}
+use Prim.Native.Nat.{ℕ, _+_, _/_, _%_, _<_}
 use native.Mathlib.Omega.{arith}
 use lib.ListN.{length}
 use Rattle.rfc6184.specs.Sending.{Nal, octet, octetsOf, nalOf, fuHeader, Formed, FormedNal}
