@@ -8,12 +8,12 @@ use lib.ListN.{length}
 use Rattle.wire.specs.Each.{Each}
 use Rattle.wire.specs.Net.{be16}
 use Rattle.wire.proofs.Each.{each-by, each-map}
-use Rattle.rfc6184.specs.Sending.{Nal, octet, octetsOf, Part, Fragmented, single, stapA, fuA, aggregated, fragment, bodyOf, Formed, Sized, FormedSending}
+use Rattle.rfc6184.specs.Sending.{Nal, octet, octetsOf, Part, Fragmented, single, stapA, fuA, aggregated, fragment, payloadsOf, payloadsOfAll, bodyOf, Formed, Sized, FormedSending}
 use Rattle.rfc6184.specs.Sending as rfc
 use Rattle.rfc6184.proofs.Octets.{fields-of-octet}
 use Rattle.nal.specs.Unpack.{sizedUnits}
 use Rattle.nal.specs.Unpack as unpacking
-use Rattle.sequence.specs.Group.{Group}
+use Rattle.sequence.specs.Group.{Group, packetsIn, packetsOf}
 use Rattle.joiner.specs.General.{Units}
 use Rattle.joiner.specs.Sent.{Sent, alone, fragmented, groupOf, groupsOf, PlainUnit}
 use Rattle.joiner.specs.Sent as sent
@@ -91,6 +91,16 @@ same-groups : (ss : List rfc.Sending) → Each FormedSending ss → Each Taken s
 same-groups [] w t = refl
 same-groups (s ∷ ss) w t =
     ap₂ (λ (x : Group (List ℕ) Units) (xs : List (Group (List ℕ) Units)). x ∷ xs) (same-group s (w .0) (t .0)) (same-groups ss (w .1) (t .1))
+
+-- its payloads are those of the RFC
+in-order : (s : rfc.Sending) → packetsIn (groupBy s) ≡ payloadsOf s
+in-order (single u) = refl
+in-order (stapA f nri us) = refl
+in-order (fuA g) = refl
+
+pub stream-payloads : (ss : List rfc.Sending) → packetsOf (map groupBy ss) ≡ payloadsOfAll ss
+stream-payloads [] = refl
+stream-payloads (s ∷ ss) = ap₂ (λ (ps qs : List (List ℕ)). ps ++ qs) (in-order s) (stream-payloads ss)
 
 -- ---- it is taken
 

@@ -28,6 +28,8 @@ use Rattle.sequence.specs.Number.{numberOf}
 use Rattle.sequence.specs.Arrival.{Arrival, ours, other, raised, Window}
 use Rattle.sequence.specs.Joiner.{bytesOf}
 use Rattle.delivery.specs.Show.{payloads, count, payload, packet}
+use Rattle.delivery.specs.Play.{ourJoiner, arriving}
+use Rattle.delivery.specs.Demand.{DeliveredOn}
 use Rattle.delivery.specs.Frames.{Sending, showOf, FrameOk, SendingPremises}
 use Rattle.delivery.specs.Calls.{Lent, sending, NoneRefused, callsFor, LentEnough, cutBy, written, writing, Wrote, FromTheCalls}
 use Rattle.delivery.proofs.Delivering.{short-at, all-delivered}
@@ -189,15 +191,18 @@ module _ (x : Sending) (p : SendingPremises x) (lent : ℕ → Lent) (none : Non
       ∙ plain-written (x .stamps i) (numberOf (x .first) i) (x .source) (payload (showOf x) i) (p .received .stamps i) (omega arith)
       (p .received .source) room (short-at (payloads (showOf x)) i (short-payloads x p)) (omega (arith, enough, ap length (same-payload i)))
 
+  -- what the packet writer wrote is the show's packets
+  arrives : (onWire : ℕ → List ℕ) → ((i : ℕ) → i < count (showOf x) → Wrote x lent onWire i) → map (bytesOf onWire) (x .arrivals) ≡ arriving (showOf x)
+  arrives onWire wrote =
+      same-arrivals (packet (showOf x)) onWire (count (showOf x)) 0
+      (λ i h. let k : Wrote x lent onWire i = wrote i h in said-same _ (onWire i) (packet (showOf x) i) (k .wrote) (writes-packets i (k .room) h (k .enough)))
+      (x .arrivals) (p .received .window)
+
   pub from-the-calls : FromTheCalls x lent
   from-the-calls =
       record {
         wrote-payloads = wrote-payloads;
         writes-packets = writes-packets;
-        arrive =
-            λ onWire wrote.
-            same-arrivals (packet (showOf x)) onWire (count (showOf x)) 0
-            (λ i h. let k : Wrote x lent onWire i = wrote i h in said-same _ (onWire i) (packet (showOf x) i) (k .wrote) (writes-packets i (k .room) h (k .enough)))
-            (x .arrivals) (p .received .window);
-        delivered = all-delivered (showOf x) (p .received) (sent-show x p);
+        delivered =
+            λ onWire wrote. subst (DeliveredOn ourJoiner (showOf x)) (sym (arrives onWire wrote)) (all-delivered (showOf x) (p .received) (sent-show x p));
       }

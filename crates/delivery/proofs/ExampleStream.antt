@@ -1,8 +1,8 @@
 -- The premises on a stream by RFC 6184 can be met: an access unit delimiter of two octets, an STAP-A, a unit with F set in three fragments, and a unit
 -- that is lost. Assumes nothing.
 use mathlib.Core.Path.{_≡_, refl}
-use mathlib.Core.Bool.{Bool, true, false}
-use mathlib.Core.List.{List, [], _∷_, map}
+use mathlib.Core.Bool.{false}
+use mathlib.Core.List.{List, [], _∷_}
 use mathlib.Core.Logic.{inl, inr}
 use Prim.Native.Nat.{ℕ}
 use native.Mathlib.Omega.{arith}
@@ -16,7 +16,7 @@ use Rattle.header.specs.Write as header
 use Rattle.packet.specs.Read.{readPacket}
 use Rattle.packet.specs.Write.{payloadOctets, packetOctets}
 use Rattle.packet.specs.Plain.{plainPacket}
-use Rattle.rfc6184.specs.Sending.{Nal, octet, octetsOf, Part, Fragmented, single, stapA, fuA, fragment}
+use Rattle.rfc6184.specs.Sending.{Nal, octet, octetsOf, Part, single, stapA, fuA, fragment}
 use Rattle.nal.specs.Kind.{shape}
 use Rattle.nal.specs.Unpack.{unpackTurn, unpack}
 use Rattle.nal.specs.Fed.{layBytes, layFed}

@@ -1,6 +1,7 @@
 pub mod Playing
 pub mod Owing
 pub mod Delivering
+pub mod Accepted
 pub mod Sending
 pub mod Calls
 pub mod AnySender

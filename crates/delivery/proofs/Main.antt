@@ -9,23 +9,29 @@
 -- `ourJoiner` is `opened`, `joinStep` and `closeStep`, which the contracts of the joiner's code cite. `Delivered` is the five parts (a) to (e)
 -- over a machine's calls (`played`) and its `closing`.
 use mathlib.Core.Path.{_≡_}
-use mathlib.Core.Bool.{true}
-use mathlib.Core.List.{List}
+use mathlib.Core.Bool.{true, false}
+use mathlib.Core.List.{List, _∷_, _++_, map}
 use mathlib.Core.Logic.{_↔_}
 use Prim.Native.Nat.{ℕ, _<_}
-use Rattle.h264.specs.Groups.{nothingSaved}
-use Rattle.sequence.specs.Arrival.{Arrival, ours, isAccepted}
-use Rattle.sequence.proofs.Accepting.{Arrived, accepted-sentence}
-use Rattle.delivery.specs.Play.{Machine, ourJoiner}
+use lib.ListN.{length, getD}
+use Rattle.rfc6184.specs.Sending.{payloadsOfAll}
+use Rattle.h264.specs.Groups.{nothingSaved, packetsOf}
+use Rattle.h264.specs.Frames.{groupsSent}
+use Rattle.sequence.specs.Arrival.{Arrival, ours}
+use Rattle.sequence.proofs.Accepting.{Arrived}
+use Rattle.joiner.specs.Join.{Stepped}
+use Rattle.delivery.specs.Show.{Show, payloads}
+use Rattle.delivery.specs.Play.{Machine, ourJoiner, isAccepted, played}
 use Rattle.delivery.specs.Demand.{Delivered}
 use Rattle.delivery.specs.Frames.{Sending, showOf, SendingPremises, Delivers}
 use Rattle.delivery.specs.Calls.{Lent, NoneRefused, callsFor, LentEnough, FromTheCalls}
 use Rattle.delivery.specs.AnySender.{Stream, streamShow, StreamPremises}
 use Rattle.delivery.specs.Wrong.{Silent, Advancing, Inventing}
 use Rattle.delivery.proofs.Delivering.{all-delivered}
-use Rattle.delivery.proofs.Sending.{sent-show}
+use Rattle.delivery.proofs.Accepted.{accepted-exactly}
+use Rattle.delivery.proofs.Sending.{sent-show, same-packets}
 use Rattle.delivery.proofs.Calls as calls
-use Rattle.delivery.proofs.AnySender.{stream-show}
+use Rattle.delivery.proofs.AnySender.{stream-show, stream-payloads}
 use Rattle.delivery.proofs.Example.{show, premises, lentTo, lent-enough}
 use Rattle.delivery.proofs.ExampleStream.{stream, stream-premises}
 use Rattle.delivery.proofs.Wrong as wrong
@@ -35,8 +41,8 @@ pub demand-3 : (x : Sending) → SendingPremises x → Delivered ourJoiner (show
 demand-3 x p = all-delivered (showOf x) (p .received) (sent-show x p)
 
 -- The same from the calls on, end to end. Where none of a fresh sender's calls is refused: what they wrote, cut at the ends that they wrote, is
--- the show's payloads; the packet writer makes each, with its number, stamp and source, into the show's packet; so what arrives of the packets
--- that it wrote is what arrives in the show; and the joiner hands out what demand 3 says.
+-- the show's payloads; the packet writer makes each, with its number, stamp and source, into the show's packet; and of the packets that it
+-- wrote, over the channel, the joiner hands out what demand 3 says.
 pub FROM-THE-CALLS : (x : Sending) → SendingPremises x → (lent : ℕ → Lent) → NoneRefused (callsFor x lent) → FromTheCalls x lent
 FROM-THE-CALLS = calls.from-the-calls
 
@@ -44,16 +50,24 @@ FROM-THE-CALLS = calls.from-the-calls
 pub CALLS-ANSWER : (x : Sending) → SendingPremises x → (lent : ℕ → Lent) → LentEnough (x .mtu) nothingSaved lent (x .frames) → NoneRefused (callsFor x lent)
 CALLS-ANSWER = calls.calls-answer
 
+-- The payloads of the show are those of the sender's definition, in order.
+pub payloads-sent : (x : Sending) → payloads (showOf x) ≡ packetsOf (groupsSent (x .mtu) (x .frames))
+payloads-sent x = same-packets (groupsSent (x .mtu) (x .frames))
+
 -- Sendings of RFC 6184 by any sender, as crate rfc6184 has them: single units, STAP-As with any F and NRI, and units in fragments with any F. No
 -- single unit is shorter than 3 bytes, but for an access unit delimiter of 2; no fragment is empty.
 pub any-sender : (y : Stream) → StreamPremises y → Delivered ourJoiner (streamShow y)
 any-sender y p = all-delivered (streamShow y) (p .received) (stream-show y p)
 
--- "a packet is accepted exactly when its index is above every index that arrived before it; this, read off the arrivals alone, is
--- what demand 3 means by accepted"
-pub accepted-means : (i : ℕ) (before : List (Arrival (List ℕ))) →
-    (isAccepted before (ours i) ≡ true) ↔ ((j : ℕ) → Arrived j before → j < i)
-accepted-means i before = accepted-sentence i before
+-- The payloads of its show are those that the RFC has for the sendings, in order.
+pub payloads-streamed : (y : Stream) → payloads (streamShow y) ≡ payloadsOfAll (y .sendings)
+payloads-streamed y = stream-payloads (y .sendings)
+
+-- "Under these premises a packet is accepted exactly when its index is above every index that arrived before it; this, read off the
+-- arrivals alone, is what demand 3 means by accepted."
+pub accepted-means : (m : Machine) (w : Show) → Delivered m w → (before later : List (Arrival (List ℕ))) (i : ℕ) → w .arrivals ≡ before ++ (ours i ∷ later) →
+    (getD (map (λ (st : Stepped). isAccepted (st .answer)) (played m w)) (length before) false ≡ true) ↔ ((j : ℕ) → Arrived j before → j < i)
+accepted-means = accepted-exactly
 
 -- ---- it is about something, and it tells joiners apart
 

@@ -18,8 +18,8 @@ use Rattle.h264.specs.Payload.{Counts, Left, layOut, tooLong, emptySink, payloa
 use Rattle.sequence.specs.Number.{numberOf}
 use Rattle.sequence.specs.Joiner.{bytesOf}
 use Rattle.delivery.specs.Show.{payloads, count, packet}
-use Rattle.delivery.specs.Play.{ourJoiner, arriving}
-use Rattle.delivery.specs.Demand.{Delivered}
+use Rattle.delivery.specs.Play.{ourJoiner}
+use Rattle.delivery.specs.Demand.{DeliveredOn}
 use Rattle.delivery.specs.Frames.{Sending, showOf}
 
 -- ---- the sender's calls, one for each frame
@@ -85,8 +85,6 @@ pub record FromTheCalls (x : Sending) (lent : ℕ → Lent) : Type 0 where
   -- the packet writer refuses none of them, and makes the show's packets of them
   pub writes-packets : (i room : ℕ) → i < count (showOf x) → 12 + length (getD (written (callsFor x lent)) i []) ≤ room →
       writing x i (getD (written (callsFor x lent)) i []) room ≡ says (packet (showOf x) i)
-  -- so what arrives of its packets, beside the bytes of others, is what arrives in the show
-  pub arrive : (onWire : ℕ → List ℕ) → ((i : ℕ) → i < count (showOf x) → Wrote x lent onWire i) →
-      map (bytesOf onWire) (x .arrivals) ≡ arriving (showOf x)
-  -- and of that the joiner hands out exactly what demand 3 says
-  pub delivered : Delivered ourJoiner (showOf x)
+  -- and of what it wrote, as far as it arrives, and beside the bytes of others, the joiner hands out what demand 3 says
+  pub delivered : (onWire : ℕ → List ℕ) → ((i : ℕ) → i < count (showOf x) → Wrote x lent onWire i) →
+      DeliveredOn ourJoiner (showOf x) (map (bytesOf onWire) (x .arrivals))
