@@ -8,7 +8,7 @@ use lib.ListN.{length}
 use Rattle.wire.specs.Each.{Each}
 use Rattle.wire.specs.Net.{be16}
 use Rattle.wire.proofs.Each.{each-by, each-map}
-use Rattle.rfc6184.specs.Sending.{Nal, octet, octetsOf, Part, Fragmented, single, stapA, fuA, aggregated, fragment, payloadsOf, payloadsOfAll, bodyOf, Formed, Sized, FormedSending}
+use Rattle.rfc6184.specs.Sending.{Nal, octet, octetsOf, Part, Fragmented, single, stapA, fuA, aggregated, fragment, payloadsOf, payloadsOfAll, bodyOf, UnitType, Formed, Sized, FormedSending, Rules, Lawful}
 use Rattle.rfc6184.specs.Sending as rfc
 use Rattle.rfc6184.proofs.Octets.{fields-of-octet}
 use Rattle.nal.specs.Unpack.{sizedUnits}
@@ -17,7 +17,7 @@ use Rattle.sequence.specs.Group.{Group, packetsIn, packetsOf}
 use Rattle.joiner.specs.General.{Units}
 use Rattle.joiner.specs.Sent.{Sent, alone, fragmented, groupOf, groupsOf, PlainUnit}
 use Rattle.joiner.specs.Sent as sent
-use Rattle.delivery.specs.AnySender.{groupBy, Stream, streamShow, TakenUnit, ReservedClear, Taken, StreamPremises}
+use Rattle.delivery.specs.AnySender.{groupBy, Stream, streamShow, ReservedClear, Ruled, Taken, StreamPremises}
 use Rattle.delivery.proofs.Owing.{Delimiter}
 use Rattle.delivery.proofs.Owing as owing
 use Rattle.delivery.proofs.Delivering.{Sendable}
@@ -79,15 +79,15 @@ module _ (g : Fragmented) (k : Formed (g .f) (g .nri) (g .type)) where
         handed = (top-clear i ∷ bodyOf g) ∷ [];
       }
 
-same-group : (s : rfc.Sending) → FormedSending s → Taken s → groupBy s ≡ groupOf (sentBy s)
+same-group : (s : rfc.Sending) → FormedSending s → Ruled s → groupBy s ≡ groupOf (sentBy s)
 unfolding sent.stapA
 same-group (single u) w t = refl
 same-group (stapA f nri []) w t = absurd (omega (arith, w .1))
 same-group (stapA f nri (u ∷ us)) w t =
     ap (λ (l : List ℕ). record { first = octet f nri 24 ∷ l; others = []; handed = map octetsOf (u ∷ us) }) (aggregated-sized (u ∷ us))
-same-group (fuA g) w t = same-fragments g (w .0) (t .0)
+same-group (fuA g) w t = same-fragments g (w .0) t
 
-same-groups : (ss : List rfc.Sending) → Each FormedSending ss → Each Taken ss → map groupBy ss ≡ groupsOf (map sentBy ss)
+same-groups : (ss : List rfc.Sending) → Each FormedSending ss → Each Ruled ss → map groupBy ss ≡ groupsOf (map sentBy ss)
 same-groups [] w t = refl
 same-groups (s ∷ ss) w t =
     ap₂ (λ (x : Group (List ℕ) Units) (xs : List (Group (List ℕ) Units)). x ∷ xs) (same-group s (w .0) (t .0)) (same-groups ss (w .1) (t .1))
@@ -104,42 +104,50 @@ stream-payloads (s ∷ ss) = ap₂ (λ (ps qs : List (List ℕ)). ps ++ qs) (in-
 
 -- ---- it is taken
 
-taken-unit : (u : Nal) → FormedSending (single u) → TakenUnit u → PlainUnit (octetsOf u) ⊎ Delimiter (octetsOf u)
+taken-unit : (u : Nal) → FormedSending (single u) → UnitType (u .type) → Taken (single u) → PlainUnit (octetsOf u) ⊎ Delimiter (octetsOf u)
 unfolding octetsOf
-taken-unit u w t = by (fields-of-octet (u .f) (u .nri) (u .type) w .2) (t .long)
+taken-unit u w t long = by (fields-of-octet (u .f) (u .nri) (u .type) w .2) long
   where
-    by : octet (u .f) (u .nri) (u .type) % 32 ≡ u .type → (3 ≤ length (octetsOf u)) ⊎ ((length (octetsOf u) ≡ 2) × (u .type ≡ 9)) →
-        PlainUnit (octetsOf u) ⊎ Delimiter (octetsOf u)
-    by e (inl h) = inl (record { long = h; type-low = omega (arith, t .type .low); type-high = omega (arith, t .type .high) })
+    by : octet (u .f) (u .nri) (u .type) % 32 ≡ u .type → Taken (single u) → PlainUnit (octetsOf u) ⊎ Delimiter (octetsOf u)
+    by e (inl h) = inl (record { long = h; type-low = omega (arith, t .low); type-high = omega (arith, t .high) })
     by e (inr h) = inr (record { long = h .0; type = e ∙ h .1 })
 
 sized-units : (us : List Nal) → Each Sized us → unpacking.Sized (map octetsOf us)
 sized-units us w =
     each-map (λ (u : List ℕ). length u < 65536) octetsOf us (each-by (λ (u : Nal). length (octetsOf u) < 65536) Sized (λ u z. z .size) us w)
 
-taken-by : (s : rfc.Sending) → FormedSending s → Taken s → owing.Taken (sentBy s)
-taken-by (single u) w t = taken-unit u w t
-taken-by (stapA f nri []) w t = absurd (omega (arith, w .1))
-taken-by (stapA f nri (u ∷ us)) w t = (fields-of-octet f nri 24 (w .0) .2, sized-units (u ∷ us) (w .2))
-taken-by (fuA g) w t = (
+taken-by : (s : rfc.Sending) → FormedSending s → Ruled s → Taken s → owing.Taken (sentBy s)
+taken-by (single u) w r t = taken-unit u w r t
+taken-by (stapA f nri []) w r t = absurd (omega (arith, w .1))
+taken-by (stapA f nri (u ∷ us)) w r t = (fields-of-octet f nri 24 (w .0) .2, sized-units (u ∷ us) (w .2))
+taken-by (fuA g) w r t = (
   (
-    omega (arith, t .1 .0),
+    omega (arith, t .0),
     each-map (λ (s : List ℕ). 1 ≤ length s) octetsIn (g .middle)
-        (each-by (λ (p : Part). 1 ≤ length (p .octets)) (λ (p : Part). 0 < length (p .octets)) (λ p h. omega (arith, h)) (g .middle) (t .1 .1)),
+        (each-by (λ (p : Part). 1 ≤ length (p .octets)) (λ (p : Part). 0 < length (p .octets)) (λ p h. omega (arith, h)) (g .middle) (t .1)),
   ),
-  omega (arith, t .1 .2),
+  omega (arith, t .2),
 )
 
-all-taken : (ss : List rfc.Sending) → Each FormedSending ss → Each Taken ss → Each owing.Taken (map sentBy ss)
-all-taken [] w t = tt
-all-taken (s ∷ ss) w t = (taken-by s (w .0) (t .0), all-taken ss (w .1) (t .1))
+all-taken : (ss : List rfc.Sending) → Each FormedSending ss → Each Ruled ss → Each Taken ss → Each owing.Taken (map sentBy ss)
+all-taken [] w r t = tt
+all-taken (s ∷ ss) w r t = (taken-by s (w .0) (r .0) (t .0), all-taken ss (w .1) (r .1) (t .1))
 
 pub stream-show : (y : Stream) → StreamPremises y → Sendable (streamShow y)
 stream-show y p =
     record {
       sents = map sentBy (y .sendings);
-      are = same-groups (y .sendings) (p .formed) (p .taken);
-      taken = all-taken (y .sendings) (p .formed) (p .taken);
+      are = same-groups (y .sendings) (p .formed) (p .ruled);
+      taken = all-taken (y .sendings) (p .formed) (p .ruled) (p .taken);
       short = p .short;
       domain = p .domain;
     }
+
+-- a lawful sending is formed, and keeps those rules
+pub lawful-ruled : (ss : List rfc.Sending) → Each Lawful ss → Each FormedSending ss × Each Ruled ss
+lawful-ruled ss w = (each-by FormedSending Lawful (λ s l. l .formed) ss w, each-by Ruled Lawful (λ s l. by s (l .rules)) ss w)
+  where
+    by : (s : rfc.Sending) → Rules s → Ruled s
+    by (single u) r = r
+    by (stapA f nri us) r = tt
+    by (fuA g) r = (r .1, r .2, r .3)

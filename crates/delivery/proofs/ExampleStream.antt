@@ -55,10 +55,8 @@ unfolding stream octetsOf fragment octet be16
 stream-premises =
     record {
       formed = omega arith;
-      taken = (
-        record { type = record { low = omega arith; high = omega arith }; long = inr (refl, refl) },
-        (tt, (omega arith, (record { type = record { low = omega arith; high = omega arith }; long = inl (omega arith) }, tt))),
-      );
+      ruled = omega arith;
+      taken = (inr (refl, refl), (tt, (omega arith, (inl (omega arith), tt))));
       short = omega arith;
       domain = omega arith;
       received =

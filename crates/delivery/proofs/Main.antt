@@ -14,7 +14,9 @@ use mathlib.Core.List.{List, _∷_, _++_, map}
 use mathlib.Core.Logic.{_↔_}
 use Prim.Native.Nat.{ℕ, _<_}
 use lib.ListN.{length, getD}
+use Rattle.wire.specs.Each.{Each}
 use Rattle.rfc6184.specs.Sending.{payloadsOfAll}
+use Rattle.rfc6184.specs.Sending as rfc
 use Rattle.h264.specs.Groups.{nothingSaved, packetsOf}
 use Rattle.h264.specs.Frames.{groupsSent}
 use Rattle.sequence.specs.Arrival.{Arrival, ours}
@@ -25,13 +27,13 @@ use Rattle.delivery.specs.Play.{Machine, ourJoiner, isAccepted, played}
 use Rattle.delivery.specs.Demand.{Delivered}
 use Rattle.delivery.specs.Frames.{Sending, showOf, SendingPremises, Delivers}
 use Rattle.delivery.specs.Calls.{Lent, NoneRefused, callsFor, LentEnough, FromTheCalls}
-use Rattle.delivery.specs.AnySender.{Stream, streamShow, StreamPremises}
+use Rattle.delivery.specs.AnySender.{Stream, streamShow, Ruled, StreamPremises}
 use Rattle.delivery.specs.Wrong.{Silent, Advancing, Inventing}
 use Rattle.delivery.proofs.Delivering.{all-delivered}
 use Rattle.delivery.proofs.Accepted.{accepted-exactly}
 use Rattle.delivery.proofs.Sending.{sent-show, same-packets}
 use Rattle.delivery.proofs.Calls as calls
-use Rattle.delivery.proofs.AnySender.{stream-show, stream-payloads}
+use Rattle.delivery.proofs.AnySender.{stream-show, lawful-ruled, stream-payloads}
 use Rattle.delivery.proofs.Example.{show, premises, lentTo, lent-enough}
 use Rattle.delivery.proofs.ExampleStream.{stream, stream-premises}
 use Rattle.delivery.proofs.Wrong as wrong
@@ -58,6 +60,10 @@ payloads-sent x = same-packets (groupsSent (x .mtu) (x .frames))
 -- single unit is shorter than 3 bytes, but for an access unit delimiter of 2; no fragment is empty.
 pub any-sender : (y : Stream) → StreamPremises y → Delivered ourJoiner (streamShow y)
 any-sender y p = all-delivered (streamShow y) (p .received) (stream-show y p)
+
+-- Whatever is lawful by RFC 6184 keeps what is asked of its fields.
+pub lawful-sender : (ss : List rfc.Sending) → Each rfc.Lawful ss → Each rfc.FormedSending ss × Each Ruled ss
+lawful-sender = lawful-ruled
 
 -- The payloads of its show are those that the RFC has for the sendings, in order.
 pub payloads-streamed : (y : Stream) → payloads (streamShow y) ≡ payloadsOfAll (y .sendings)

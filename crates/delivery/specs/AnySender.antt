@@ -6,7 +6,7 @@ use Prim.Native.Nat.{ℕ, _≤_, _<_}
 use lib.ListN.{length, drop, getD}
 use Rattle.wire.specs.Each.{Each}
 use Rattle.packet.specs.Plain.{Stamp}
-use Rattle.rfc6184.specs.Sending.{Nal, octet, octetsOf, Part, Fragmented, single, stapA, fuA, payloadsOf, bodyOf, UnitType, FormedSending}
+use Rattle.rfc6184.specs.Sending.{octet, octetsOf, Part, Fragmented, single, stapA, fuA, payloadsOf, bodyOf, UnitType, FormedSending}
 use Rattle.rfc6184.specs.Sending as rfc
 use Rattle.sequence.specs.Arrival.{Arrival}
 use Rattle.sequence.specs.Group.{Group}
@@ -54,25 +54,27 @@ streamShow y =
 abbrev pub ReservedClear : Fragmented → Type 0
 ReservedClear g = (g .first .reserved ≡ 0) × Each (λ (p : Part). p .reserved ≡ 0) (g .middle) × (g .last .reserved ≡ 0)
 
+-- of RFC 6184's rules on the fields those that count: whatever F and NRI an STAP-A has, and whatever units stand in it or in fragments
+abbrev pub Ruled : rfc.Sending → Type 0
+Ruled (single u) = UnitType (u .type)
+Ruled (stapA f nri us) = Unit {0}
+Ruled (fuA g) = ReservedClear g
+
 -- no part is empty
 abbrev pub NoneEmpty : Fragmented → Type 0
 NoneEmpty g =
     (0 < length (g .first .octets)) × Each (λ (p : Part). 0 < length (p .octets)) (g .middle) × (0 < length (g .last .octets))
 
--- "of type 1 to 23, of 3 bytes or more", or an access unit delimiter: "2 bytes unless type 9"
-pub record TakenUnit (u : Nal) : Type 0 where
-  pub type : UnitType (u .type)
-  pub long : (3 ≤ length (octetsOf u)) ⊎ ((length (octetsOf u) ≡ 2) × (u .type ≡ 9))
-
--- what the joiner takes of RFC 6184, whatever F and NRI an STAP-A has, and whatever units stand in it or in fragments
+-- what the paper's joiner takes: units "of 3 bytes or more", or an access unit delimiter, "2 bytes unless type 9"; fragments that are not empty
 abbrev pub Taken : rfc.Sending → Type 0
-Taken (single u) = TakenUnit u
+Taken (single u) = (3 ≤ length (octetsOf u)) ⊎ ((length (octetsOf u) ≡ 2) × (u .type ≡ 9))
 Taken (stapA f nri us) = Unit {0}
-Taken (fuA g) = ReservedClear g × NoneEmpty g
+Taken (fuA g) = NoneEmpty g
 
 pub record StreamPremises (y : Stream) : Type 0 where
-  -- RFC 6184: the fields fit into their bits
+  -- each is a sending of RFC 6184: its fields fit into their bits, and keep these rules
   pub formed : Each FormedSending (y .sendings)
+  pub ruled : Each Ruled (y .sendings)
   pub taken : Each Taken (y .sendings)
   -- "mtu 3 to 65,523", and "Every packet fits the mtu"
   pub short : Each (λ (p : List ℕ). length p ≤ 65523) (payloads (streamShow y))
