@@ -1,6 +1,6 @@
 -- Demand 3 from the three parts: the plain rule within the window, the reader on plain packets, and the H.264 codec on the groups
 -- sent. Assumes nothing.
-use mathlib.Core.Path.{_≡_, refl, sym, ap, ap₂, _∙_}
+use mathlib.Core.Path.{_≡_, refl, sym, ap, ap₂, subst, _∙_}
 use mathlib.Core.Bool.{Bool, false, cond}
 use mathlib.Core.List.{List, [], _∷_, _++_, map, append-nil}
 use Prim.Native.Nat.{ℕ, zero, suc, _≤_, _<_}
@@ -17,6 +17,8 @@ use Rattle.packet.proofs.Plain.{packet-back, payload-back}
 use Rattle.nal.specs.Fed.{Run, prefixed}
 use Rattle.sequence.specs.Number.{numberOf}
 use Rattle.sequence.specs.Arrival.{Arrival, ours, other, acceptedCalls, raised, Window}
+use Rattle.sequence.specs.Group.{Group, EachHanded}
+use Rattle.sequence.specs.Codec.{OwesAll}
 use Rattle.sequence.specs.Joiner.{Parts, notOurs, numbered, shut, close, answers}
 use Rattle.sequence.specs.Joiner as any
 use Rattle.sequence.proofs.Ruling.{plain-follows}
@@ -24,13 +26,14 @@ use Rattle.sequence.specs.Demand.{Told}
 use Rattle.sequence.specs.Demand as any-demand
 use Rattle.sequence.proofs.Joining.{delivered}
 use Rattle.joiner.specs.Join.{Accepted, opened}
-use Rattle.joiner.specs.General.{Units, Room, Enough, refusing, heardFrom, reader, parts, standing, closingSeen}
-use Rattle.joiner.specs.Sent.{Sent, Lawful, groupsOf, handedLength}
+use Rattle.joiner.specs.General.{Units, Room, Enough, refusing, heardFrom, reader, parts, standing, closingSeen, h264}
+use Rattle.joiner.specs.Sent.{Sent, groupsOf}
 use Rattle.joiner.proofs.OneCall.{one-close, closed-after, shut-is}
-use Rattle.joiner.proofs.SentGroups.{Gathered, owes-all, Small, small-enough, all-small}
+use Rattle.joiner.proofs.SentGroups.{Small, small-enough}
 use Rattle.delivery.specs.Show.{Show, payloads, count, payload, packet, longest, largest}
 use Rattle.delivery.specs.Play.{ourJoiner, arriving, played, closing, handedOut, joinerAfter}
-use Rattle.delivery.specs.Demand.{Foreign, OthersForeign, AllShort, Premises, Delivered, wasAccepted, missed}
+use Rattle.delivery.specs.Demand.{Foreign, OthersForeign, Received, Delivered, wasAccepted, missed}
+use Rattle.delivery.proofs.Owing.{Taken, owes-all}
 use Rattle.delivery.proofs.Playing.{accepted-as, refused-as, handed-as, rooms, Plays, plays}
 
 -- ---- what arrives
@@ -54,20 +57,28 @@ told-of source n m (other b ∷ later) w f = (not-ours source b (f .0), told-of 
 
 -- ---- room
 
-short-at : (ss : List (List ℕ)) (i : ℕ) → AllShort ss → length (getD ss i []) ≤ 65523
+-- "mtu 3 to 65,523", and "Every packet fits the mtu"
+abbrev pub AllShort : List (List ℕ) → Type 0
+AllShort = Each (λ (s : List ℕ). length s ≤ 65523)
+
+pub short-at : (ss : List (List ℕ)) (i : ℕ) → AllShort ss → length (getD ss i []) ≤ 65523
 short-at [] i h = omega arith
 short-at (s ∷ ss) zero h = h .0
 short-at (s ∷ ss) (suc i) h = short-at ss i (h .1)
 
-gathered-all : (ss : List Sent) (most big : ℕ) (bounded : most ≤ 16777215) → Each Lawful ss → longest ss ≤ most → Each (Gathered most big bounded) ss
-gathered-all [] most big bounded w h = tt
-gathered-all (s ∷ ss) most big bounded w h = ((w .0, omega arith), gathered-all ss most big bounded (w .1) (omega arith))
-
-handed-all : (ss : List Sent) (big : ℕ) → largest ss ≤ big → Each (λ (s : Sent). handedLength false s ≤ big) ss
+handed-all : (gs : List (Group (List ℕ) Units)) (big : ℕ) → largest gs ≤ big → EachHanded (Small false big) gs
 handed-all [] big h = tt
-handed-all (s ∷ ss) big h = (omega arith, handed-all ss big (omega arith))
+handed-all (g ∷ gs) big h = (omega arith, handed-all gs big (omega arith))
 
-module _ (w : Show) (p : Premises w) where
+-- what is known of the groups sent: they are groups of H.264 payloads that the joiner takes, within the limits
+pub record Sendable (w : Show) : Type 0 where
+  pub sents : List Sent
+  pub are : w .groups ≡ groupsOf sents
+  pub taken : Each Taken sents
+  pub short : AllShort (payloads w)
+  pub domain : longest (w .groups) ≤ 16777215
+
+module _ (w : Show) (p : Received w) (z : Sendable w) where
   abbrev number : ℕ → ℕ
   number i = numberOf (w .first) i
 
@@ -75,9 +86,9 @@ module _ (w : Show) (p : Premises w) where
   reads : (i : ℕ) → i < count w → reader (w .source) (packet w i) ≡ numbered (number i) (payload w i)
   reads i h =
       ap (heardFrom (w .source) (packet w i))
-      (packet-back (w .stamps i) (number i) (w .source) (payload w i) (p .stamps i) (omega arith) (p .source) (short-at (payloads w) i (p .short)))
+      (packet-back (w .stamps i) (number i) (w .source) (payload w i) (p .stamps i) (omega arith) (p .source) (short-at (payloads w) i (z .short)))
       ∙ ap₂ (λ (b : Bool) (s : List ℕ). cond b (numbered (number i) s) (notOurs (refusing 20))) (eq-eqb (w .source) (w .source) refl)
-      (payload-back (w .stamps i) (number i) (w .source) (payload w i) (p .stamps i) (omega arith) (p .source) (short-at (payloads w) i (p .short)))
+      (payload-back (w .stamps i) (number i) (w .source) (payload w i) (p .stamps i) (omega arith) (p .source) (short-at (payloads w) i (z .short)))
 
   abbrev most : ℕ
   most = longest (w .groups)
@@ -98,15 +109,16 @@ module _ (w : Show) (p : Premises w) where
   abbrev any-outcome : Type 0
   any-outcome =
       any-demand.Delivered general (Enough most big) number (packet w) (count w) rooms-of start (w .arrivals) (wasAccepted w)
-      (acceptedCalls [] (w .arrivals)) (groupsOf (w .groups))
+      (acceptedCalls [] (w .arrivals)) (w .groups)
 
   any-delivered : any-outcome
   unfolding opened
   any-delivered =
       delivered general (Enough most big) number (packet w) (payload w) (count w) 1 (Small false big) reads
-      (λ k out enough a. small-enough false most big k out enough a) (groupsOf (w .groups)) refl (p .few)
-      (owes-all most big (p .domain) (w .groups) (gathered-all (w .groups) most big (p .domain) (p .lawful) (omega arith)))
-      (all-small false big (w .groups) (handed-all (w .groups) big (omega arith)))
+      (λ k out enough a. small-enough false most big k out enough a) (w .groups) refl (p .few)
+      (subst (OwesAll h264 (Enough most big)) (sym (z .are))
+      (owes-all most big (z .domain) (z .sents) (z .taken) (omega (arith, ap longest (z .are)))))
+      (handed-all (w .groups) big (omega arith))
       rooms-of (λ i. record { gather = p .gather-room; out = p .out-room i }) start refl
       (w .arrivals) (wasAccepted w) (acceptedCalls [] (w .arrivals))
       (plain-follows (w .first) (payloads w) [] (List ℕ) (w .arrivals) (p .first) (p .window))

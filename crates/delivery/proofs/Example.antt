@@ -17,18 +17,17 @@ use Rattle.packet.specs.Read.{PacketReading, readPacket}
 use Rattle.packet.specs.Write.{payloadOctets, packetOctets}
 use Rattle.packet.specs.Plain.{plainPacket}
 use Rattle.annexb.specs.Units.{units, unitsAt}
-use Rattle.h264_put.specs.Groups.{keep, stapA, pairFor, unitFor, groupsFor}
+use Rattle.h264_put.specs.Groups.{nothingSaved, keep, stapA, fragment, pairFor, unitFor, groupsFor}
 use Rattle.nal_read.specs.Kind.{shape}
 use Rattle.nal_read.specs.Unpack.{unpackTurn, unpack}
 use Rattle.nal.specs.Fed.{layBytes, layFed}
 use Rattle.sequence.specs.Arrival.{Arrival, ours, other, Window}
 use Rattle.joiner_feed.specs.Codec.{feed}
 use Rattle.joiner.specs.Join.{Stepped, bySource, joinStep, closeStep, opened}
-use Rattle.joiner.specs.Sent.{fuA}
-use Rattle.joiner.specs.Sent as sent
 use Rattle.delivery.specs.Play.{ourJoiner, isAccepted, handedOut, played, closing}
 use Rattle.delivery.specs.Demand.{Foreign, OthersForeign}
 use Rattle.delivery.specs.Frames.{Sending, showOf, SendingPremises}
+use Rattle.delivery.specs.Calls.{Lent, LentEnough}
 
 -- a packet of source 9
 unfoldable pub stranger : List ℕ
@@ -68,20 +67,23 @@ of-another r e same = let nine : 9 ≡ r .fields .source = ap source-of e in ome
     source-of (refused x) = 0
 
 pub nine-premises : (arrivals : List (Arrival (List ℕ))) → OthersForeign 3 arrivals → Window 9 0 arrivals → SendingPremises (nine arrivals)
-unfolding nine units unitsAt keep stapA pairFor unitFor groupsFor sent.stapA fuA be16
+unfolding nine units unitsAt keep stapA pairFor unitFor groupsFor fragment be16
 nine-premises arrivals foreign window =
     record {
       frames = omega arith;
       mtu-low = omega arith;
       mtu-high = omega arith;
-      few = omega arith;
-      gather-room = omega arith;
-      out-room = λ i. omega arith;
-      source = omega arith;
-      first = omega arith;
-      stamps = λ i. record { type = omega arith; time = omega arith };
-      foreign = foreign;
-      window = window;
+      received =
+          record {
+            few = omega arith;
+            gather-room = omega arith;
+            out-room = λ i. omega arith;
+            source = omega arith;
+            first = omega arith;
+            stamps = λ i. record { type = omega arith; time = omega arith };
+            foreign = foreign;
+            window = window;
+          };
     }
 
 pub premises : SendingPremises show
@@ -111,5 +113,23 @@ pub outcome : Outcome
     (true ∷ false ∷ false ∷ true ∷ false ∷ true ∷ true ∷ true ∷ true ∷ true ∷ [])
     (pairOut ∷ joinedOut ∷ lastOut ∷ [])
     2
-unfolding show nine stranger units unitsAt keep stapA pairFor unitFor groupsFor sent.stapA fuA joinStep closeStep bySource feed shape unpack unpackTurn run layFed layBytes splice readPacket readHeader readFixed fieldsAt u16At u32At plainPacket packetOctets payloadOctets octetsOf fixedFor be16 be32 opened
+unfolding show nine stranger units unitsAt keep stapA pairFor unitFor groupsFor fragment joinStep closeStep bySource feed shape unpack unpackTurn run layFed layBytes splice readPacket readHeader readFixed fieldsAt u16At u32At plainPacket packetOctets payloadOctets octetsOf fixedFor be16 be32 opened
 outcome = record { accepts-these = refl; hands-out = refl; misses = refl }
+
+-- ---- its calls answer
+
+-- an output of 90 bytes and a table of three ends for each call
+abbrev pub lentTo : ℕ → Lent
+lentTo i = record { out = replicate 90 0; ends = replicate 3 0 }
+
+pub lent-enough : LentEnough (show .mtu) nothingSaved lentTo (show .frames)
+unfolding show nine units unitsAt keep stapA pairFor unitFor groupsFor fragment be16
+lent-enough = (
+  (refl, (refl, (refl, tt))),
+  record { bytes = omega arith; places = omega arith },
+  (
+    (refl, tt),
+    record { bytes = omega arith; places = omega arith },
+    ((refl, tt), record { bytes = omega arith; places = omega arith }, ((refl, tt), record { bytes = omega arith; places = omega arith }, tt)),
+  ),
+)

@@ -5,26 +5,18 @@ use mathlib.Core.Bool.{false}
 use mathlib.Core.List.{List, map}
 use Prim.Native.Nat.{ℕ}
 use Rattle.nal.specs.Fed.{prefixed}
-use Rattle.sequence.specs.Arrival.{Arrival, Window}
+use Rattle.sequence.specs.Arrival.{Arrival, accepted, never, Window}
 use Rattle.sequence.specs.Group.{handedOf}
 use Rattle.sequence.proofs.InOrder.{inOrder, in-order-within, in-order-accepted}
-use Rattle.joiner.specs.Sent.{groupsOf}
 use Rattle.delivery.specs.Show.{Show, count}
 use Rattle.delivery.specs.Play.{ourJoiner, handedOut, played}
-use Rattle.delivery.specs.Demand.{Premises, Delivered}
-use Rattle.delivery.proofs.Main.{any-sender}
+use Rattle.delivery.specs.Demand.{Delivered}
 
 -- "Window", for every n
 pub window : (n : ℕ) → Window {B = List ℕ} n 0 (inOrder 0 n)
 window n = in-order-within (List ℕ) n
 
-pub all-handed-out : (w : Show) → Premises w → w .arrivals ≡ inOrder 0 (count w) →
-    handedOut (played ourJoiner w) ≡ map (prefixed false) (handedOf (groupsOf (w .groups)))
-all-handed-out w p e =
-    d .complete (d .counts ∙ ap (λ (l : List (Arrival (List ℕ))). never-in l) e ∙ in-order-accepted (List ℕ) (count w))
-  where
-    d : Delivered ourJoiner w
-    d = any-sender w p
-
-    never-in : List (Arrival (List ℕ)) → ℕ
-    never-in l = Rattle.sequence.specs.Arrival.never (Rattle.sequence.specs.Arrival.accepted l) 0 (count w)
+pub all-handed-out : (w : Show) → Delivered ourJoiner w → w .arrivals ≡ inOrder 0 (count w) →
+    handedOut (played ourJoiner w) ≡ map (prefixed false) (handedOf (w .groups))
+all-handed-out w d e =
+    d .complete (d .counts ∙ ap (λ (l : List (Arrival (List ℕ))). never (accepted l) 0 (count w)) e ∙ in-order-accepted (List ℕ) (count w))

@@ -1,7 +1,12 @@
 pub mod Playing
+pub mod Owing
 pub mod Delivering
+pub mod Accepted
 pub mod Sending
+pub mod Calls
+pub mod AnySender
 pub mod Example
+pub mod ExampleStream
 pub mod Wrong
 pub mod Main
 pub mod InOrder

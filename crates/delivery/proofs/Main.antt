@@ -2,59 +2,89 @@
 -- groups all of whose packets it accepted, in order and once each; it knows how many packets it missed; and with none missed it
 -- handed out everything that was sent. Assumes nothing.
 --
--- `Sending` is frames, a sender's choices, the buffers and what arrives; `SendingPremises` is what the paper asks of it. `showOf` has
--- the groups that a fresh sender sends for the frames. A `Machine` is any joiner: how it is opened, its call and its closing; `ourJoiner` is
--- `opened`, `joinStep` and `closeStep`, which the contracts of the joiner's code cite. `Delivered` is the five parts (a) to (e) over a
--- machine's calls (`played`) and its `closing`.
+-- The words. A `Show` is the groups sent, each its payloads and the units that it is handed out as; the source, the first number and the
+-- stamps that its packets bear; the buffers; and what arrives, a packet of ours by its index or any other bytes. `Received` is what the paper
+-- asks of numbers, room and channel. A `Sending` is frames for a fresh sender, `showOf` the show of them, `SendingPremises` what the paper asks
+-- of it. A `Stream` is sendings of RFC 6184, of whatever sender. A `Machine` is any joiner: how it is opened, its call and its closing;
+-- `ourJoiner` is `opened`, `joinStep` and `closeStep`, which the contracts of the joiner's code cite. `Delivered` is the five parts (a) to (e)
+-- over a machine's calls (`played`) and its `closing`.
 use mathlib.Core.Path.{_≡_}
-use mathlib.Core.Bool.{true}
-use mathlib.Core.List.{List}
+use mathlib.Core.Bool.{true, false}
+use mathlib.Core.List.{List, _∷_, _++_, map}
 use mathlib.Core.Logic.{_↔_}
 use Prim.Native.Nat.{ℕ, _<_}
+use lib.ListN.{length, getD}
+use Rattle.wire.specs.Each.{Each}
+use Rattle.rfc6184.specs.Sending.{payloadsOfAll}
+use Rattle.rfc6184.specs.Sending as rfc
 use Rattle.h264_put.specs.Groups.{nothingSaved, packetsOf}
-use Rattle.h264.specs.Payload.{layOut}
 use Rattle.h264.specs.Frames.{groupsSent}
-use Rattle.sequence.specs.Arrival.{Arrival, ours, isAccepted}
-use Rattle.sequence.proofs.Accepting.{Arrived, accepted-sentence}
+use Rattle.sequence.specs.Arrival.{Arrival, ours}
+use Rattle.sequence.proofs.Accepting.{Arrived}
+use Rattle.joiner.specs.Join.{Stepped}
 use Rattle.delivery.specs.Show.{Show, payloads}
-use Rattle.delivery.specs.Play.{Machine, ourJoiner}
-use Rattle.delivery.specs.Demand.{Premises, Delivered}
-use Rattle.delivery.specs.Frames.{Sending, showOf, SendingPremises, Delivers, Lent, sending, NoneRefused, written}
+use Rattle.delivery.specs.Play.{Machine, ourJoiner, isAccepted, played}
+use Rattle.delivery.specs.Demand.{Delivered}
+use Rattle.delivery.specs.Frames.{Sending, showOf, SendingPremises, Delivers}
+use Rattle.delivery.specs.Calls.{Lent, NoneRefused, callsFor, LentEnough, FromTheCalls}
+use Rattle.delivery.specs.AnySender.{Stream, streamShow, Ruled, StreamPremises}
 use Rattle.delivery.specs.Wrong.{Silent, Advancing, Inventing}
 use Rattle.delivery.proofs.Delivering.{all-delivered}
-use Rattle.delivery.proofs.Sending.{premises-met, same-packets, calls-send}
-use Rattle.delivery.proofs.Example.{show, premises}
+use Rattle.delivery.proofs.Accepted.{accepted-exactly}
+use Rattle.delivery.proofs.Sending.{sent-show, same-packets}
+use Rattle.delivery.proofs.Calls as calls
+use Rattle.delivery.proofs.AnySender.{stream-show, lawful-ruled, stream-payloads}
+use Rattle.delivery.proofs.Example.{show, premises, lentTo, lent-enough}
+use Rattle.delivery.proofs.ExampleStream.{stream, stream-premises}
 use Rattle.delivery.proofs.Wrong as wrong
 
 -- frames through a fresh sender
 pub demand-3 : (x : Sending) → SendingPremises x → Delivered ourJoiner (showOf x)
-demand-3 x p = all-delivered (showOf x) (premises-met x p)
+demand-3 x p = all-delivered (showOf x) (p .received) (sent-show x p)
 
--- groups of any sender by RFC 6184, whatever F and NRI its STAP-As and fragments have; by `Lawful` no plain unit has under 3 bytes, and no
--- fragment is empty
-pub any-sender : (w : Show) → Premises w → Delivered ourJoiner w
-any-sender w p = all-delivered w p
+-- The same from the calls on, end to end. Where none of a fresh sender's calls is refused: what they wrote, cut at the ends that they wrote, is
+-- the show's payloads; the packet writer makes each, with its number, stamp and source, into the show's packet; and of the packets that it
+-- wrote, over the channel, the joiner hands out what demand 3 says.
+pub FROM-THE-CALLS : (x : Sending) → SendingPremises x → (lent : ℕ → Lent) → NoneRefused (callsFor x lent) → FromTheCalls x lent
+FROM-THE-CALLS = calls.from-the-calls
 
--- "a packet is accepted exactly when its index is above every index that arrived before it; this, read off the arrivals alone, is
--- what demand 3 means by accepted"
-pub accepted-means : (i : ℕ) (before : List (Arrival (List ℕ))) →
-    (isAccepted before (ours i) ≡ true) ↔ ((j : ℕ) → Arrived j before → j < i)
-accepted-means i before = accepted-sentence i before
+-- None of its calls is refused where each is lent room for its frame's packets, and no parameter set is over 1,024 bytes.
+pub CALLS-ANSWER : (x : Sending) → SendingPremises x → (lent : ℕ → Lent) → LentEnough (x .mtu) nothingSaved lent (x .frames) → NoneRefused (callsFor x lent)
+CALLS-ANSWER = calls.calls-answer
 
--- the payloads of the show are those of the sender's definition, in order
+-- The payloads of the show are those of the sender's definition, in order.
 pub payloads-sent : (x : Sending) → payloads (showOf x) ≡ packetsOf (groupsSent (x .mtu) (x .frames))
 payloads-sent x = same-packets (groupsSent (x .mtu) (x .frames))
 
--- and where no call of a fresh sender is refused, they are what its calls have written
-pub calls-write : (mtu : ℕ) (lent : ℕ → Lent) (frames : List (List ℕ)) → NoneRefused (sending (layOut nothingSaved) mtu lent frames) →
-    sending (layOut nothingSaved) mtu lent frames ≡ written mtu nothingSaved lent frames
-calls-write mtu lent frames w = calls-send mtu nothingSaved lent frames w
+-- Sendings of RFC 6184 by any sender, as crate rfc6184 has them: single units, STAP-As with any F and NRI, and units in fragments with any F. No
+-- single unit is shorter than 3 bytes, but for an access unit delimiter of 2; no fragment is empty.
+pub any-sender : (y : Stream) → StreamPremises y → Delivered ourJoiner (streamShow y)
+any-sender y p = all-delivered (streamShow y) (p .received) (stream-show y p)
+
+-- Whatever is lawful by RFC 6184 keeps what is asked of its fields.
+pub lawful-sender : (ss : List rfc.Sending) → Each rfc.Lawful ss → Each rfc.FormedSending ss × Each Ruled ss
+lawful-sender = lawful-ruled
+
+-- The payloads of its show are those that the RFC has for the sendings, in order.
+pub payloads-streamed : (y : Stream) → payloads (streamShow y) ≡ payloadsOfAll (y .sendings)
+payloads-streamed y = stream-payloads (y .sendings)
+
+-- "Under these premises a packet is accepted exactly when its index is above every index that arrived before it; this, read off the
+-- arrivals alone, is what demand 3 means by accepted."
+pub accepted-means : (m : Machine) (w : Show) → Delivered m w → (before later : List (Arrival (List ℕ))) (i : ℕ) → w .arrivals ≡ before ++ (ours i ∷ later) →
+    (getD (map (λ (st : Stepped). isAccepted (st .answer)) (played m w)) (length before) false ≡ true) ↔ ((j : ℕ) → Arrived j before → j < i)
+accepted-means = accepted-exactly
 
 -- ---- it is about something, and it tells joiners apart
 
--- a show with a loss, a repeat, a reordering, a wrap of the number and a packet of another source meets the premises
-pub show-delivered : Delivered ourJoiner (showOf show)
-show-delivered = demand-3 show premises
+-- a show with a loss, a repeat, a reordering, a wrap of the number and a packet of another source meets the premises, its calls are not
+-- refused ..
+pub show-delivered : FromTheCalls show lentTo
+show-delivered = FROM-THE-CALLS show premises lentTo (CALLS-ANSWER show premises lentTo lent-enough)
+
+-- .. and so does a stream with an access unit delimiter, an STAP-A and a unit with F set in fragments
+pub stream-delivered : Delivered ourJoiner (streamShow stream)
+stream-delivered = any-sender stream stream-premises
 
 -- `Delivers m` is demand 3 of the joiner m. It "defeats a joiner that hands out nothing" ..
 pub NO-SILENT-JOINER : (m : Machine) → Silent m → Delivers m → ⊥

@@ -1,34 +1,37 @@
--- What a fresh sender sends for frames is a show that meets the premises: the sender's theorems say that its groups can be sent and
+-- What a fresh sender sends for frames is a show that the joiner can take: the sender's theorems say that its groups can be sent and
 -- carry the frames' units, and no unit is longer than its frame. Assumes nothing.
-use mathlib.Core.Path.{_≡_, refl, sym, ap, ap₂, subst, _∙_}
-use mathlib.Core.Bool.{Bool, true, false}
+use mathlib.Core.Path.{_≡_, refl, sym, ap, ap₂, subst}
 use mathlib.Core.List.{List, [], _∷_, _++_, map, append-nil}
-use Prim.Native.Nat.{ℕ, suc, _+_, _-_, _*_, _/_, _%_, _≤_}
+use Prim.Native.Nat.{ℕ, _+_, _-_, _*_, _/_, _%_, _≤_}
 use native.Mathlib.Omega.{arith}
 use lib.ListN.{length}
-use Rattle.error.specs.Said.{says}
 use Rattle.wire.specs.Each.{Each}
 use Rattle.wire.specs.Net.{be16}
+use Rattle.wire.specs.Packets.{joined}
 use Rattle.wire.proofs.Each.{each-append, each-by, each-map}
-use Rattle.h264.specs.declared.send.H264Payloader.{H264Payloader}
-use Rattle.annexb.specs.Units.{units, unitsAt}
+use Rattle.annexb.specs.Units.{unitsAt}
 use Rattle.h264_put.specs.Groups.{Saved, Group, pair, plain, fragments, keepAll, groupsOf, stapA, fragment, packetsOfGroup, packetsOf}
 use Rattle.h264.specs.Conformance.{Divided, Sendable, unitsIn}
-use Rattle.h264.specs.Payload.{Counts, Left, layOut, savedIn, outside, overLimit, tooSmall, refusedWith, sentAs, leftBy, payloadOf}
 use Rattle.h264.specs.Frames.{groupsFrom, groupsSent}
 use Rattle.h264.proofs.Fits.{sendable, fits}
 use Rattle.h264.proofs.FrameUnits.{those-short}
 use Rattle.h264.proofs.LeftOut.{left-out}
 use Rattle.h264_put.proofs.Sizes.{packets-append}
-use Rattle.h264.proofs.State.{saved-laid}
-use Rattle.error.proofs.Refusing.{not-says}
 use Rattle.sequence.specs.Group.{packetsIn}
 use Rattle.sequence.specs.Group as any
-use Rattle.joiner.specs.Sent.{Lawful, NoneEmpty, PlainUnit, groupOf, gatheredOf, fuA}
+use Rattle.joiner.specs.Sent.{Sent, aggregated, alone, fragmented, Lawful, NoneEmpty, PlainUnit, groupOf, gatheredOf, fuA}
 use Rattle.joiner.specs.Sent as sent
-use Rattle.delivery.specs.Show.{longest}
-use Rattle.delivery.specs.Demand.{AllShort, Premises}
-use Rattle.delivery.specs.Frames.{sentOf, Sending, showOf, FrameOk, SendingPremises, Lent, sending, NoneRefused, written}
+use Rattle.delivery.specs.Show.{payloads}
+use Rattle.delivery.specs.Frames.{groupSent, Sending, showOf, FrameOk, SendingPremises}
+use Rattle.delivery.proofs.Owing.{Taken, lawful-taken, longest-within}
+use Rattle.delivery.proofs.Delivering.{AllShort}
+use Rattle.delivery.proofs.Delivering as delivering
+
+-- a group of the sender's as one of the joiner's: "STAP-A (0x78)"; its fragments have F 0, whatever the unit's is
+abbrev sentOf : Group → Sent
+sentOf (pair sps pps) = aggregated 0x78 sps (pps ∷ [])
+sentOf (plain unit) = alone unit
+sentOf (fragments head first middle last) = fragmented (head % 128) first middle last
 
 -- ---- the units that go out
 
@@ -45,7 +48,7 @@ none-empty : (size : ℕ) → 1 ≤ size → (parts : List (List ℕ)) → Each 
 none-empty size h parts w =
     each-by (λ (p : List ℕ). 1 ≤ length p) (λ (p : List ℕ). length p ≡ size) (λ p e. omega (arith, e)) parts w
 
-fine-groups : (mtu : ℕ) → mtu ≤ 65523 → (gs : List Group) → Each (Sendable mtu) gs → Each Good (unitsIn gs) → Each Fine gs
+fine-groups : (mtu : ℕ) → mtu ≤ 65535 → (gs : List Group) → Each (Sendable mtu) gs → Each Good (unitsIn gs) → Each Fine gs
 fine-groups mtu m [] w good = tt
 fine-groups mtu m (pair sps pps ∷ gs) w good =
     (((refl, (omega (arith, w .0 .2), (omega (arith, w .0 .2), tt))), omega arith), fine-groups mtu m gs (w .1) good)
@@ -57,13 +60,13 @@ fine-groups mtu m (fragments head first middle last ∷ gs) w good =
       fine-groups mtu m gs (w .1) (good .1),
     )
 
-frame-fine : (mtu : ℕ) (v : Saved) (frame : List ℕ) → mtu ≤ 65523 → FrameOk mtu frame → Each Fine (groupsOf mtu v (unitsAt mtu frame))
+frame-fine : (mtu : ℕ) (v : Saved) (frame : List ℕ) → mtu ≤ 65535 → FrameOk mtu frame → Each Fine (groupsOf mtu v (unitsAt mtu frame))
 frame-fine mtu v frame m ok =
     fine-groups mtu m (groupsOf mtu v (unitsAt mtu frame)) (sendable mtu v (unitsAt mtu frame))
     (subst (Each Good) (sym (left-out mtu v (unitsAt mtu frame)))
     (those-short PlainUnit mtu 16777216 frame (ok .short) (ok .units)))
 
-all-fine : (mtu : ℕ) (v : Saved) (frames : List (List ℕ)) → mtu ≤ 65523 → Each (FrameOk mtu) frames → Each Fine (groupsFrom mtu v frames)
+all-fine : (mtu : ℕ) (v : Saved) (frames : List (List ℕ)) → mtu ≤ 65535 → Each (FrameOk mtu) frames → Each Fine (groupsFrom mtu v frames)
 all-fine mtu v [] m ok = tt
 all-fine mtu v (frame ∷ frames) m ok =
     each-append Fine (groupsOf mtu v (unitsAt mtu frame)) (groupsFrom mtu (keepAll v (unitsAt mtu frame)) frames)
@@ -80,29 +83,33 @@ all-fit mtu v (frame ∷ frames) =
 
 -- ---- as a show
 
-lawful-all : (gs : List Group) → Each Fine gs → Each Lawful (map sentOf gs)
-lawful-all gs w = each-map Lawful sentOf gs (each-by (λ (g : Group). Lawful (sentOf g)) Fine (λ g w. w .0) gs w)
+same-group : (g : Group) → groupSent g ≡ groupOf (sentOf g)
+unfolding stapA fragment sent.stapA fuA
+same-group (pair sps pps) =
+    ap (λ (l : List ℕ). record { first = 0x78 ∷ (be16 (length sps) ++ (sps ++ (be16 (length pps) ++ l))); others = []; handed = sps ∷ pps ∷ [] })
+    (sym (append-nil pps))
+same-group (plain unit) = refl
+same-group (fragments head first middle last) =
+    let indicator : head / 32 % 4 * 32 + 28 ≡ head % 128 / 32 % 8 * 32 + 28 = omega arith in
+    let type : head % 32 ≡ head % 128 % 32 = omega arith in
+    let clear : head % 128 ≡ head % 128 % 128 = omega arith in
+    λ i. record {
+      first = indicator i ∷ (128 + type i) ∷ first;
+      others = map (λ (p : List ℕ). indicator i ∷ (0 + type i) ∷ p) middle ++ ((indicator i ∷ (64 + type i) ∷ last) ∷ []);
+      handed = (clear i ∷ (first ++ (joined middle ++ last))) ∷ [];
+    }
 
-longest-bound : (gs : List Group) → Each Fine gs → longest (map sentOf gs) ≤ 16777215
-longest-bound [] w = omega arith
-longest-bound (g ∷ gs) w = let rec : longest (map sentOf gs) ≤ 16777215 = longest-bound gs (w .1) in omega (arith, w .0 .1)
-
-short-all : (mtu : ℕ) → mtu ≤ 65523 → (ps : List (List ℕ)) → Each (λ (p : List ℕ). length p ≤ mtu) ps → AllShort ps
-short-all mtu m ps w =
-    each-by (λ (p : List ℕ). length p ≤ 65523) (λ (p : List ℕ). length p ≤ mtu) (λ p h. omega (arith, h)) ps w
+same-groups : (gs : List Group) → map groupSent gs ≡ sent.groupsOf (map sentOf gs)
+same-groups [] = refl
+same-groups (g ∷ gs) = ap₂ (λ (x : any.Group _ _) (xs : List (any.Group _ _)). x ∷ xs) (same-group g) (same-groups gs)
 
 -- the same packets
-same-packets-in : (g : Group) → packetsIn (groupOf (sentOf g)) ≡ packetsOfGroup g
-unfolding stapA fragment sent.stapA fuA
-same-packets-in (pair sps pps) =
-    ap (λ (l : List ℕ). (0x78 ∷ (be16 (length sps) ++ (sps ++ (be16 (length pps) ++ l)))) ∷ []) (append-nil pps)
+same-packets-in : (g : Group) → packetsIn (groupSent g) ≡ packetsOfGroup g
+same-packets-in (pair sps pps) = refl
 same-packets-in (plain unit) = refl
-same-packets-in (fragments head first middle last) =
-    let indicator : head % 128 / 32 % 8 * 32 + 28 ≡ head / 32 % 4 * 32 + 28 = omega arith in
-    let type : head % 128 % 32 ≡ head % 32 = omega arith in
-    ap₂ (λ (i t : ℕ). (i ∷ (128 + t) ∷ first) ∷ (map (λ (p : List ℕ). i ∷ (0 + t) ∷ p) middle ++ ((i ∷ (64 + t) ∷ last) ∷ []))) indicator type
+same-packets-in (fragments head first middle last) = refl
 
-pub same-packets : (gs : List Group) → any.packetsOf (sent.groupsOf (map sentOf gs)) ≡ packetsOf gs
+pub same-packets : (gs : List Group) → any.packetsOf (map groupSent gs) ≡ packetsOf gs
 same-packets [] = refl
 same-packets (g ∷ gs) = ap₂ (λ (l r : List (List ℕ)). l ++ r) (same-packets-in g) (same-packets gs)
 
@@ -111,60 +118,23 @@ module _ (x : Sending) (p : SendingPremises x) where
   gs = groupsSent (x .mtu) (x .frames)
 
   fine : Each Fine gs
-  fine = all-fine (x .mtu) _ (x .frames) (p .mtu-high) (p .frames)
+  fine = all-fine (x .mtu) _ (x .frames) (omega (arith, p .mtu-high)) (p .frames)
 
-  pub premises-met : Premises (showOf x)
-  premises-met =
+  pub short-payloads : AllShort (payloads (showOf x))
+  short-payloads =
+      subst AllShort (sym (same-packets gs))
+      (each-by (λ (s : List ℕ). length s ≤ 65523) (λ (s : List ℕ). length s ≤ x .mtu) (λ s h. omega (arith, h, p .mtu-high)) (packetsOf gs)
+      (all-fit (x .mtu) _ (x .frames)))
+
+  pub sent-show : delivering.Sendable (showOf x)
+  sent-show =
       record {
-        lawful = lawful-all gs fine;
-        short =
-            subst AllShort (sym (same-packets gs))
-            (short-all (x .mtu) (p .mtu-high) (packetsOf gs) (all-fit (x .mtu) _ (x .frames)));
-        few = p .few;
-        domain = longest-bound gs fine;
-        gather-room = p .gather-room;
-        out-room = p .out-room;
-        source = p .source;
-        first = p .first;
-        stamps = p .stamps;
-        foreign = p .foreign;
-        window = p .window;
+        sents = map sentOf gs;
+        are = same-groups gs;
+        taken = each-map Taken sentOf gs (each-by (λ (g : Group). Taken (sentOf g)) Fine (λ g w. lawful-taken (sentOf g) (w .0)) gs fine);
+        short = short-payloads;
+        domain =
+            rw (same-groups gs)
+            (longest-within 16777215 (map sentOf gs)
+            (each-map (λ (s : Sent). gatheredOf s ≤ 16777215) sentOf gs (each-by (λ (g : Group). gatheredOf (sentOf g) ≤ 16777215) Fine (λ g w. w .1) gs fine)));
       }
-
--- ---- the sender's calls
-
--- a call that is not refused has passed its tests
-not-refused : (outside long small : Bool) (h : H264Payloader) (out ends : List ℕ) (answer : Left) →
-    (c : Counts) × (leftBy outside long small (refusedWith 8 h out ends) (refusedWith 7 h out ends) (refusedWith 5 h out ends) answer .answer ≡ says c) →
-    leftBy outside long small (refusedWith 8 h out ends) (refusedWith 7 h out ends) (refusedWith 5 h out ends) answer ≡ answer
-not-refused true long small h out ends answer w = absurd (not-says (w .1))
-not-refused false true small h out ends answer w = absurd (not-says (w .1))
-not-refused false false true h out ends answer w = absurd (not-says (w .1))
-not-refused false false false h out ends answer w = refl
-
-call-sends : (mtu : ℕ) (v : Saved) (frame out ends : List ℕ) → (c : Counts) × (payloadOf (layOut v) mtu frame out ends .answer ≡ says c) →
-    payloadOf (layOut v) mtu frame out ends
-    ≡ sentAs (keepAll v (unitsAt mtu frame)) (packetsOf (groupsOf mtu v (unitsAt mtu frame))) out ends
-unfolding payloadOf
-call-sends mtu v frame out ends w =
-    not-refused (outside (layOut v) mtu frame) (overLimit (unitsAt mtu frame))
-    (tooSmall (packetsOf (groupsOf mtu (savedIn (layOut v)) (unitsAt mtu frame))) out ends) (layOut v) out ends (as-saved (savedIn (layOut v))) w
-    ∙ ap as-saved (saved-laid v)
-  where
-    as-saved : Saved → Left
-    as-saved v = sentAs (keepAll v (unitsAt mtu frame)) (packetsOf (groupsOf mtu v (unitsAt mtu frame))) out ends
-
--- where none is refused, each call has written the packets of the groups
-pub calls-send : (mtu : ℕ) (v : Saved) (lent : ℕ → Lent) (frames : List (List ℕ)) → NoneRefused (sending (layOut v) mtu lent frames) →
-    sending (layOut v) mtu lent frames ≡ written mtu v lent frames
-calls-send mtu v lent [] w = refl
-calls-send mtu v lent (frame ∷ frames) w =
-    let e : payloadOf (layOut v) mtu frame (lent 0 .out) (lent 0 .ends)
-    ≡ sentAs (keepAll v (unitsAt mtu frame)) (packetsOf (groupsOf mtu v (unitsAt mtu frame))) (lent 0 .out) (lent 0 .ends) =
-    call-sends mtu v frame (lent 0 .out) (lent 0 .ends) (w .0) in
-    let next : payloadOf (layOut v) mtu frame (lent 0 .out) (lent 0 .ends) .sender ≡ layOut (keepAll v (unitsAt mtu frame)) =
-    ap (λ (l : Left). l .sender) e in
-    ap₂ (λ (l : Left) (ls : List Left). l ∷ ls) e
-    (ap (λ (h : H264Payloader). sending h mtu (λ i. lent (suc i)) frames) next
-    ∙ calls-send mtu (keepAll v (unitsAt mtu frame)) (λ i. lent (suc i)) frames
-    (subst (λ (h : H264Payloader). NoneRefused (sending h mtu (λ i. lent (suc i)) frames)) next (w .1)))

@@ -17,13 +17,11 @@ use Rattle.header.specs.Write.{octetsOf}
 use Rattle.packet.specs.Write.{payloadOctets, packetOctets}
 use Rattle.packet.specs.Plain.{plainPacket}
 use Rattle.annexb.specs.Units.{units, unitsAt}
-use Rattle.h264_put.specs.Groups.{keep, stapA, pairFor, unitFor, groupsFor}
+use Rattle.h264_put.specs.Groups.{keep, stapA, fragment, pairFor, unitFor, groupsFor}
 use Rattle.sequence.specs.Arrival.{Arrival}
 use Rattle.sequence.proofs.InOrder.{inOrder, in-order-within}
 use Rattle.joiner.specs.declared.Joiner.{Joiner}
 use Rattle.joiner.specs.Join.{Answer, accepted, late, Stepped}
-use Rattle.joiner.specs.Sent.{fuA}
-use Rattle.joiner.specs.Sent as sent
 use Rattle.delivery.specs.Show.{packet}
 use Rattle.delivery.specs.Play.{Machine, steps, handedIn, handedOut, arriving, played, closing}
 use Rattle.delivery.specs.Frames.{showOf, Delivers}
@@ -33,7 +31,7 @@ use Rattle.delivery.proofs.Example.{nine, show, stranger, nine-premises
 -- ---- what must be handed out
 
 handed : (m : Machine) → Delivers m → handedOut (played m (showOf show)) ≡ pairOut ∷ joinedOut ∷ lastOut ∷ []
-unfolding show nine units unitsAt keep stapA pairFor unitFor groupsFor sent.stapA fuA be16
+unfolding show nine units unitsAt keep stapA pairFor unitFor groupsFor fragment be16
 handed m d = d show premises .handsOut
 
 pub no-silent-joiner : (m : Machine) → Silent m → Delivers m → ⊥
@@ -78,7 +76,7 @@ second Short x y zs front back e (inr one) w =
 
 -- no packet of the show is longer than 42 bytes
 packets-few : Each (λ (b : List ℕ). 2 * length b ≤ 84) (drop 1 (arriving (showOf show)))
-unfolding show nine stranger units unitsAt keep stapA pairFor unitFor groupsFor sent.stapA fuA plainPacket packetOctets payloadOctets octetsOf fixedFor be16 be32
+unfolding show nine stranger units unitsAt keep stapA pairFor unitFor groupsFor fragment plainPacket packetOctets payloadOctets octetsOf fixedFor be16 be32
 packets-few = omega arith
 
 pub no-advancer : (m : Machine) → Advancing m → Delivers m → ⊥
@@ -96,7 +94,7 @@ no-advancer m own d =
 -- ---- the missed total
 
 pub no-invented-total : (m : Machine) → Inventing m → Delivers m → ⊥
-unfolding show nine units unitsAt keep stapA pairFor unitFor groupsFor sent.stapA fuA be16
+unfolding show nine units unitsAt keep stapA pairFor unitFor groupsFor fragment be16
 no-invented-total m same d =
     let all : List (Arrival (List ℕ)) = inOrder 0 9 in
     let two : closing m (showOf show) .joiner .missed ≡ 2 = d show premises .counts in

@@ -1,4 +1,4 @@
--- Demand 3: its premises, in the paper's words, and what follows. Assumes nothing.
+-- Demand 3: its premises on numbers, room and channel, in the paper's words, and what follows. Assumes nothing.
 use mathlib.Core.Path.{_≡_}
 use mathlib.Core.Bool.{Bool, true, false}
 use mathlib.Core.List.{List, [], _∷_, map}
@@ -13,9 +13,8 @@ use Rattle.sequence.specs.Arrival.{Arrival, ours, other, acceptedCalls, accepte
 use Rattle.sequence.specs.Group.{wholeOf, handedOf}
 use Rattle.sequence.specs.Joiner.{isOther}
 use Rattle.joiner.specs.Join.{Accepted, Stepped}
-use Rattle.joiner.specs.Sent.{Lawful, groupsOf}
-use Rattle.delivery.specs.Show.{Show, payloads, count, longest, largest}
-use Rattle.delivery.specs.Play.{Machine, isAccepted, isRefused, handedOut, played, closing}
+use Rattle.delivery.specs.Show.{Show, count, longest, largest}
+use Rattle.delivery.specs.Play.{Machine, isAccepted, isRefused, handedOut, playedOn, closingOn, arriving}
 
 -- ---- the premises
 
@@ -28,19 +27,10 @@ OthersForeign source [] = Unit {0}
 OthersForeign source (ours i ∷ later) = OthersForeign source later
 OthersForeign source (other bytes ∷ later) = Foreign source bytes × OthersForeign source later
 
--- "mtu 3 to 65,523", and "Every packet fits the mtu"
-abbrev pub AllShort : List (List ℕ) → Type 0
-AllShort = Each (λ (s : List ℕ). length s ≤ 65523)
-
-pub record Premises (w : Show) : Type 0 where
-  -- "units .. of type 1 to 23, of 3 bytes or more": each group is a STAP-A, a plain unit or the fragments of one
-  pub lawful : Each Lawful (w .groups)
-  -- "mtu 3 to 65,523", and "Every packet fits the mtu"
-  pub short : AllShort (payloads w)
+-- numbers, room and channel, whatever was sent
+pub record Received (w : Show) : Type 0 where
   -- "n at most 4,294,967,295"
   pub few : count w ≤ 4294967295
-  -- "frames up to 16,777,216": the longest unit less one byte
-  pub domain : longest (w .groups) ≤ 16777215
   -- "Room: gather for the longest unit less one byte"
   pub gather-room : longest (w .groups) ≤ length (w .gather)
   -- "output for the largest group as handed out, prefixes included"
@@ -70,19 +60,22 @@ missed w = never (wasAccepted w) 0 (count w)
 abbrev pub Within : ℕ → List Stepped → Type 0
 Within room = Each (λ (st : Stepped). (st .joiner .gathered ≤ room) × (length (st .gather) ≡ room))
 
--- demand 3 of the joiner m and the show w
-pub record Delivered (m : Machine) (w : Show) : Type 0 where
+-- demand 3 of the joiner m and the show w, of which these bytes arrive
+pub record DeliveredOn (m : Machine) (w : Show) (bytes : List (List ℕ)) : Type 0 where
   -- (a) call by call, a packet is accepted "exactly when its index is above every index that arrived before it"
-  pub accepts : map (λ (st : Stepped). isAccepted (st .answer)) (played m w) ≡ acceptedCalls [] (w .arrivals)
+  pub accepts : map (λ (st : Stepped). isAccepted (st .answer)) (playedOn m w bytes) ≡ acceptedCalls [] (w .arrivals)
   -- (b) what is handed out, in order, is exactly the sent groups all of whose packets were accepted, once each
-  pub handsOut : handedOut (played m w) ≡ map (prefixed false) (wholeOf (wasAccepted w) 0 (groupsOf (w .groups)))
+  pub handsOut : handedOut (playedOn m w bytes) ≡ map (prefixed false) (wholeOf (wasAccepted w) 0 (w .groups))
   -- (c) closing is not refused, and the missed total is the number of packets never accepted
   pub answer : Accepted
-  pub closes : closing m w .answer ≡ says answer
-  pub closed : closing m w .joiner .closed ≡ true
-  pub counts : closing m w .joiner .missed ≡ missed w
+  pub closes : closingOn m w bytes .answer ≡ says answer
+  pub closed : closingOn m w bytes .joiner .closed ≡ true
+  pub counts : closingOn m w bytes .joiner .missed ≡ missed w
   -- (d) with none missed, everything sent was handed out
-  pub complete : closing m w .joiner .missed ≡ 0 → handedOut (played m w) ≡ map (prefixed false) (handedOf (groupsOf (w .groups)))
+  pub complete : closingOn m w bytes .joiner .missed ≡ 0 → handedOut (playedOn m w bytes) ≡ map (prefixed false) (handedOf (w .groups))
   -- (e) the gathered run never reaches beyond its buffer, no call of ours is refused, and every other one is
-  pub within : Within (length (w .gather)) (played m w)
-  pub refuses : map (λ (st : Stepped). isRefused (st .answer)) (played m w) ≡ map isOther (w .arrivals)
+  pub within : Within (length (w .gather)) (playedOn m w bytes)
+  pub refuses : map (λ (st : Stepped). isRefused (st .answer)) (playedOn m w bytes) ≡ map isOther (w .arrivals)
+
+abbrev pub Delivered : Machine → Show → Type 0
+Delivered m w = DeliveredOn m w (arriving w)

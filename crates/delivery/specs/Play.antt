@@ -59,15 +59,22 @@ handedOut (st ∷ sts) = handedIn (st .answer) (st .out) ++ handedOut sts
 
 -- ---- a show
 
+module _ (m : Machine) (w : Show) where
+  -- these bytes arrive: "The joiner is opened with the sender's SSRC and first"
+  abbrev pub playedOn : List (List ℕ) → List Stepped
+  playedOn bytes = steps m (m .opening (w .source) (w .first)) (w .gather) (w .outs) bytes
+
+  -- "Closing takes the number after the last sent"
+  abbrev pub closingOn : List (List ℕ) → ClosingStepped
+  closingOn bytes =
+      m .close (joinerAfter m (m .opening (w .source) (w .first)) (w .gather) (w .outs) bytes) (numberOf (w .first) (count w))
+
+-- what arrives of the show's packets, and beside them
 abbrev pub arriving : Show → List (List ℕ)
 arriving w = map (bytesOf (packet w)) (w .arrivals)
 
-module _ (m : Machine) (w : Show) where
-  -- "The joiner is opened with the sender's SSRC and first"
-  abbrev pub played : List Stepped
-  played = steps m (m .opening (w .source) (w .first)) (w .gather) (w .outs) (arriving w)
+abbrev pub played : Machine → Show → List Stepped
+played m w = playedOn m w (arriving w)
 
-  -- "Closing takes the number after the last sent"
-  abbrev pub closing : ClosingStepped
-  closing =
-      m .close (joinerAfter m (m .opening (w .source) (w .first)) (w .gather) (w .outs) (arriving w)) (numberOf (w .first) (count w))
+abbrev pub closing : Machine → Show → ClosingStepped
+closing m w = closingOn m w (arriving w)

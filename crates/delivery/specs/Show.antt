@@ -1,17 +1,19 @@
 -- A show: what is sent, with what it is received, and what arrives. Assumes nothing.
+use mathlib.Core.Bool.{false}
 use mathlib.Core.List.{List, [], _∷_}
-use Prim.Native.Nat.{ℕ, max}
+use Prim.Native.Nat.{ℕ, _-_, max}
 use lib.ListN.{length, getD}
+use Rattle.wire.specs.Packets.{joined}
 use Rattle.packet.specs.Plain.{Stamp, plainPacket}
+use Rattle.nal.specs.Fed.{prefixed}
 use Rattle.sequence.specs.Number.{numberOf}
 use Rattle.sequence.specs.Arrival.{Arrival}
-use Rattle.sequence.specs.Group.{packetsOf}
-use Rattle.joiner.specs.Sent.{Sent, groupsOf, gatheredOf, handedLength}
-use mathlib.Core.Bool.{false}
+use Rattle.sequence.specs.Group.{Group, packetsOf}
+use Rattle.joiner.specs.General.{Units}
 
 pub record Show : Type 0 where
-  -- the groups sent, in order
-  pub groups : List Sent
+  -- the groups sent, in order: each its payloads, and the units that it is handed out as
+  pub groups : List (Group (List ℕ) Units)
   -- the sender's SSRC, and the number of the first packet
   pub source : ℕ
   pub first : ℕ
@@ -26,7 +28,7 @@ pub record Show : Type 0 where
 
 -- the payloads in order, and how many there are
 abbrev pub payloads : Show → List (List ℕ)
-payloads w = packetsOf (groupsOf (w .groups))
+payloads w = packetsOf (w .groups)
 
 abbrev pub count : Show → ℕ
 count w = length (payloads w)
@@ -38,12 +40,17 @@ payload w i = getD (payloads w) i []
 abbrev pub packet : Show → ℕ → List ℕ
 packet w i = plainPacket (w .stamps i) (numberOf (w .first) i) (w .source) (payload w i)
 
--- the most bytes that are gathered of one unit: "the longest unit less one byte"
-abbrev pub longest : List Sent → ℕ
+-- how many bytes are gathered of a group: of one in several packets its "unit less one byte"
+abbrev pub gatheredBy : (others : List (List ℕ)) → Units → ℕ
+gatheredBy [] units = 0
+gatheredBy (p ∷ ps) units = length (joined units) - 1
+
+-- "the longest unit less one byte"
+abbrev pub longest : List (Group (List ℕ) Units) → ℕ
 longest [] = 0
-longest (s ∷ ss) = max (gatheredOf s) (longest ss)
+longest (g ∷ gs) = max (gatheredBy (g .others) (g .handed)) (longest gs)
 
 -- "the largest group as handed out, prefixes included"
-abbrev pub largest : List Sent → ℕ
+abbrev pub largest : List (Group (List ℕ) Units) → ℕ
 largest [] = 0
-largest (s ∷ ss) = max (handedLength false s) (largest ss)
+largest (g ∷ gs) = max (length (prefixed false (g .handed))) (largest gs)

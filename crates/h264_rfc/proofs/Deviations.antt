@@ -21,7 +21,7 @@ use Rattle.rfc6184.proofs.Octets.{fields-of-octet}
 use Rattle.h264.specs.Conformance.{cleared}
 use Rattle.h264_packet.specs.Depacketize.{readBy, readPayload, depacketized}
 use Rattle.h264_rfc.specs.Reading.{fresh, Hears, lastly, handedAs, Some, NoneEmpty, Room}
-use Rattle.h264_rfc.specs.Loose.{Loose, looseOctets, LooseFormed, headFrom, looseAll, looseUnit, LooseRoom, without}
+use Rattle.h264_rfc.specs.Loose.{Loose, looseOctets, LooseFormed, headFrom, looseAll, looseUnit, LooseRoom, without, incomplete, marked}
 use Rattle.h264_rfc.specs.Meaning.{Stray, Somewhere, Unsendable}
 use Rattle.h264_rfc.proofs.Steps.{not-taken}
 use Rattle.h264_rfc.proofs.Fragments.{gathers, hears-fragmented}
@@ -59,14 +59,14 @@ each-without : (P : Part → Type 0) (before : List Part) (lost : Part) (after :
 each-without P [] lost after w = w .1
 each-without P (p ∷ before) lost after w = (w .0, each-without P before lost after (w .1))
 
--- what is left is handed out as if it were the unit
+-- what is left is handed out as if it were the unit, with F clear
 pub lost-joined : (avc : Bool) (gather : List ℕ) (outs : ℕ → List ℕ) (g : Fragmented) (before : List Part) (lost : Part) (after : List Part) →
     g .middle ≡ before ++ (lost ∷ after) → FormedSending (fuA g) → NoneEmpty g → Room avc (length gather) outs (fuA (without g before after)) →
     Hears depacketized avc (fresh gather) outs
     (fragment g 1 0 (g .first) ∷ (map (fragment g 0 0) (before ++ after) ++ (fragment g 0 1 (g .last) ∷ [])))
     (lastly (fragment g 1 0 (g .first) ∷ (map (fragment g 0 0) (before ++ after) ++ (fragment g 0 1 (g .last) ∷ [])))
-    (prefixed avc ((octet 0 (g .nri) (g .type) ∷ bodyOf (without g before after)) ∷ [])))
-unfolding fragment
+    (handedAs avc (incomplete g before after ∷ [])))
+unfolding fragment octetsOf
 lost-joined avc gather outs g before lost after e w some room =
     hears-fragmented (without g before after)
     (w .0, w .1, each-without FormedPart before lost after (rw e at (w .2)), w .3) avc gather outs
@@ -95,6 +95,10 @@ lost-missing g before lost after e =
     missing [] = omega (arith, length-append (lost .octets) (parts after))
     missing (p ∷ ps) =
         omega (arith, missing ps, length-append (p .octets) (parts (ps ++ (lost ∷ after))), length-append (p .octets) (parts (ps ++ after)))
+
+-- and it does not have F set, by which a receiver that hands an incomplete unit on has to mark it
+pub lost-unmarked : (g : Fragmented) (before after : List Part) → octetsOf (incomplete g before after) ≡ octetsOf (marked (incomplete g before after)) → ⊥
+lost-unmarked g before after e = f-differs (marked (incomplete g before after)) refl e
 
 -- whatever fragments come, whatever their Start bits are: all parts are joined at the first End bit
 pub start-ignored : (avc : Bool) (gather : List ℕ) (outs : ℕ → List ℕ) (ls : List Loose) (l : Loose) → Each LooseFormed ls → LooseFormed l →

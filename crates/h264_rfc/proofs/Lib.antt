@@ -2,9 +2,11 @@ pub mod Calls
 pub mod Steps
 pub mod Fragments
 pub mod Complete
+pub mod Runs
 pub mod Readers
 pub mod Sound
 pub mod Kept
+pub mod SoundRuns
 pub mod Unsendable
 pub mod Deviations
 pub mod Rows

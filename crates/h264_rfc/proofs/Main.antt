@@ -10,7 +10,7 @@
 -- The paper's limits are `Room`: payloads of 65,535 bytes, a run of 16,777,215, and room in both buffers. The crate's deviations are told in
 -- `Deviations`, `Unsendable` and `Kept`, one theorem for each row of docs/DIFFERENCES.md; those that COMPLETE has to leave out are `Taken`: single
 -- units of one octet, or two unless type 9; fragments with F set; empty fragments.
-use mathlib.Core.Path.{_≡_, _∙_}
+use mathlib.Core.Path.{_≡_}
 use mathlib.Core.Bool.{Bool}
 use mathlib.Core.List.{List, [], map}
 use mathlib.Core.Logic.{_⊎_}
@@ -25,12 +25,16 @@ use Rattle.h264.specs.Conformance.{nalsOfAll}
 use Rattle.h264.specs.Frames.{groupsSent}
 use Rattle.h264_packet.specs.Depacketize.{depacketized}
 use Rattle.h264_rfc.specs.Reading.{Reader, fresh, calls, handedBy, Answered, Hears, handedAs, expected, Taken, Room, Complete}
-use Rattle.h264_rfc.specs.Meaning.{Aggregation, AsSent, Stray, Somewhere, Sound}
+use Rattle.h264_rfc.specs.Loose.{Loose, LooseFormed}
+use Rattle.h264_rfc.specs.Meaning.{Aggregation, AsSent, Stray, Somewhere}
+use Rattle.h264_rfc.specs.Runs.{Came, piecesOf, OneUnit, Deviates, Sound}
 use Rattle.h264_rfc.specs.Sent.{FrameOk, GroupRoom, backFrom, back, codedNals, codedUnits}
-use Rattle.h264_rfc.specs.Contract.{Result, Meets, handedOut, idle}
+use Rattle.h264_rfc.specs.Contract.{Result, Meets, CodeHears, idle}
 use Rattle.h264_rfc.proofs.Complete as complete
 use Rattle.h264_rfc.proofs.Readers as readers
 use Rattle.h264_rfc.proofs.Sound as sound
+use Rattle.h264_rfc.proofs.Runs as runs
+use Rattle.h264_rfc.proofs.SoundRuns as soundRuns
 use Rattle.h264_rfc.proofs.Sent as sent
 use Rattle.h264_rfc.proofs.Contract as contract
 
@@ -41,12 +45,13 @@ use Rattle.h264_rfc.proofs.Contract as contract
 pub COMPLETE : Complete depacketized
 COMPLETE = complete.complete
 
--- The same of the code: whatever `depacketize`, called for each payload, answers under its contract
+-- The same of the code: whatever `depacketize`, called for each payload, answers under its contract. No call is refused, each hands out what is
+-- expected of it, and no run is left.
 pub CODE-COMPLETE : (avc : Bool) (gather : List ℕ) (outs : ℕ → List ℕ) (ss : List Sending) (rs : List Result) →
     Meets (idle avc) gather outs (payloadsOfAll ss) rs → Each FormedSending ss → Each Taken ss → Each (Room avc (length gather) outs) ss →
-    map handedOut rs ≡ expected avc ss
+    CodeHears (idle avc) rs (expected avc ss)
 CODE-COMPLETE avc gather outs ss rs m w t room =
-    contract.same-handed avc (payloadsOfAll ss) rs (fresh gather) outs m ∙ COMPLETE avc gather outs ss w t room .handed
+    contract.code-hears avc (payloadsOfAll ss) rs (fresh gather) outs (expected avc ss) m (COMPLETE avc gather outs ss w t room)
 
 -- ANY MAKER. A packetization of units, as RFC 6184 has it, is answered throughout, and what is handed out, taken together, is those units in order.
 pub ANY-MAKER : (avc : Bool) (gather : List ℕ) (outs : ℕ → List ℕ) (ps : List (List ℕ)) (us : List Nal) → (z : Packetization ps us) →
@@ -70,14 +75,24 @@ NO-FIXED-OUTPUT = readers.no-fixed-output
 
 -- ---- whatever is accepted
 
--- SOUND. An accepted payload of octets is a single unit packet with type 1 to 23, an STAP-A of what stands behind its sizes, or an FU-A by the RFC's
--- figure, whatever S and E are; and the answer is what its kind says.
+-- SOUND. An accepted payload of octets is a single unit packet with type 1 to 23; an STAP-A of what stands behind its sizes, each a unit of type 1
+-- to 23 or `Stray`; or an FU-A by the RFC's figure, one of those of a unit of type 1 to 23 unless S and E are both set or the type is no unit's. The
+-- answer is what its kind says. With an FU-A's E bit the parts of all FU-As accepted since the last E bit are handed out as one unit: they are those
+-- of one unit with F clear, and this is the unit (`OneUnit`), or they deviate in one of the ways that are rows of docs/DIFFERENCES.md (`Deviates`).
 pub SOUND : Sound depacketized
-SOUND = sound.sound
+SOUND = soundRuns.sound
 
 -- An STAP-A that is accepted is one of the RFC, the rules on F and NRI aside; or something in it is empty, or of no type 1 to 23.
 pub AS-SENT-OR-STRAYS : (payload : List ℕ) (units : List (List ℕ)) → Aggregation payload units → AsSent payload units ⊎ Somewhere Stray units
 AS-SENT-OR-STRAYS = sound.as-sent-or-strays
+
+-- A run of fragments is the FU-As of one unit, or deviates: with no reader in sight, there is no third case ..
+pub ONE-UNIT-OR-DEVIATES : (l : Loose) → LooseFormed l → (cs : List Came) → Each LooseFormed (piecesOf cs) → OneUnit cs l ⊎ Deviates cs l
+ONE-UNIT-OR-DEVIATES = runs.one-or-deviates
+
+-- .. and never both.
+pub NEVER-BOTH : (cs : List Came) (l : Loose) → Each LooseFormed (piecesOf cs) → LooseFormed l → OneUnit cs l → Deviates cs l → ⊥
+NEVER-BOTH = runs.never-both
 
 -- ---- our own sender: `payload`'s contract says that the packets written for frames are `packetsOf (groupsSent mtu frames)`, call by call
 
@@ -102,6 +117,7 @@ UNITS-BACK = sent.units-back
 -- 5.8, S and E both set                           a whole unit, though no lawful sending has it: Deviations.both-taken
 -- 5.8, a fragment lost                            the others are joined without it: Deviations.lost-joined, .lost-missing; whatever comes, and whatever
 --                                                 its S is: .start-ignored
+-- 5.8, F of an incomplete unit that is handed on  not set: Deviations.lost-joined, .lost-unmarked
 -- 5.8, other packets between the fragments        the run stays: Kept.others-keep, .refusals-keep; what comes behind goes on: .goes-on
 -- 5.8, fragments of different NRI and type        the end fragment's count: Deviations.end-decides
 -- 5.8, a fragment of type 0 or 24 to 31           handed out so, though no lawful sending has it: Deviations.type-unjudged

@@ -39,7 +39,7 @@ table =
     )
     -- 2. Start and End both set
     ∷ ((0x7C ∷ 0xC5 ∷ 0x11 ∷ []) ∷ [], unit (0x65 ∷ 0x11 ∷ []) ∷ [])
-    -- 3. the middle one lost
+    -- 3. the middle one lost; F stays clear, where the RFC has it set on an incomplete unit that is handed on
     ∷ (
       (0x7C ∷ 0x85 ∷ 0x11 ∷ []) ∷ (0x7C ∷ 0x45 ∷ 0x33 ∷ []) ∷ [],
       says [] ∷ unit (0x65 ∷ 0x11 ∷ 0x33 ∷ []) ∷ [],

@@ -1,4 +1,4 @@
--- SOUND: an accepted payload passed the definition's tests, and the octets that they look at are those of the RFC's figures. Assumes nothing.
+-- SOUND, call by call: an accepted payload passed the definition's tests, and the octets that they look at are those of the RFC's figures. Assumes nothing.
 use mathlib.Core.Path.{_≡_, refl, sym, ap, ap₂, subst, _∙_}
 use mathlib.Core.Bool.{Bool, true, false, cond}
 use mathlib.Core.List.{List, [], _∷_, _++_, map, append-nil, append-assoc}
@@ -25,15 +25,16 @@ use Rattle.error.proofs.Refusing.{not-says}
 use Rattle.nal.proofs.Running.{run-beside}
 use Rattle.nal_read.proofs.Unpacking.{Units}
 use Rattle.nal_read.proofs.Shapes.{Facts, PlainFacts, FragmentFacts, told}
-use Rattle.rfc6184.specs.Sending.{Each, Nal, octet, octetsOf, nalOf, Part, fragment, UnitType, Sized}
+use Rattle.rfc6184.specs.Sending.{Each, Nal, octet, octetsOf, nalOf, fragment, UnitType, Sized}
 use Rattle.rfc6184.proofs.Octets.{formed-fields, octets-of-nal}
 use Rattle.h264.specs.Conformance.{Octets}
 use Rattle.h264_packet.specs.Depacketize.{beside, gatheredOn, readBy, readPayload, depacketized}
 use Rattle.h264_packet.proofs.Depacketizing.{gathered-run, length-run}
 use Rattle.h264_rfc.specs.Reading.{gatheredThen, handedBy}
-use Rattle.h264_rfc.specs.Loose.{Loose, looseOctets, LooseFormed, headFrom}
-use Rattle.h264_rfc.specs.Meaning.{SingleUnit, InnerUnit, Inner, a-unit, stray, Stray, Somewhere, Aggregation, AsSent, RunKept, Means, unit-alone, units-together, part-gathered, unit-joined, Sound}
+use Rattle.h264_rfc.specs.Loose.{looseOctets, looseOf, LooseFormed, headFrom}
+use Rattle.h264_rfc.specs.Meaning.{SingleUnit, InnerUnit, Inner, a-unit, stray, Stray, Somewhere, Aggregation, AsSent, RunKept, Means, unit-alone, units-together, part-gathered, unit-joined}
 use Rattle.h264_rfc.proofs.Complete.{aggregated-sized}
+use Rattle.h264_rfc.proofs.Runs.{each-or-some, fragment-kind}
 use Rattle.h264_rfc.proofs.Steps.{laid, Fits, laid-run, fits-if, by-domain, handed-laid}
 
 -- ---- a single unit
@@ -172,13 +173,11 @@ all-units (u ∷ us) w =
     )
 
 none-or-some : (us : Units) → Each Inner us → Each InnerUnit us ⊎ Somewhere Stray us
-none-or-some [] w = inl tt
-none-or-some (u ∷ us) w = by (w .0) (none-or-some us (w .1))
+none-or-some us w = each-or-some Inner InnerUnit Stray by us w
   where
-    by : Inner u → Each InnerUnit us ⊎ Somewhere Stray us → (InnerUnit u × Each InnerUnit us) ⊎ (Stray u ⊎ Somewhere Stray us)
-    by (stray h) rest = inr (inl h)
-    by (a-unit h) (inl rest) = inl (h, rest)
-    by (a-unit h) (inr rest) = inr (inr rest)
+    by : (u : List ℕ) → Inner u → InnerUnit u ⊎ Stray u
+    by u (a-unit h) = inl h
+    by u (stray h) = inr h
 
 -- an aggregation that is taken is an STAP-A by the RFC, or strays somewhere
 pub as-sent-or-strays : (p : List ℕ) (us : Units) → Aggregation p us → AsSent p us ⊎ Somewhere Stray us
@@ -204,16 +203,6 @@ as-sent-or-strays p us a = by (none-or-some us (a .inner))
 
 -- ---- a fragment
 
--- the fragment that an octet a, an octet b and a part s are
-loose : ℕ → ℕ → List ℕ → Loose
-loose a b s =
-    let part : Part = record { reserved = b / 32 % 2; octets = s } in
-    record {
-      of = record { f = a / 128; nri = a / 32 % 4; type = b % 32; first = part; middle = []; last = part };
-      start = b / 128;
-      part = part;
-    }
-
 -- a bit that is not 1
 not-one : (n : ℕ) → bit n ≡ false → n % 2 ≡ 0
 not-one n e = let h : n % 2 ≡ 1 → ⊥ = eqb-false (n % 2) 1 e in zero-bit h (decLe (n % 2) 0)
@@ -223,8 +212,8 @@ not-one n e = let h : n % 2 ≡ 1 → ⊥ = eqb-false (n % 2) 1 e in zero-bit h 
     zero-bit h (no z) = absurd (h (omega (arith, lt-of-not-le z)))
 
 module _ (a b : ℕ) (s : List ℕ) (ha : a < 256) (hb : b < 256) where
-  loose-formed : 3 ≤ length (a ∷ b ∷ s) → length (a ∷ b ∷ s) ≤ 65535 → LooseFormed (loose a b s)
-  unfolding loose
+  loose-formed : 3 ≤ length (a ∷ b ∷ s) → length (a ∷ b ∷ s) ≤ 65535 → LooseFormed (looseOf (a ∷ b ∷ s))
+  unfolding looseOf
   loose-formed long few =
       record {
         formed = record { f-bit = omega arith; nri-bits = omega arith; type-bits = omega arith };
@@ -234,15 +223,15 @@ module _ (a b : ℕ) (s : List ℕ) (ha : a < 256) (hb : b < 256) where
         short = omega arith;
       }
 
-  loose-octets : (e : ℕ) → a % 32 ≡ 28 → b / 64 % 2 ≡ e → a ∷ b ∷ s ≡ looseOctets e (loose a b s)
-  unfolding loose fragment octet
+  loose-octets : (e : ℕ) → a % 32 ≡ 28 → b / 64 % 2 ≡ e → a ∷ b ∷ s ≡ looseOctets e (looseOf (a ∷ b ∷ s))
+  unfolding looseOf fragment octet
   loose-octets e t q =
       let one : a ≡ a / 128 * 128 + a / 32 % 4 * 32 + 28 = omega arith in
       let two : b ≡ b / 128 * 128 + e * 64 + b / 32 % 2 * 32 + b % 32 = omega arith in
       ap₂ (λ (x y : ℕ). x ∷ y ∷ s) one two
 
-  loose-head : kind.headOf a b ≡ headFrom (loose a b s)
-  unfolding loose octet
+  loose-head : kind.headOf a b ≡ headFrom (looseOf (a ∷ b ∷ s))
+  unfolding looseOf octet
   loose-head = omega arith
 
 -- ---- what the call did
@@ -273,15 +262,16 @@ module _ (avc : Bool) (n : ℕ) (gather out : List ℕ) (within : n ≤ length g
   fragment-means : (p : List ℕ) (first last : Bool) (head : ℕ) (r : RanOn) → Octets p → length p ≤ 65535 → FragmentFacts p first last head →
       layRun avc gather out (says (gatheredOn (gathered (runOf n gather) ++ drop 2 p) last head)) .answer ≡ says r →
       Means avc n gather p (layRun avc gather out (says (gatheredOn (gathered (runOf n gather) ++ drop 2 p) last head)))
-  unfolding loose
+  unfolding looseOf
   fragment-means [] first last head r o h k e = absurd (omega (arith, k .long))
   fragment-means (a ∷ []) first last head r o h k e = absurd (omega (arith, k .long))
   fragment-means (a ∷ b ∷ s) first false head r o h k e =
       let bytes : List ℕ = gathered (runOf n gather) ++ s in
       let room : Fits avc gather out (ongoing bytes) = fits-if avc gather out (ongoing bytes) r e in
       let done : layRun avc gather out (says (ongoing bytes)) ≡ laid avc gather out (ongoing bytes) = laid-run avc gather out (ongoing bytes) room in
-      part-gathered (loose a b s) (loose-formed a b s (o .0) (o .1 .0) (k .long) h)
-      (loose-octets a b s (o .0) (o .1 .0) 0 (k .type-is) (not-one (b / 64) (sym (k .last-is))))
+      let w : LooseFormed (looseOf (a ∷ b ∷ s)) = loose-formed a b s (o .0) (o .1 .0) (k .long) h in
+      part-gathered w (loose-octets a b s (o .0) (o .1 .0) 0 (k .type-is) (not-one (b / 64) (sym (k .last-is))))
+      (fragment-kind 0 (looseOf (a ∷ b ∷ s)) w (omega arith))
       (ap handedBy done ∙ handed-laid avc gather out (ongoing bytes))
       (ap (λ (l : Laid RanOn). take (gatheredThen n (l .answer)) (l .gather)) done
       ∙ part-of-splice gather 0 bytes (omega arith)
@@ -290,8 +280,9 @@ module _ (avc : Bool) (n : ℕ) (gather out : List ℕ) (within : n ≤ length g
       let bytes : List ℕ = gathered (runOf n gather) ++ s in
       let room : Fits avc gather out (finished head bytes) = fits-if avc gather out (finished head bytes) r e in
       let done : layRun avc gather out (says (finished head bytes)) ≡ laid avc gather out (finished head bytes) = laid-run avc gather out (finished head bytes) room in
-      unit-joined (loose a b s) (loose-formed a b s (o .0) (o .1 .0) (k .long) h)
-      (loose-octets a b s (o .0) (o .1 .0) 1 (k .type-is) (eqb-true (b / 64 % 2) 1 (sym (k .last-is))))
+      let w : LooseFormed (looseOf (a ∷ b ∷ s)) = loose-formed a b s (o .0) (o .1 .0) (k .long) h in
+      unit-joined w (loose-octets a b s (o .0) (o .1 .0) 1 (k .type-is) (eqb-true (b / 64 % 2) 1 (sym (k .last-is))))
+      (fragment-kind 1 (looseOf (a ∷ b ∷ s)) w (omega arith))
       (ap handedBy done
       ∙ handed-laid avc gather out (finished head bytes)
       ∙ ap₂ (λ (x : ℕ) (l : List ℕ). prefixed avc ((x ∷ (l ++ s)) ∷ [])) (k .head-is ∙ loose-head a b s (o .0) (o .1 .0)) (gathered-run n gather))
@@ -305,8 +296,9 @@ module _ (avc : Bool) (n : ℕ) (gather out : List ℕ) (within : n ≤ length g
   means aggregate p r o h k e = aggregate-means p (unpack p) r o h k refl e
   means (kind.fragment first last head) p r o h k e = fragment-means p first last head r o h k e
 
-pub sound : Sound depacketized
+pub sound-one : (avc : Bool) (n : ℕ) (p gather out : List ℕ) (r : RanOn) → Octets p → depacketized avc n p gather out .answer ≡ says r →
+    Means avc n gather p (depacketized avc n p gather out)
 unfolding readPayload
-sound avc n p gather out r o =
+sound-one avc n p gather out r o =
     by-domain (λ (l : Laid RanOn). l .answer ≡ says r → Means avc n gather p l) avc n p gather out (λ e. absurd (not-says e))
     (λ few within small. means avc n gather out within small (shape p) p r o few (told p))

@@ -1,10 +1,11 @@
 -- The code's calls, one after the other, by `depacketize`'s contract alone. Assumes nothing.
 use mathlib.Core.Path.{_≡_}
 use mathlib.Core.Bool.{Bool}
-use mathlib.Core.List.{List, [], _∷_}
+use mathlib.Core.List.{List, [], _∷_, map}
 use Prim.Native.Nat.{ℕ, suc}
 use lib.ListN.{take}
 use Rattle.error.specs.Said.{Said, says, refused}
+use Rattle.wire.specs.Each.{Each}
 use Rattle.h264_packet.specs.declared.H264Packet.{H264Packet}
 use Rattle.h264_packet.specs.declared.Depacketized.{Depacketized}
 use Rattle.h264_packet.specs.Depacketize.{depacketized}
@@ -35,6 +36,21 @@ takenFrom (refused r) out = []
 
 abbrev pub handedOut : Result → List ℕ
 handedOut r = takenFrom (saidDepacketize (r .answer .answer)) (r .out)
+
+-- a call that is not refused
+abbrev pub AnsweredCall : Result → Type 0
+AnsweredCall r = (n : ℕ) × (saidDepacketize (r .answer .answer) ≡ says n)
+
+-- the record behind the last call
+abbrev pub recordBehind : H264Packet → List Result → H264Packet
+recordBehind p [] = p
+recordBehind p (r ∷ rs) = recordBehind (r .answer .packet) rs
+
+-- no call is refused, each hands out what is expected of it, and no run is left
+pub record CodeHears (p : H264Packet) (rs : List Result) (expected : List (List ℕ)) : Type 0 where
+  pub answered : Each AnsweredCall rs
+  pub handed : map handedOut rs ≡ expected
+  pub no-run : recordBehind p rs .gathered ≡ 0
 
 -- a record without a run
 abbrev pub idle : Bool → H264Packet

@@ -5,14 +5,12 @@ use mathlib.Core.List.{List, [], _∷_, _++_, map}
 use mathlib.Core.Logic.{_⊎_}
 use Prim.Native.Nat.{ℕ, _%_, _<_}
 use lib.ListN.{length, take, getD}
-use Rattle.error.specs.Said.{says}
 use Rattle.nal.specs.Fed.{prefixed, Laid}
 use Rattle.nal.specs.Ran.{RanOn}
 use Rattle.nal_read.specs.Unpack.{sizedUnits}
-use Rattle.rfc6184.specs.Sending.{Each, Nal, octet, octetsOf, Sending, single, stapA, payloadsOf, UnitType, Formed, Sized, FormedSending, Lawful}
-use Rattle.h264.specs.Conformance.{Octets}
-use Rattle.h264_rfc.specs.Reading.{Reader, gatheredThen, handedBy, TakenUnit}
-use Rattle.h264_rfc.specs.Loose.{Loose, looseOctets, LooseFormed, headFrom}
+use Rattle.rfc6184.specs.Sending.{Each, Nal, octet, octetsOf, Fragmented, Sending, single, stapA, fuA, payloadsOf, UnitType, Formed, Sized, FormedSending, Lawful}
+use Rattle.h264_rfc.specs.Reading.{gatheredThen, handedBy, TakenUnit}
+use Rattle.h264_rfc.specs.Loose.{Loose, looseOctets, looseOf, LooseFormed, headFrom, unreserved}
 
 -- 5.6: a single NAL unit packet
 pub record SingleUnit (payload : List ℕ) : Type 0 where
@@ -40,9 +38,9 @@ pub data Inner (u : List ℕ) : Type 0 where
   stray : Stray u → Inner u
 
 -- somewhere in a list
-abbrev pub Somewhere : (List ℕ → Type 0) → List (List ℕ) → Type 0
+abbrev pub Somewhere : {A : Type 0} → (A → Type 0) → List A → Type 0
 Somewhere P [] = ⊥
-Somewhere P (u ∷ us) = P u ⊎ Somewhere P us
+Somewhere P (x ∷ xs) = P x ⊎ Somewhere P xs
 
 -- 5.7.1: an STAP-A of these units
 pub record Aggregation (payload : List ℕ) (units : List (List ℕ)) : Type 0 where
@@ -63,6 +61,20 @@ pub record AsSent (payload : List ℕ) (units : List (List ℕ)) : Type 0 where
   pub same : units ≡ map octetsOf nals
   pub payloads : payload ∷ [] ≡ payloadsOf (stapA f nri nals)
 
+-- 5.8: one of the FU-As of a unit of type 1 to 23, lawful but for Reserved bits
+pub record OneFuA (payload : List ℕ) : Type 0 where
+  pub unit : Fragmented
+  pub formed : FormedSending (fuA unit)
+  pub lawful : Lawful (fuA (unreserved unit))
+  pub among : Somewhere (λ (q : List ℕ). payload ≡ q) (payloadsOf (fuA unit))
+
+-- an FU-A by itself, with End bit e
+pub data Fragment (e : ℕ) (x : Loose) : Type 0 where
+  one-of : OneFuA (looseOctets e x) → Fragment e x
+  -- the two deviations: Start and End both set; a type that no unit has
+  both-set : x .start ≡ 1 → e ≡ 1 → Fragment e x
+  no-unit : (UnitType (x .of .type) → ⊥) → Fragment e x
+
 -- no lawful sending has this payload
 abbrev pub Unsendable : List ℕ → Type 0
 Unsendable payload = (s : Sending) → Lawful s → Each (λ (p : List ℕ). p ≡ payload → ⊥) (payloadsOf s)
@@ -72,7 +84,7 @@ pub record RunKept (n : ℕ) (gather : List ℕ) (l : Laid RanOn) : Type 0 where
   pub count : gatheredThen n (l .answer) ≡ n
   pub bytes : l .gather ≡ gather
 
--- What the payload is, and what the call then did. The first n bytes of the gather buffer are the run before it; S and E are as they are, both too.
+-- what the payload is, and what the call then did; the first n bytes of the gather buffer are the run before it
 pub data Means (avc : Bool) (n : ℕ) (gather payload : List ℕ) (l : Laid RanOn) : Type 0 where
   -- it is handed out
   unit-alone : SingleUnit payload → RunKept n gather l → handedBy l ≡ prefixed avc (payload ∷ []) → Means avc n gather payload l
@@ -80,14 +92,9 @@ pub data Means (avc : Bool) (n : ℕ) (gather payload : List ℕ) (l : Laid RanO
   units-together : (units : List (List ℕ)) → Aggregation payload units → RunKept n gather l → handedBy l ≡ prefixed avc units →
       Means avc n gather payload l
   -- 5.8, an FU-A with E clear: nothing is handed out, and its part is gathered
-  part-gathered : (x : Loose) → LooseFormed x → payload ≡ looseOctets 0 x → handedBy l ≡ [] →
-      take (gatheredThen n (l .answer)) (l .gather) ≡ take n gather ++ x .part .octets → Means avc n gather payload l
+  part-gathered : LooseFormed (looseOf payload) → payload ≡ looseOctets 0 (looseOf payload) → Fragment 0 (looseOf payload) → handedBy l ≡ [] →
+      take (gatheredThen n (l .answer)) (l .gather) ≡ take n gather ++ looseOf payload .part .octets → Means avc n gather payload l
   -- 5.8, an FU-A with E set: the run and its part are handed out behind its NRI and type, and no run is open
-  unit-joined : (x : Loose) → LooseFormed x → payload ≡ looseOctets 1 x →
-      handedBy l ≡ prefixed avc ((headFrom x ∷ (take n gather ++ x .part .octets)) ∷ []) → gatheredThen n (l .answer) ≡ 0 →
-      Means avc n gather payload l
-
--- whatever is accepted is a payload of RFC 6184 in one of these ways, and is answered so
-abbrev pub Sound : Reader → Type 0
-Sound read = (avc : Bool) (n : ℕ) (payload gather out : List ℕ) (r : RanOn) → Octets payload →
-    read avc n payload gather out .answer ≡ says r → Means avc n gather payload (read avc n payload gather out)
+  unit-joined : LooseFormed (looseOf payload) → payload ≡ looseOctets 1 (looseOf payload) → Fragment 1 (looseOf payload) →
+      handedBy l ≡ prefixed avc ((headFrom (looseOf payload) ∷ (take n gather ++ looseOf payload .part .octets)) ∷ []) →
+      gatheredThen n (l .answer) ≡ 0 → Means avc n gather payload l

@@ -4,7 +4,7 @@ use mathlib.Core.List.{List, _∷_}
 use Prim.Native.Nat.{ℕ, _+_, _/_, _%_, _<_}
 use native.Mathlib.Omega.{arith}
 use lib.ListN.{length}
-use Rattle.rfc6184.specs.Sending.{Nal, octet, octetsOf, nalOf, Formed, FormedNal}
+use Rattle.rfc6184.specs.Sending.{Nal, octet, octetsOf, nalOf, fuHeader, Formed, FormedNal}
 
 pub octet-below : (f nri type : ℕ) → Formed f nri type → octet f nri type < 256
 unfolding octet
@@ -36,3 +36,11 @@ nal-of-octets u w i =
 pub length-octets : (u : Nal) → length (octetsOf u) ≡ 1 + length (u .payload)
 unfolding octetsOf
 length-octets u = omega arith
+
+-- the FU header tells its four fields
+pub fields-of-header : (s e r type : ℕ) → s < 2 → e < 2 → r < 2 → type < 32 →
+    (fuHeader s e r type / 128 ≡ s)
+    × (fuHeader s e r type / 64 % 2 ≡ e)
+    × (fuHeader s e r type / 32 % 2 ≡ r)
+    × (fuHeader s e r type % 32 ≡ type)
+fields-of-header s e r type hs he hr ht = (omega arith, omega arith, omega arith, omega arith)

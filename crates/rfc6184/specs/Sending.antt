@@ -72,6 +72,10 @@ abbrev pub aggregated : List Nal → List ℕ
 aggregated [] = []
 aggregated (u ∷ us) = be16 (length (octetsOf u)) ++ (octetsOf u ++ aggregated us)
 
+-- 5.8: the FU header, with Start, End and Reserved bit
+abbrev pub fuHeader : ℕ → ℕ → ℕ → ℕ → ℕ
+fuHeader s e r type = s * 128 + e * 64 + r * 32 + type
+
 -- 5.8: one FU-A, with Start bit s and End bit e
 --
 --     +---------------+---------------+
@@ -81,7 +85,7 @@ aggregated (u ∷ us) = be16 (length (octetsOf u)) ++ (octetsOf u ++ aggregated 
 --     +---------------+---------------+
 --       FU indicator      FU header
 unfoldable pub fragment : Fragmented → ℕ → ℕ → Part → List ℕ
-fragment g s e p = octet (g .f) (g .nri) 28 ∷ (s * 128 + e * 64 + p .reserved * 32 + g .type) ∷ p .octets
+fragment g s e p = octet (g .f) (g .nri) 28 ∷ fuHeader s e (p .reserved) (g .type) ∷ p .octets
 
 -- the payloads, in the order in which they are sent
 abbrev pub payloadsOf : Sending → List (List ℕ)
@@ -121,6 +125,17 @@ abbrev pub FormedSending : Sending → Type 0
 FormedSending (single u) = FormedNal u
 FormedSending (stapA f nri us) = Formed f nri 24 × (0 < length us) × Each Sized us
 FormedSending (fuA g) = Formed (g .f) (g .nri) (g .type) × FormedPart (g .first) × Each FormedPart (g .middle) × FormedPart (g .last)
+
+-- 5.2: the type of a payload's first octet says its structure. No single unit has the type of an STAP-A or of an FU-A.
+abbrev pub OwnType : Sending → Type 0
+OwnType (single u) = (u .type ≡ 24 → ⊥) × (u .type ≡ 28 → ⊥)
+OwnType (stapA f nri us) = Unit {0}
+OwnType (fuA g) = Unit {0}
+
+-- formed, and of a kind that its first octet tells
+pub record Told (s : Sending) : Type 0 where
+  pub formed : FormedSending s
+  pub own-type : OwnType s
 
 -- ---- what is lawful: the rules on the fields
 

@@ -1,13 +1,15 @@
--- Packets put one after the other leave one part replaced in the output and one in the table. Assumes nothing.
-use mathlib.Core.Path.{_≡_, refl, sym, ap, _∙_}
+-- Packets put one after the other leave one part replaced in the output and one in the table, and cutting the output at the table's
+-- ends gives them back. Assumes nothing.
+use mathlib.Core.Path.{_≡_, refl, sym, ap, ap₂, _∙_}
 use mathlib.Core.List.{List, [], _∷_, _++_, append-nil, append-assoc}
-use Prim.Native.Nat.{ℕ, suc, _+_, _≤_, _<_}
+use Prim.Native.Nat.{ℕ, suc, _+_, _-_, _≤_, _<_}
 use native.Mathlib.Nat.{add-zero, add-assoc}
 use native.Mathlib.Omega.{arith}
-use lib.ListN.{length, set, length-append, length-set}
-use Rattle.wire.specs.Part.{splice}
-use Rattle.wire.specs.Packets.{joined, endsFrom, Sink, put, putAll, whole, Room}
-use Rattle.wire.proofs.Part.{splice-nothing, splice-one, splice-on, length-splice}
+use lib.ListN.{length, take, drop, set, length-append, length-set}
+use lib.Seq.{length-take-le, take-at, drop-at}
+use Rattle.wire.specs.Part.{splice, part}
+use Rattle.wire.specs.Packets.{joined, endsFrom, cut, Sink, put, putAll, whole, Room}
+use Rattle.wire.proofs.Part.{splice-nothing, splice-one, splice-on, length-splice, part-of-splice}
 
 pub length-endsFrom : (at : ℕ) (ps : List (List ℕ)) → length (endsFrom at ps) ≡ length ps
 length-endsFrom at [] = refl
@@ -69,3 +71,30 @@ room-front s ps qs r =
 pub room-behind : (s : Sink) (ps qs : List (List ℕ)) → Room s (ps ++ qs) → Room (putAll s ps) qs
 room-behind s [] qs r = r
 room-behind s (p ∷ ps) qs r = room-behind (put s p) ps qs (room-rest s p (ps ++ qs) r)
+
+-- ---- cut again
+
+-- packets that stand between a front and a back, by their ends
+cut-joined : (front : List ℕ) (ps : List (List ℕ)) (back : List ℕ) (at : ℕ) → length front ≡ at → cut (front ++ (joined ps ++ back)) at (endsFrom at ps) ≡ ps
+cut-joined front [] back at e = refl
+cut-joined front (p ∷ ps) back at e =
+    let rest : List ℕ = joined ps ++ back in
+    let out : front ++ ((p ++ joined ps) ++ back) ≡ front ++ (p ++ rest) = ap (λ (l : List ℕ). front ++ l) (append-assoc p (joined ps) back) in
+    let len : at + length p - at ≡ length p = omega arith in
+    let end : length (front ++ p) ≡ at + length p = length-append front p ∙ ap (λ (n : ℕ). n + length p) e in
+    ap₂ (λ (q : List ℕ) (qs : List (List ℕ)). q ∷ qs)
+    (ap (λ (l : List ℕ). part l at (at + length p - at)) out
+    ∙ ap₂ (λ (l : List ℕ) (n : ℕ). take n l) (drop-at front (p ++ rest) at e) len
+    ∙ take-at p rest (length p) refl)
+    (ap (λ (l : List ℕ). cut l (at + length p) (endsFrom (at + length p) ps)) (out ∙ sym (append-assoc front p rest))
+    ∙ cut-joined (front ++ p) ps back (at + length p) end)
+
+-- the packets that were written are read back: the output, cut at the ends that the table says
+pub cut-whole : (s : Sink) (ps : List (List ℕ)) → Room s ps → cut (whole s ps .out) (s .at) (part (whole s ps .ends) (s .n) (length ps)) ≡ ps
+unfolding whole splice
+cut-whole s ps r =
+    ap (cut (whole s ps .out) (s .at))
+    (ap (λ (n : ℕ). part (whole s ps .ends) (s .n) n) (sym (length-endsFrom (s .at) ps))
+    ∙ part-of-splice (s .ends) (s .n) (endsFrom (s .at) ps) (omega (arith, r .places)))
+    ∙ cut-joined (take (s .at) (s .out)) ps (drop (s .at + length (joined ps)) (s .out)) (s .at)
+    (length-take-le (s .at) (s .out) (omega (arith, r .bytes)))

@@ -1,8 +1,8 @@
 -- A list of packets in one output, with a table of their ends. Assumes nothing.
 use mathlib.Core.List.{List, [], _∷_, _++_}
-use Prim.Native.Nat.{ℕ, _+_, _≤_}
+use Prim.Native.Nat.{ℕ, _+_, _-_, _≤_}
 use lib.ListN.{length, set}
-use Rattle.wire.specs.Part.{splice}
+use Rattle.wire.specs.Part.{splice, part}
 
 -- the packets' bytes, one packet behind the other
 abbrev pub joined : List (List ℕ) → List ℕ
@@ -13,6 +13,11 @@ joined (p ∷ ps) = p ++ joined ps
 abbrev pub endsFrom : ℕ → List (List ℕ) → List ℕ
 endsFrom at [] = []
 endsFrom at (p ∷ ps) = (at + length p) ∷ endsFrom (at + length p) ps
+
+-- an output cut at these ends, the first part starting at `at`
+abbrev pub cut : List ℕ → ℕ → List ℕ → List (List ℕ)
+cut out at [] = []
+cut out at (end ∷ ends) = part out at (end - at) ∷ cut out end ends
 
 -- an output and a table of ends while packets are written into them
 pub record Sink : Type 0 where

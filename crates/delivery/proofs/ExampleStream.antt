@@ -1,0 +1,79 @@
+-- The premises on a stream by RFC 6184 can be met: an access unit delimiter of two octets, an STAP-A, a unit with F set in three fragments, and a unit
+-- that is lost. Assumes nothing.
+use mathlib.Core.Path.{_≡_, refl}
+use mathlib.Core.Bool.{false}
+use mathlib.Core.List.{List, [], _∷_}
+use mathlib.Core.Logic.{inl, inr}
+use Prim.Native.Nat.{ℕ}
+use native.Mathlib.Omega.{arith}
+use lib.ListN.{replicate}
+use Rattle.wire.specs.Net.{u16At, u32At, be16, be32}
+use Rattle.wire.specs.Part.{splice}
+use Rattle.wire.specs.Turns.{run}
+use Rattle.header.specs.Read.{fieldsAt, readFixed, readHeader}
+use Rattle.header_write.specs.Fixed.{fixedFor}
+use Rattle.header.specs.Write as header
+use Rattle.packet.specs.Read.{readPacket}
+use Rattle.packet.specs.Write.{payloadOctets, packetOctets}
+use Rattle.packet.specs.Plain.{plainPacket}
+use Rattle.rfc6184.specs.Sending.{Nal, octet, octetsOf, Part, single, stapA, fuA, fragment}
+use Rattle.nal_read.specs.Kind.{shape}
+use Rattle.nal_read.specs.Unpack.{unpackTurn, unpack}
+use Rattle.nal.specs.Fed.{layBytes, layFed}
+use Rattle.sequence.specs.Arrival.{ours}
+use Rattle.joiner_feed.specs.Codec.{feed}
+use Rattle.joiner.specs.Join.{bySource, joinStep, closeStep, opened}
+use Rattle.delivery.specs.Play.{ourJoiner, handedOut, played, closing}
+use Rattle.delivery.specs.AnySender.{Stream, streamShow, StreamPremises}
+
+abbrev unit : ℕ → ℕ → List ℕ → Nal
+unit nri type payload = record { f = 0; nri = nri; type = type; payload = payload }
+
+abbrev part : List ℕ → Part
+part s = record { reserved = 0; octets = s }
+
+-- six packets, of which the last is lost
+unfoldable pub stream : Stream
+stream =
+    record {
+      sendings =
+          single (unit 0 9 (0xF0 ∷ []))
+          ∷ stapA 0 3 (unit 3 7 (0xAA ∷ []) ∷ unit 3 8 (0xBB ∷ []) ∷ [])
+          ∷ fuA (record { f = 1; nri = 3; type = 5; first = part (1 ∷ 2 ∷ []); middle = part (3 ∷ []) ∷ []; last = part (4 ∷ []) })
+          ∷ single (unit 2 1 (1 ∷ 2 ∷ []))
+          ∷ [];
+      source = 3;
+      first = 65534;
+      stamps = λ i. record { marker = false; type = 96; time = 2 };
+      gather = replicate 4 0;
+      outs = λ i. replicate 12 0;
+      arrivals = ours 0 ∷ ours 1 ∷ ours 2 ∷ ours 3 ∷ ours 4 ∷ [];
+    }
+
+pub stream-premises : StreamPremises stream
+unfolding stream octetsOf fragment octet be16
+stream-premises =
+    record {
+      formed = omega arith;
+      ruled = omega arith;
+      taken = (inr (refl, refl), (tt, (omega arith, (inl (omega arith), tt))));
+      short = omega arith;
+      domain = omega arith;
+      received =
+          record {
+            few = omega arith;
+            gather-room = omega arith;
+            out-room = λ i. omega arith;
+            source = omega arith;
+            first = omega arith;
+            stamps = λ i. record { type = omega arith; time = omega arith };
+            foreign = tt;
+            window = omega arith;
+          };
+    }
+
+-- what is handed out, as it computes, the fragmented unit with its top bit clear; and how many packets were missed
+pub stream-outcome : (handedOut (played ourJoiner (streamShow stream)) ≡ (0 ∷ 0 ∷ 0 ∷ 1 ∷ 9 ∷ 0xF0 ∷ []) ∷ (0 ∷ 0 ∷ 0 ∷ 1 ∷ 0x67 ∷ 0xAA ∷ 0 ∷ 0 ∷ 0 ∷ 1 ∷ 0x68 ∷ 0xBB ∷ []) ∷ (0 ∷ 0 ∷ 0 ∷ 1 ∷ 0x65 ∷ 1 ∷ 2 ∷ 3 ∷ 4 ∷ []) ∷ [])
+    × (closing ourJoiner (streamShow stream) .joiner .missed ≡ 1)
+unfolding stream octetsOf fragment octet joinStep closeStep bySource feed shape unpack unpackTurn run layFed layBytes splice readPacket readHeader readFixed fieldsAt u16At u32At plainPacket packetOctets payloadOctets header.octetsOf fixedFor be16 be32 opened
+stream-outcome = (refl, refl)
