@@ -35,7 +35,8 @@ module _ {B : Type 0} where
       (lt-ltb k i (h k (inl refl)), arrived-above i before (λ j there. h j (inr there)))
   arrived-above i (other b ∷ before) h = arrived-above i before h
 
-  -- "a packet is accepted exactly when its index is above every index that arrived before it"
+  -- "Under these premises a packet is accepted exactly when its index is above every index that arrived before it; this, read off the
+  -- arrivals alone, is what demand 3 means by accepted." This is what the test says; that the joiner's calls go by it is part (a) of demand 3.
   pub accepted-sentence : (i : ℕ) (before : List (Arrival B)) →
       (isAccepted before (ours i) ≡ true) ↔ ((j : ℕ) → Arrived j before → j < i)
   accepted-sentence i before = (above-arrived i before, arrived-above i before)
