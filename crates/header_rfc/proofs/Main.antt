@@ -25,7 +25,7 @@ use Rattle.header.specs.Read.{Reading, readHeader}
 use Rattle.header.specs.Size.{headerSize}
 use Rattle.header.specs.Write.{inWritingDomain, writeHeader}
 use Rattle.header.specs.Said.{heard, readingHeard}
-use Rattle.rfc3550.specs.Rfc3550.{Octets, Extension, LawfulExtension, Begins, CutShort}
+use Rattle.rfc3550.specs.Rfc3550.{Octets, Extension, LawfulExtension, Begins, IsRtp, CutShort}
 use Rattle.rfc3550.specs.Rfc8285.{Plan, Lawful, octets, Conforms, Strays}
 use Rattle.rfc3550.proofs.Parse as parse
 use Rattle.rfc3550.proofs.Blocks as blocks
@@ -58,10 +58,14 @@ NO-REFUSER = readers.no-refuser
 pub NO-FIXED-RECORD : (f : Fields) (read : List ℕ → Said Reading) → ((s : List ℕ) (r : Reading) → read s ≡ says r → r .fields ≡ f) → Complete read → ⊥
 NO-FIXED-RECORD = readers.no-fixed-record
 
--- SOUND. Whatever is accepted with version 2 is a well-formed header with those fields; or it is a header of RFC 3550 with those fixed fields
+-- SOUND. Whatever is accepted is a well-formed header with those fields; or it is a header of RFC 3550 with those fixed fields
 -- whose extension strays from RFC 8285, with the place and the reason, or has a profile 0x1001 to 0x100F.
 pub SOUND : Sound readHeader
 SOUND = sound.sound
+
+-- It begins with a header of RFC 3550 exactly where its version is 2, which the reader leaves to its caller.
+pub VERSION-2 : (s : List ℕ) (r : Reading) → Octets s → readHeader s ≡ says r → (r .fields .version ≡ 2 → IsRtp s) × (IsRtp s → r .fields .version ≡ 2)
+VERSION-2 = sound.of-version-2
 
 -- 1 and 2 are given where the octets end before the header that they begin ..
 pub CUT-SHORT : (s : List ℕ) → Fits s → CutShort s → (readHeader s ≡ refuse 1) ⊎ (readHeader s ≡ refuse 2)

@@ -18,12 +18,13 @@ use Rattle.block.specs.Form.{formOf}
 use Rattle.header.specs.Fields.{Fields}
 use Rattle.header.specs.Read.{Reading, readHeader}
 use Rattle.header.proofs.Reading.{header-long, header-short, header-cut, header-extended, extension-cut, block-cut}
-use Rattle.rfc3550.specs.Rfc3550.{Octets, Fixed, LawfulFixed, Extension, LawfulExtension, extensionOctets, fixedOctets, LawfulPart, Begins, CutShort, fixed-cut, csrcs-cut, head-cut, content-cut}
+use Rattle.rfc3550.specs.Rfc3550.{Octets, Fixed, LawfulFixed, Extension, LawfulExtension, extensionOctets, fixedOctets, LawfulPart, Begins, IsRtp, CutShort, fixed-cut, csrcs-cut, head-cut, content-cut}
 use Rattle.rfc3550.specs.Rfc3550 as rtp
-use Rattle.rfc3550.specs.Rfc8285.{one-byte, two-byte, Content, laid, other, LawfulContent, Plan, Lawful, octets, extensionOf, Conforms, Strays}
+use Rattle.rfc3550.specs.Rfc8285.{one-byte, two-byte, Content, laid, other, LawfulContent, Plan, Lawful, planOf, octets, extensionOf, Conforms, Strays}
 use Rattle.rfc3550.proofs.Octets.{below-left, below-right}
 use Rattle.rfc3550.proofs.Places.{extended-octets}
 use Rattle.rfc3550.proofs.Parse.{begins-or-cut}
+use Rattle.rfc3550.proofs.Unambiguous.{unambiguous}
 use Rattle.rfc3550.proofs.Blocks.{conforms-or-strays}
 use Rattle.header_rfc.specs.Says.{elementsSaid, fieldsWith, readingSaid, Within, Over, Plain, Fits, Conforming, Departs, Deviating, Sound}
 use Rattle.header_rfc.proofs.Items.{now}
@@ -116,15 +117,13 @@ within-or-over es =
 
 -- a plan that the reader knows whole
 of-plan : (p : Plan) (payload : List ℕ) (r : Reading) → Lawful p → Plain (p .content) → readHeader (octets p ++ payload) ≡ says r →
-    r .fields .version ≡ 2 → Conforming (octets p ++ payload) r
-unfolding fieldsWith
-of-plan p payload r l plain e v =
+    Conforming (octets p ++ payload) r
+of-plan p payload r l plain e =
     let fits : Fits (octets p ++ payload) = fits-accepted (octets p ++ payload) r e in
     let said : r ≡ readingSaid p = go fits (within-or-over (elementsSaid (p .content))) in
     record {
       plan = p;
       lawful = l;
-      version = sym (ap (λ (t : Reading). t .fields .version) said) ∙ v;
       payload = payload;
       same = refl;
       said = said;
@@ -134,17 +133,15 @@ of-plan p payload r l plain e v =
     go fits (inl w) = same-answer (readHeader (octets p ++ payload)) r (readingSaid p) e (complete .within p payload l plain fits w)
     go fits (inr o) = absurd (not-refused (readHeader (octets p ++ payload)) 7 r (complete .over p payload l plain fits o) e)
 
-module _ (f : Fixed) (l : LawfulFixed f) (payload : List ℕ) (r : Reading) (v : r .fields .version ≡ 2) where
+module _ (f : Fixed) (l : LawfulFixed f) (payload : List ℕ) (r : Reading) where
   deviates : (x : Extension) → LawfulExtension x → readHeader (rtp.octets (extended f x) ++ payload) ≡ says r → Departs x →
       Deviating (rtp.octets (extended f x) ++ payload) r
-  unfolding fieldsWith
   deviates x k e why =
       let round : Round f x payload r = round-accepted f l x k payload r e in
       record {
         fixed = f;
         extension = x;
         lawful = record { fixed = l; extension = k };
-        version = sym (ap (λ (t : Fields). t .version) (round .said)) ∙ v;
         payload = payload;
         same = refl;
         elements = round .block .elements;
@@ -164,17 +161,17 @@ module _ (f : Fixed) (l : LawfulFixed f) (payload : List ℕ) (r : Reading) (v :
       go : (d : Content) → LawfulContent d → LawfulExtension (extensionOf d) →
           readHeader (rtp.octets (extended f (extensionOf d)) ++ payload) ≡ says r →
           Conforming (rtp.octets (extended f (extensionOf d)) ++ payload) r ⊎ Deviating (rtp.octets (extended f (extensionOf d)) ++ payload) r
-      go (laid one-byte items) n j q = inl (of-plan (record { fixed = f; content = some (laid one-byte items) }) payload r (lawful (laid one-byte items) n j) tt q v)
+      go (laid one-byte items) n j q = inl (of-plan (record { fixed = f; content = some (laid one-byte items) }) payload r (lawful (laid one-byte items) n j) tt q)
       go (laid (two-byte appbits) items) n j q =
           elim (ℕ-discrete appbits 0) [
             | yes z ↦
                 inl
                 (of-plan (record { fixed = f; content = some (laid (two-byte appbits) items) }) payload r
-                (lawful (laid (two-byte appbits) items) n j) z q v)
+                (lawful (laid (two-byte appbits) items) n j) z q)
             | no z ↦ inr (deviates (extensionOf (laid (two-byte appbits) items)) j q (inr (record { from = omega arith; to = omega (arith, n .0) })))
           ]
       go (other profile words) n j q =
-          inl (of-plan (record { fixed = f; content = some (other profile words) }) payload r (lawful (other profile words) n j) tt q v)
+          inl (of-plan (record { fixed = f; content = some (other profile words) }) payload r (lawful (other profile words) n j) tt q)
 
   of-extension : (x : Extension) → LawfulExtension x → Octets (rtp.octets (extended f x) ++ payload) →
       readHeader (rtp.octets (extended f x) ++ payload) ≡ says r →
@@ -189,7 +186,7 @@ module _ (f : Fixed) (l : LawfulFixed f) (payload : List ℕ) (r : Reading) (v :
       go (inr t) = inr (deviates x k e (inl t))
 
 pub sound : Sound readHeader
-sound s r o e v = go (begins-or-cut s o)
+sound s r o e = go (begins-or-cut s o)
   where
     part : (b : Begins s) (x : Option Extension) → LawfulPart x → rtp.octets (record { fixed = b .plan .fixed; extension = x }) ++ b .payload ≡ s →
         Conforming s r ⊎ Deviating s r
@@ -197,11 +194,36 @@ sound s r o e v = go (begins-or-cut s o)
         subst (λ (t : List ℕ). Conforming t r ⊎ Deviating t r) same
         (inl
         (of-plan (record { fixed = b .plan .fixed; content = none }) (b .payload) r
-        (record { header = record { fixed = b .lawful .fixed; extension = tt }; content = tt }) tt (ap readHeader same ∙ e) v))
+        (record { header = record { fixed = b .lawful .fixed; extension = tt }; content = tt }) tt (ap readHeader same ∙ e)))
     part b (some x) l same =
         subst (λ (t : List ℕ). Conforming t r ⊎ Deviating t r) same
-        (of-extension (b .plan .fixed) (b .lawful .fixed) (b .payload) r v x l (subst Octets (sym same) o) (ap readHeader same ∙ e))
+        (of-extension (b .plan .fixed) (b .lawful .fixed) (b .payload) r x l (subst Octets (sym same) o) (ap readHeader same ∙ e))
 
     go : Begins s ⊎ CutShort s → Conforming s r ⊎ Deviating s r
     go (inl b) = part b (b .plan .extension) (b .lawful .extension) (b .same)
     go (inr c) = absurd (not-refused (readHeader s) (cutNumber c) r (cut-refused s (fits-accepted s r e) c) e)
+
+-- ---- version 2
+
+-- what was accepted begins with a header of the RFC exactly where what was read says version 2
+pub of-version-2 : (s : List ℕ) (r : Reading) → Octets s → readHeader s ≡ says r → (r .fields .version ≡ 2 → IsRtp s) × (IsRtp s → r .fields .version ≡ 2)
+unfolding fieldsWith
+of-version-2 s r o e = go (sound s r o e)
+  where
+    begun : (b : Begins s) → r .fields .version ≡ b .plan .fixed .version → (r .fields .version ≡ 2 → IsRtp s) × (IsRtp s → r .fields .version ≡ 2)
+    begun b told = (
+      λ v. record { begins = b; version = sym told ∙ v },
+      λ p.
+          told
+          ∙ ap (λ (q : rtp.Plan). q .fixed .version)
+          (unambiguous (b .plan) (p .begins .plan) (b .payload) (p .begins .payload) (b .lawful) (p .begins .lawful) (b .same ∙ sym (p .begins .same)) .0)
+          ∙ p .version,
+    )
+
+    go : Conforming s r ⊎ Deviating s r → (r .fields .version ≡ 2 → IsRtp s) × (IsRtp s → r .fields .version ≡ 2)
+    go (inl c) =
+        begun (record { plan = planOf (c .plan); lawful = c .lawful .header; payload = c .payload; same = c .same })
+        (ap (λ (t : Reading). t .fields .version) (c .said))
+    go (inr d) =
+        begun (record { plan = extended (d .fixed) (d .extension); lawful = d .lawful; payload = d .payload; same = d .same })
+        (ap (λ (t : Fields). t .version) (d .said))

@@ -118,11 +118,10 @@ pub record Complete (read : List ℕ → Said Reading) : Type 0 where
   pub over : (p : Plan) (payload : List ℕ) → Lawful p → Plain (p .content) → Fits (octets p ++ payload) →
       Over (elementsSaid (p .content)) → read (octets p ++ payload) ≡ refuse 7
 
--- r is what a well-formed header of version 2 in front of s says
+-- r is what a well-formed header in front of s says, whatever its version
 pub record Conforming (s : List ℕ) (r : Reading) : Type 0 where
   pub plan : Plan
   pub lawful : Lawful plan
-  pub version : plan .fixed .version ≡ 2
   pub payload : List ℕ
   pub same : octets plan ++ payload ≡ s
   pub said : r ≡ readingSaid plan
@@ -132,12 +131,11 @@ pub record Conforming (s : List ℕ) (r : Reading) : Type 0 where
 abbrev pub Departs : Extension → Type 0
 Departs x = Strays x ⊎ AppBits (x .profile)
 
--- s has a lawful header of version 2, as RFC 3550 has it, in front, with r's fixed fields; but its extension leaves RFC 8285
+-- s has a lawful header, as RFC 3550 has it, in front, with r's fixed fields; but its extension leaves RFC 8285
 pub record Deviating (s : List ℕ) (r : Reading) : Type 0 where
   pub fixed : Fixed
   pub extension : Extension
   pub lawful : rtp.Lawful (record { fixed = fixed; extension = some extension })
-  pub version : fixed .version ≡ 2
   pub payload : List ℕ
   pub same : rtp.octets (record { fixed = fixed; extension = some extension }) ++ payload ≡ s
   pub elements : List Element
@@ -145,6 +143,6 @@ pub record Deviating (s : List ℕ) (r : Reading) : Type 0 where
   pub said : r .fields ≡ fieldsWith fixed true (extension .profile) elements pads
   pub why : Departs extension
 
--- whatever is accepted with version 2 is well-formed with those fields, or strays
+-- whatever is accepted is well-formed with those fields, or strays
 abbrev pub Sound : (List ℕ → Said Reading) → Type 0
-Sound read = (s : List ℕ) (r : Reading) → Octets s → read s ≡ says r → r .fields .version ≡ 2 → Conforming s r ⊎ Deviating s r
+Sound read = (s : List ℕ) (r : Reading) → Octets s → read s ≡ says r → Conforming s r ⊎ Deviating s r

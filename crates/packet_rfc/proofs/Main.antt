@@ -25,7 +25,7 @@ use Rattle.header.specs.declared.Length.the-variants as len
 use Rattle.header.specs.Fields.{Fields, fieldsOf, layOut, inDomain}
 use Rattle.header.specs.Said as answers
 use Rattle.rfc3550.specs.Rfc3550.{Octets}
-use Rattle.rfc3550.specs.Packet.{Packet, LawfulPacket, packetOctets, Padded, Uncounted, Short}
+use Rattle.rfc3550.specs.Packet.{Packet, LawfulPacket, packetOctets, IsRtpPacket, Padded, Uncounted, Short}
 use Rattle.rfc3550.proofs.Packets as packets
 use Rattle.header_rfc.specs.Says.{elementsSaid, fieldsSaid, Within, Plain, AppBits, Fits}
 use Rattle.header_rfc.specs.RoundTrip.{InRange, ReadsBack, Trailing}
@@ -33,7 +33,7 @@ use Rattle.packet.specs.declared.Unmarshalled.{Unmarshalled}
 use Rattle.packet.specs.Read.{Payload, PacketReading, readPacket}
 use Rattle.packet.specs.Write as written
 use Rattle.packet.specs.Said.{heard, readingHeard}
-use Rattle.packet_rfc.specs.Says.{readingSaid, payloadIn, Complete, Sound, CutInPadding}
+use Rattle.packet_rfc.specs.Says.{readingSaid, payloadIn, Complete, Conforming, Sound, CutInPadding}
 use Rattle.packet_rfc.specs.RoundTrip.{Chosen, FillingEnd, WrittenAs, Writes, WrittenAndRead, CodeWrittenAndRead, ReadsAgain}
 use Rattle.packet_rfc.proofs.Complete as complete
 use Rattle.packet_rfc.proofs.Readers as readers
@@ -82,11 +82,15 @@ pub NO-KEEPER : (read : List ℕ → Said PacketReading) →
     ((s : List ℕ) (r : PacketReading) → read s ≡ says r → r .payload .place + r .payload .len ≡ length s) → Complete read → ⊥
 NO-KEEPER = readers.no-keeper
 
--- SOUND. Whatever is accepted with version 2 is a packet of the RFC with those fields and that payload; or it is a lawful header with the P bit before
+-- SOUND. Whatever is accepted is a well-formed packet with those fields and that payload; or it is a lawful header with the P bit before
 -- octets of which the last is 0, and all those octets are the payload; or its header strays, as the header's SOUND says, with the place and the reason,
 -- and the payload is measured by the same rule from wherever the reading of the header ended.
 pub SOUND : Sound readPacket
 SOUND = sound.sound
+
+-- A well-formed packet is a packet of the RFC exactly where its version is 2, which the reader leaves to its caller.
+pub VERSION-2 : (s : List ℕ) (r : PacketReading) → Conforming s r → (r .fields .version ≡ 2 → IsRtpPacket s) × (IsRtpPacket s → r .fields .version ≡ 2)
+VERSION-2 = sound.of-version-2
 
 -- 4 is given where a header with the P bit was read, and behind it are no octets, or fewer than the last of them counts ..
 pub SHORT : (s : List ℕ) → CutInPadding s → readPacket s ≡ refuse 4

@@ -1,4 +1,4 @@
--- Whatever is accepted is a packet of the RFC, has a padding count of 0, or strays: the header conforms or strays by the header's SOUND, and
+-- Whatever is accepted is a well-formed packet, has a padding count of 0, or strays: the header conforms or strays by the header's SOUND, and
 -- the octets behind it were measured. Assumes nothing.
 use mathlib.Core.Path.{_≡_, refl, sym, ap, _∙_, subst}
 use mathlib.Core.List.{List, [], _∷_, _++_, append-nil}
@@ -9,7 +9,8 @@ use lib.ListN.{length, drop, length-append}
 use lib.Seq.{drop-at}
 use Rattle.header.specs.Read.{Reading}
 use Rattle.rfc3550.specs.Rfc8285.{Plan, octets}
-use Rattle.rfc3550.specs.Packet.{packetOctets}
+use Rattle.rfc3550.specs.Packet.{Packet, packetOctets, IsRtpPacket}
+use Rattle.rfc3550.proofs.Packets.{unambiguous-packets}
 use Rattle.header_rfc.specs.Says.{fieldsWith, fieldsSaid, Deviating}
 use Rattle.header_rfc.specs.Says as header
 use Rattle.header_rfc.proofs.Sound as header-read
@@ -42,7 +43,6 @@ module _ (s : List ℕ) (r : PacketReading) (c : header.Conforming s (headerOf r
       (record {
         plan = record { header = h; payload = c .payload; padding = none };
         lawful = record { header = c .lawful; bit = sym bit ∙ off; padding = tt };
-        version = c .version;
         same = ap (λ (t : List ℕ). octets h ++ t) (append-nil (c .payload)) ∙ c .same;
         said = said (length (c .payload)) e;
       })
@@ -51,7 +51,6 @@ module _ (s : List ℕ) (r : PacketReading) (c : header.Conforming s (headerOf r
       (record {
         plan = record { header = h; payload = p .payload; padding = some (p .padding) };
         lawful = record { header = c .lawful; bit = sym bit ∙ on; padding = p .lawful };
-        version = c .version;
         same = ap (λ (t : List ℕ). octets h ++ t) (p .same) ∙ c .same;
         said = said (length (p .payload)) e;
       })
@@ -60,7 +59,6 @@ module _ (s : List ℕ) (r : PacketReading) (c : header.Conforming s (headerOf r
       (record {
         plan = h;
         lawful = c .lawful;
-        version = c .version;
         bit = sym bit ∙ on;
         before = u .before;
         same = ap (λ (t : List ℕ). octets h ++ t) (u .same) ∙ c .same;
@@ -68,7 +66,7 @@ module _ (s : List ℕ) (r : PacketReading) (c : header.Conforming s (headerOf r
       })
 
 pub sound : Sound readPacket
-sound s r o e v = go (header-read.sound s (headerOf r) o (a .header) v)
+sound s r o e = go (header-read.sound s (headerOf r) o (a .header))
   where
     a : Accepted s r
     a = accepted s r o e
@@ -81,3 +79,16 @@ sound s r o e v = go (header-read.sound s (headerOf r) o (a .header) v)
     go (inl c) =
         either (conforms s r c (subst (λ (t : List ℕ). Measured (r .fields .padding) t (r .payload .len)) (rest s r c) (a .payload)))
     go (inr d) = inr (inr (record { header = d; payload = a .payload }))
+
+-- ---- version 2
+
+-- a well-formed packet is one of the RFC exactly where what was read says version 2
+pub of-version-2 : (s : List ℕ) (r : PacketReading) → Conforming s r → (r .fields .version ≡ 2 → IsRtpPacket s) × (IsRtpPacket s → r .fields .version ≡ 2)
+unfolding fieldsWith
+of-version-2 s r c = (
+  λ v. record { plan = c .plan; lawful = c .lawful; version = sym told ∙ v; same = c .same },
+  λ p. told ∙ ap (λ (q : Packet). q .header .fixed .version) (unambiguous-packets (c .plan) (p .plan) (c .lawful) (p .lawful) (c .same ∙ sym (p .same))) ∙ p .version,
+)
+  where
+    told : r .fields .version ≡ c .plan .header .fixed .version
+    told = ap (λ (t : PacketReading). t .fields .version) (c .said)

@@ -43,19 +43,17 @@ pub record Complete (read : List ℕ → Said PacketReading) : Type 0 where
   pub over : (p : Packet) → LawfulPacket p → Plain (p .header .content) → Fits (packetOctets p) → Over (elementsSaid (p .header .content)) →
       read (packetOctets p) ≡ refuse 7
 
--- s is a packet of the RFC, of version 2, and r is what it says
+-- s is a well-formed packet, whatever its version, and r is what it says
 pub record Conforming (s : List ℕ) (r : PacketReading) : Type 0 where
   pub plan : Packet
   pub lawful : LawfulPacket plan
-  pub version : plan .header .fixed .version ≡ 2
   pub same : packetOctets plan ≡ s
   pub said : r ≡ readingSaid plan
 
--- s is a lawful header of version 2 with the P bit, and octets of which the last is 0: r has the header's fields, and all those octets as payload
+-- s is a lawful header with the P bit, and octets of which the last is 0: r has the header's fields, and all those octets as payload
 pub record ZeroCount (s : List ℕ) (r : PacketReading) : Type 0 where
   pub plan : Plan
   pub lawful : Lawful plan
-  pub version : plan .fixed .version ≡ 2
   pub bit : plan .fixed .padding ≡ true
   pub before : List ℕ
   pub same : octets plan ++ (before ++ (0 ∷ [])) ≡ s
@@ -75,10 +73,9 @@ pub record Straying (s : List ℕ) (r : PacketReading) : Type 0 where
   pub header : Deviating s (headerOf r)
   pub payload : Measured (r .fields .padding) (drop (r .payload .place) s) (r .payload .len)
 
--- whatever is accepted with version 2 is a packet of the RFC with those fields and that payload, has a padding count of 0, or strays
+-- whatever is accepted is a well-formed packet with those fields and that payload, has a padding count of 0, or strays
 abbrev pub Sound : (List ℕ → Said PacketReading) → Type 0
-Sound read = (s : List ℕ) (r : PacketReading) → Octets s → read s ≡ says r → r .fields .version ≡ 2 →
-    Conforming s r ⊎ (ZeroCount s r ⊎ Straying s r)
+Sound read = (s : List ℕ) (r : PacketReading) → Octets s → read s ≡ says r → Conforming s r ⊎ (ZeroCount s r ⊎ Straying s r)
 
 -- ---- 4
 
