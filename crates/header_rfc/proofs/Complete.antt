@@ -23,10 +23,10 @@ use Rattle.rfc3550.specs.Rfc3550.{Fixed, LawfulFixed, Extension, LawfulExtensio
 use Rattle.rfc3550.specs.Rfc3550 as rtp
 use Rattle.rfc3550.proofs.Places.{plain-octets}
 use Rattle.rfc3550.specs.Rfc8285.{Form, one-byte, two-byte, profileOf, Item, Content, laid, other, Plan, Lawful, octets, blockOctets, extensionOf, extensionWith}
-use Rattle.header_rfc.specs.Says.{elementsAmong, padsAmong, wholeElement, elementsSaid, readingSaid, Within, Over, PlainForm, Plain, Fits, Complete}
+use Rattle.header_rfc.specs.Says.{elementsAmong, padsAmong, wholeElement, elementsSaid, readingAt, readingSaid, Within, Over, PlainForm, Plain, Fits, Complete}
 use Rattle.header_rfc.specs.Taken.{AllTaken}
 use Rattle.header_rfc.proofs.Items.{isTwo, all-taken, now, read-items, read-items-over}
-use Rattle.header_rfc.proofs.Fixed.{readingAt, read-plain, extended, read-content}
+use Rattle.header_rfc.proofs.Fixed.{read-plain, extended, read-content}
 
 -- ---- the forms, as the reader knows them
 

@@ -1,6 +1,10 @@
 pub mod Items
 pub mod Fixed
 pub mod Complete
+pub mod Courses
+pub mod OneCourse
+pub mod Endings
+pub mod Follows
 pub mod Readers
 pub mod Sound
 pub mod Written
@@ -10,4 +14,5 @@ pub mod Yields
 pub mod Rewritten
 pub mod Refusals
 pub mod Writers
+pub mod Examples
 pub mod Main

@@ -15,7 +15,7 @@ use mathlib.Core.Bool.{true}
 use mathlib.Core.List.{List, _++_}
 use mathlib.Core.Logic.{_⊎_}
 use Prim.Native.Nat.{ℕ, _≤_}
-use lib.ListN.{length}
+use lib.ListN.{length, drop}
 use Rattle.error.specs.Refusal.{Refusal}
 use Rattle.error.specs.Said.{Said, says, refused, refuse}
 use Rattle.header.specs.declared.Header.{Header}
@@ -26,13 +26,19 @@ use Rattle.header.specs.Size.{headerSize}
 use Rattle.header.specs.Write.{inWritingDomain, writeHeader}
 use Rattle.header.specs.Said.{heard, readingHeard}
 use Rattle.rfc3550.specs.Rfc3550.{Octets, Extension, LawfulExtension, Begins, IsRtp, CutShort}
+use Rattle.rfc3550.specs.Rfc3550 as rtp
 use Rattle.rfc3550.specs.Rfc8285.{Plan, Lawful, octets, Conforms, Strays}
 use Rattle.rfc3550.proofs.Parse as parse
 use Rattle.rfc3550.proofs.Blocks as blocks
-use Rattle.header_rfc.specs.Says.{elementsSaid, fieldsSaid, Within, Plain, AppBits, Fits, Complete, Sound}
+use Rattle.header_rfc.specs.Says.{elementsSaid, fieldsSaid, Within, Plain, AppBits, Fits, Complete, Conforming}
+use Rattle.header_rfc.specs.Taken.{Course, elementsIn, answerIn, payloadIn, Follows, PastPacket, OverLimits}
+use Rattle.header_rfc.specs.Accepted.{Deviating, Told, Sound}
 use Rattle.header_rfc.specs.RoundTrip.{InRange, ReadsBack, WrittenAs, Writes, WrittenAndRead, AsTyped, Trailing}
 use Rattle.header_rfc.proofs.Complete as complete
 use Rattle.header_rfc.proofs.Readers as readers
+use Rattle.header_rfc.proofs.Courses as courses
+use Rattle.header_rfc.proofs.OneCourse as one-course
+use Rattle.header_rfc.proofs.Follows as follows
 use Rattle.header_rfc.proofs.Sound as sound
 use Rattle.header_rfc.proofs.Refusals as refusals
 use Rattle.header_rfc.proofs.Writers as writers
@@ -58,12 +64,56 @@ NO-REFUSER = readers.no-refuser
 pub NO-FIXED-RECORD : (f : Fields) (read : List ℕ → Said Reading) → ((s : List ℕ) (r : Reading) → read s ≡ says r → r .fields ≡ f) → Complete read → ⊥
 NO-FIXED-RECORD = readers.no-fixed-record
 
--- SOUND. Whatever is accepted is a well-formed header with those fields; or it is a header of RFC 3550 with those fixed fields
--- whose extension strays from RFC 8285, with the place and the reason, or has a profile 0x1001 to 0x100F.
+-- COURSE. Every list of octets is cut short, or goes one of four ways. Its header has no extension. Or the reader takes items of a form, which are the
+-- RFC's lawful ones and ids 0 with a length, and behind them comes the block's end, the reserved id 15, an element that leaves the block into the payload,
+-- or an id alone at the block's end. Or it takes such items, and then the packet does not hold an element. Or the profile is another ..
+pub COURSE : (s : List ℕ) → Octets s → Course s ⊎ CutShort s
+COURSE = courses.every-course
+
+-- .. never both ..
+pub COURSE-NOT-CUT : (s : List ℕ) → Course s → CutShort s → ⊥
+COURSE-NOT-CUT = one-course.course-not-cut
+
+-- .. and one way alone: two of them say the same elements, the same answer and the same payload.
+pub ONE-COURSE : {s : List ℕ} (c d : Course s) → (elementsIn c ≡ elementsIn d) × (answerIn c ≡ answerIn d) × (payloadIn c ≡ payloadIn d)
+ONE-COURSE = one-course.one-course
+
+-- FOLLOWS. The reader answers what that way says: fields, elements, count of padding and the payload's place, or 3; and 7 where the elements pass the limits ..
+pub FOLLOWS : Follows readHeader
+FOLLOWS = follows.follows
+
+-- .. the octets from that place on are the payload that the way says ..
+pub PAYLOAD : (s : List ℕ) (c : Course s) (r : Reading) → answerIn c ≡ says r → drop (r .place) s ≡ payloadIn c
+PAYLOAD = follows.payload-told
+
+-- .. whoever follows answers as ours, wherever the octets are not cut short ..
+pub ONE-READER : (read : List ℕ → Said Reading) → Follows read → (s : List ℕ) → Octets s → Fits s → (CutShort s → ⊥) → read s ≡ readHeader s
+ONE-READER = readers.one-reader
+
+-- .. and "A reader that skips to the block's end at id 15" does not, nor any other whose payload always begins where RFC 3550 has it.
+pub NO-SKIPPER : (read : List ℕ → Said Reading) → ((s : List ℕ) (b : Begins s) (r : Reading) → read s ≡ says r → r .place ≡ length (rtp.octets (b .plan))) →
+    Follows read → ⊥
+NO-SKIPPER = readers.no-skipper
+
+-- SOUND. Whatever is accepted, of whatever version, is a well-formed header and says what its plan says; or it is a header of RFC 3550 whose extension
+-- strays from RFC 8285, with the place and the reason, and says what the items that are taken and the block's way on from them say; or its profile is
+-- 0x1001 to 0x100F, and it says one element of id 0, the whole block ..
 pub SOUND : Sound readHeader
 SOUND = sound.sound
 
--- It begins with a header of RFC 3550 exactly where its version is 2, which the reader leaves to its caller.
+-- .. well-formed or not, never both ..
+pub NEVER-TWO : (s : List ℕ) (r t : Reading) → Conforming s r → Deviating s t → ⊥
+NEVER-TWO = sound.never-two
+
+-- .. what is told so is determined by the octets alone ..
+pub TOLD-ONCE : (s : List ℕ) (r t : Reading) → Told s r → Told s t → r ≡ t
+TOLD-ONCE = sound.told-once
+
+-- .. and, within the limits, it is what is read.
+pub EXACT : (s : List ℕ) (r : Reading) → Fits s → Within (r .fields .elements) → Told s r → readHeader s ≡ says r
+EXACT = sound.exact
+
+-- What is accepted begins with a header of RFC 3550 exactly where its version is 2, which the reader leaves to its caller.
 pub VERSION-2 : (s : List ℕ) (r : Reading) → Octets s → readHeader s ≡ says r → (r .fields .version ≡ 2 → IsRtp s) × (IsRtp s → r .fields .version ≡ 2)
 VERSION-2 = sound.of-version-2
 
@@ -74,6 +124,22 @@ CUT-SHORT = refusals.cut-short
 -- .. and nowhere else
 pub ONLY-CUT-SHORT : (s : List ℕ) → Octets s → Fits s → (readHeader s ≡ refuse 1) ⊎ (readHeader s ≡ refuse 2) → CutShort s
 ONLY-CUT-SHORT = refusals.only-cut
+
+-- 3 is given where an element begins in the block, the packet does not hold it, and the elements before it are within the limits ..
+pub PAST : (s : List ℕ) → Fits s → PastPacket s → readHeader s ≡ refuse 3
+PAST = refusals.past
+
+-- .. and nowhere else.
+pub ONLY-PAST : (s : List ℕ) → Octets s → readHeader s ≡ refuse 3 → PastPacket s
+ONLY-PAST = refusals.only-past
+
+-- 7 is given where the elements on the octets' way pass 32 or 1,024 data bytes ..
+pub OVER : (s : List ℕ) → Fits s → OverLimits s → readHeader s ≡ refuse 7
+OVER = refusals.over
+
+-- .. and nowhere else.
+pub ONLY-OVER : (s : List ℕ) → Octets s → readHeader s ≡ refuse 7 → OverLimits s
+ONLY-OVER = refusals.only-over
 
 -- ---- the octets alone, without reader and writer
 
@@ -142,13 +208,13 @@ SAME-OCTETS = writers.same-octets
 -- ---- where the crate leaves the RFCs, each with the theorem that says exactly what it does
 --
 -- RFC 3550 5.1, a version that is not 2           read as it is: Deviations.version-kept; written: Rewritten.version-written
--- RFC 3550 5.3.1, an element leaves the block     read whole, into the payload: Deviations.leaves-read; past the packet 3: .leaves-past; over the
---                                                 limits 7: .leaves-over, and 7 before any stray: .stray-over
--- RFC 8285 4.1.2, id 0 with a length              an element of id 0: Deviations.zero-id-read, .zero-id-leaves, .zero-id-past
+-- RFC 3550 5.3.1, an element leaves the block     read whole, into the payload: Deviations.leaves-read; past the packet 3: .lacking-past
+-- RFC 8285 4.1.2, id 0 with a length              an element of id 0, as often as it comes: Deviations.zero-id-read, and in each of the others
 -- RFC 8285 4.1.2, two elements of one id          both kept, in order: Deviations.duplicates-kept
 -- RFC 8285 4.2, id 15                             the rest of the block is payload: Deviations.reserved-read
--- RFC 8285 4.3, an id as the block's last octet   length and data from the payload: Deviations.alone-read; past the packet 3: .alone-last, .alone-past
--- RFC 8285 4.3, application bits not 0            one element of id 0, the whole block: Deviations.appbits-read
+-- RFC 8285 4.3, an id as the block's last octet   length and data from the payload: Deviations.alone-read; past the packet 3: .lacking-past
+-- RFC 8285 4.3, application bits not 0            one element of id 0, the whole block: Deviations.appbits-read; over 1,024 bytes 7: .appbits-over
+-- each of these over the limits                   7: Deviations.taken-over; before an element past the packet: .lacking-over
 -- RFC 8285 4.2, 4.3, ids 15 and 0                 written, as everything in the domain: Writers.form-written
 -- RFC 8285 4.2, id 15 written                     what is written from there on is payload: Rewritten.fifteen-written; never read: Yields.fifteen-never
 -- RFC 8285 4.2, id 0 written, one byte            as the octets of padding and that byte: Rewritten.zero-octets; never read: Yields.zero-never

@@ -21,20 +21,19 @@ use Rattle.header.specs.Write as written
 use Rattle.rfc3550.specs.Rfc3550.{Fixed, Extension, LawfulExtension}
 use Rattle.rfc3550.specs.Rfc3550 as rtp
 use Rattle.rfc3550.proofs.Places.{version-at}
-use Rattle.rfc3550.specs.Rfc8285.{Form, one-byte, two-byte, profileOf, padding, itemOctets, blockOctets, Content, laid, other, extensionIn, extensionWith, Plan, Lawful, LawfulPart, octets, reserved}
-use Rattle.header_rfc.specs.Says.{elementsAmong, padsAmong, fieldsSaid, fieldsWith, Within, PlainForm, Plain, Fits}
-use Rattle.header_rfc.specs.Taken.{AllTaken, strayed, ReadAs}
+use Rattle.rfc3550.specs.Rfc8285.{Form, one-byte, two-byte, profileOf, padding, itemOctets, blockOctets, Content, laid, other, extensionIn, extensionWith, Plan, Lawful, LawfulPart, octets}
+use Rattle.header_rfc.specs.Says.{elementsAmong, padsAmong, fieldsSaid, fieldsWith, Within, Plain, Fits}
+use Rattle.header_rfc.specs.Taken.{AllTaken, fifteen, Taken, headerTaken}
+use Rattle.header_rfc.specs.Accepted.{ReadAs}
 use Rattle.header_rfc.specs.RoundTrip.{InRange, AllKept, readBack, Trailing, itemsFor, itemsWith}
+use Rattle.header_rfc.proofs.Items.{all-taken}
 use Rattle.header_rfc.proofs.Fixed.{extended}
-use Rattle.header_rfc.proofs.Written.{fixedFor, fixed-lawful, fixed-same, inPaper, packedLength, zerosFor, filled, octets-with, filled-lawful, filled-words, elements-with, pads-with, octets-plain, octets-extended}
+use Rattle.header_rfc.proofs.Written.{fixedFor, fixed-lawful, fixed-same, inPaper, form-again, packedLength, zerosFor, filled, octets-with, filled-lawful, filled-words, elements-with, pads-with, octets-plain, octets-extended}
 use Rattle.header_rfc.proofs.RoundTrip.{in-form, kept-lawful, back}
-use Rattle.header_rfc.proofs.Deviations.{reserved-read, within-front}
+use Rattle.header_rfc.proofs.Deviations.{reserved-read}
+use Rattle.header_rfc.proofs.Endings.{within-front}
 
 -- ---- the same octets again
-
-pub form-again : (form : Form) → PlainForm form → formOf (profileOf form) ≡ inPaper form
-form-again one-byte p = refl
-form-again (two-byte appbits) p = ap (λ (a : ℕ). formOf (0x1000 + a)) p
 
 -- fewer than four octets of padding fill the last word in one way
 zeros-told : (n z m : ℕ) → n + z ≡ 4 * m → z < 4 → z ≡ 4 * wordsFor n - n
@@ -97,11 +96,16 @@ fifteen-written f w on p es fs bytes at k most payload fits =
     subst (λ (s : List ℕ). ReadAs (s ++ payload) (fixedFor f) 0xBEDE es 0 (rest ++ payload)) (sym same)
     (subst (λ (l : List Element). ReadAs (cut-octets ++ payload) (fixedFor f) 0xBEDE l 0 (rest ++ payload)) elements
     (subst (λ (n : ℕ). ReadAs (cut-octets ++ payload) (fixedFor f) 0xBEDE (elementsAmong (itemsFor es)) n (rest ++ payload)) pads
-    (reserved-read (fixedFor f) (itemsFor es) (length bytes - 1) rest payload
-    (kept-lawful one-byte es k)
-    (omega arith)
-    (record { fixed = fixed-lawful f w; extension = subst LawfulExtension lay (filled-lawful forms.one-byte (f .profile) (f .elements) (w .profile) (w .within)) })
+    (reserved-read cut-there
+    (record {
+      header = record { fixed = fixed-lawful f w; extension = subst LawfulExtension lay (filled-lawful forms.one-byte (f .profile) (f .elements) (w .profile) (w .within)) };
+      plain = tt;
+      items = all-taken one-byte (itemsFor es) (kept-lawful one-byte es k);
+      ending = omega arith;
+    })
+    payload
     (subst (λ (s : List ℕ). Fits (s ++ payload)) same fits)
+    (length bytes - 1) rest refl
     (subst Within (sym elements) (within-front es (record { id = 15; bytes = bytes } ∷ fs) (subst Within at (w .within)))))))
   where
     zeros : List ℕ
@@ -110,8 +114,11 @@ fifteen-written f w on p es fs bytes at k most payload fits =
     rest : List ℕ
     rest = bytes ++ (blocks.blockOctets forms.one-byte fs ++ zeros)
 
+    cut-there : Taken
+    cut-there = record { fixed = fixedFor f; form = one-byte; items = itemsFor es; ending = fifteen (length bytes - 1) rest }
+
     cut-octets : List ℕ
-    cut-octets = rtp.octets (strayed (fixedFor f) one-byte (itemsFor es) (reserved (length bytes - 1) rest))
+    cut-octets = rtp.octets (headerTaken cut-there)
 
     elements : elementsAmong (itemsFor es) ≡ es
     elements = ap elementsAmong (sym (items-alone es)) ∙ elements-with es 0

@@ -1,7 +1,7 @@
 -- The call writes: a record whose extension stands in one of the three ways is in the writing domain, and neither 9 nor 10 is given; so what
 -- is shown of its octets is shown of the call. Assumes nothing.
 use mathlib.Core.Path.{_≡_, refl, sym, ap, ap₂, _∙_}
-use mathlib.Core.Bool.{Bool, true, false}
+use mathlib.Core.Bool.{Bool, true, false, _&&_}
 use mathlib.Core.List.{List, [], _∷_, _++_, append-nil}
 use mathlib.Core.Option.{Option, none, some}
 use Prim.Native.Nat.{ℕ, _+_, _*_, _%_, _≤_}
@@ -16,7 +16,7 @@ use Rattle.elements.specs.Elements.{Element, dataOf, layElements}
 use Rattle.elements.proofs.Elements.{elementsOf-layElements}
 use Rattle.elements.proofs.Packed.{length-elementsOf, length-dataOf}
 use Rattle.block.specs.Form.{formOf, perElement}
-use Rattle.block.specs.Write.{allWritable}
+use Rattle.block.specs.Write.{fits, allWritable}
 use Rattle.block.specs.Form as forms
 use Rattle.block.proofs.Form.{form-other}
 use Rattle.header.specs.declared.Header.{Header}
@@ -32,21 +32,34 @@ use Rattle.rfc3550.specs.Rfc3550 as rtp
 use Rattle.rfc3550.proofs.Octets.{below-left}
 use Rattle.rfc3550.specs.Rfc8285.{Form, one-byte, two-byte, profileOf, Item, padding, element, AllLawful, Content, laid, other, extensionIn, Plan, LawfulPart, Lawful, octets}
 use Rattle.header_rfc.specs.Says.{elementsAmong, padsAmong, wholeElement, elementsSaid, fieldsWith, fieldsSaid, Within, Plain, AppBits, Fits}
-use Rattle.header_rfc.specs.RoundTrip.{InRange, ReadsBack, readBack, Trailing, Writes, WrittenAs, WrittenAndRead, AsTyped}
-use Rattle.header_rfc.proofs.Written.{fixedFor, inPaper, pads-with}
-use Rattle.header_rfc.proofs.RoundTrip.{Ways, without, in-form, whole, ways-by, TakenIn, LawfulIn, BothWays, lawful-both, back, ways-kept, writer}
+use Rattle.header_rfc.specs.Taken.{TakenElement}
+use Rattle.header_rfc.specs.RoundTrip.{InRange, ReadsBack, itemsFor, readBack, Trailing, Writes, WrittenAs, WrittenAndRead, AsTyped}
+use Rattle.header_rfc.proofs.Items.{OneTaken, one-taken, all-taken}
+use Rattle.header_rfc.proofs.Written.{fixedFor, inPaper, form-again, pads-with}
+use Rattle.header_rfc.proofs.RoundTrip.{Ways, without, in-form, whole, ways-by, TakenElements, LawfulElements, back, ways-kept, writer}
 use Rattle.header_rfc.proofs.Yields.{YieldedAs, range-with, as-yielded}
-use Rattle.header_rfc.proofs.Rewritten.{form-again, written-again}
+use Rattle.header_rfc.proofs.Rewritten.{written-again}
 use Rattle.header_rfc.proofs.Readers.{shortest, shortest-lawful}
 
 -- ---- 8, 9 and 10 are not given
 
-ways-allowed : (f : Fields) → Ways BothWays f → allWritable (formOf (f .profile)) (f .elements) ≡ true
+-- what is taken can be written
+taken-allowed : (form : Form) (es : List Element) → TakenElements form es → allWritable (inPaper form) es ≡ true
+taken-allowed form [] t = refl
+taken-allowed form (e ∷ es) t = ap₂ (λ (a b : Bool). a && b) (one form (e .id) (length (e .bytes)) (t .0)) (taken-allowed form es (t .1))
+  where
+    one : (g : Form) (id n : ℕ) → TakenElement g id n → fits (inPaper g) id n ≡ true
+    one one-byte id n m =
+        let o : OneTaken id n = one-taken id n m in
+        rw (le-leb id 15 (omega (arith, o .id-fits)), le-leb 1 n (o .enough), le-leb n 16 (o .fits))
+    one (two-byte appbits) id n m = le-leb n 255 (m .data-fits)
+
+ways-allowed : (f : Fields) → Ways TakenElements f → allWritable (formOf (f .profile)) (f .elements) ≡ true
 ways-allowed f (without off p e) = ap (allWritable (formOf (f .profile))) e
-ways-allowed f (in-form form plain on p g k) = ap (λ (h : forms.Form). allWritable h (f .elements)) g ∙ k .allowed
+ways-allowed f (in-form form plain on p g k) = ap (λ (h : forms.Form). allWritable h (f .elements)) g ∙ taken-allowed form (f .elements) k
 ways-allowed f (whole words on g e m a b) = ap₂ allWritable g e
 
-in-writing-domain : (h : Header) → inDomain h ≡ true → InRange (fieldsOf h) → Ways BothWays (fieldsOf h) → inWritingDomain h ≡ true
+in-writing-domain : (h : Header) → inDomain h ≡ true → InRange (fieldsOf h) → Ways TakenElements (fieldsOf h) → inWritingDomain h ≡ true
 unfolding fieldsOf
 in-writing-domain h d w s =
     writing-domain h d (le-leb (h .version) 3 (w .version)) (le-leb (h .«payload_type») 127 (w .type)) (ways-allowed (fieldsOf h) s)
@@ -62,7 +75,7 @@ words-pass : (on : Bool) (len count : ℕ) (x : List ℕ) → len % 4 ≡ 0 → 
 words-pass true len count x m n = rw (eq-eqb (len % 4) 0 m, eq-eqb count 1 n)
 words-pass false len count x m n = refl
 
-not-judged : (f : Fields) (x : List ℕ) → Ways BothWays f →
+not-judged : (f : Fields) (x : List ℕ) → Ways TakenElements f →
     blockAsked (f .extension) (formOf (f .profile)) (payloadLength f) (length (f .elements)) x ≡ says x
 unfolding payloadLength
 not-judged f x (without off p e) = ap (λ (on : Bool). blockAsked on (formOf (f .profile)) (payloadLength f) (length (f .elements)) x) off
@@ -82,7 +95,7 @@ not-judged f x (whole words on g e m a b) =
 -- ---- the call writes
 
 module _ (h : Header) (room : ℕ) (fits : headerSize (fieldsOf h) ≤ room) where
-  ways-written : inDomain h ≡ true → InRange (fieldsOf h) → Ways BothWays (fieldsOf h) → writeHeader h room ≡ says (octetsOf (fieldsOf h))
+  ways-written : inDomain h ≡ true → InRange (fieldsOf h) → Ways TakenElements (fieldsOf h) → writeHeader h room ≡ says (octetsOf (fieldsOf h))
   unfolding fieldsOf
   ways-written d w s =
       write-asked h room (in-writing-domain h d w s) fits ∙ not-judged (fieldsOf h) (octetsOf (fieldsOf h)) s
@@ -93,31 +106,31 @@ module _ (h : Header) (room : ℕ) (fits : headerSize (fieldsOf h) ≤ room) whe
       write-asked h room d fits
       ∙ form-passes (formOf (h .«extension_profile»)) (h .extension) (payloadLength (fieldsOf h)) (length (fieldsOf h .elements)) (octetsOf (fieldsOf h)) g
 
-pub kept-both : (f : Fields) → ReadsBack f → Ways BothWays f
-kept-both f r = ways-by LawfulIn BothWays lawful-both f (ways-kept f r)
+pub kept-taken : (f : Fields) → ReadsBack f → Ways TakenElements f
+kept-taken f r = ways-by LawfulElements TakenElements (λ form es l. all-taken form (itemsFor es) l) f (ways-kept f r)
 
 pub kept-in-domain : (h : Header) → inDomain h ≡ true → InRange (fieldsOf h) → ReadsBack (fieldsOf h) → inWritingDomain h ≡ true
-kept-in-domain h d w r = in-writing-domain h d w (kept-both (fieldsOf h) r)
+kept-in-domain h d w r = in-writing-domain h d w (kept-taken (fieldsOf h) r)
 
 pub writes : Writes writeHeader
-writes h d w r room fits = ways-written h room fits d w (kept-both (fieldsOf h) r)
+writes h d w r room fits = ways-written h room fits d w (kept-taken (fieldsOf h) r)
 
 pub written-as : (h : Header) → inDomain h ≡ true → InRange (fieldsOf h) → ReadsBack (fieldsOf h) → (AppBits (fieldsOf h .profile) → ⊥) → (room : ℕ) →
     headerSize (fieldsOf h) ≤ room → WrittenAs (fieldsOf h) (writeHeader h room)
 written-as h d w r bits room fits = writer (fieldsOf h) w r bits (writeHeader h room) (writes h d w r room fits)
 
 -- .. and what it wrote reads back
-pub octets-back : (f : Fields) → InRange f → Ways BothWays f → (payload : List ℕ) → Fits (octetsOf f ++ payload) →
+pub octets-back : (f : Fields) → InRange f → Ways TakenElements f → (payload : List ℕ) → Fits (octetsOf f ++ payload) →
     readHeader (octetsOf f ++ payload) ≡ says (record { fields = readBack f; place = length (octetsOf f) })
-octets-back f w s payload fits = back f w payload fits (ways-by BothWays TakenIn (λ form es k. k .taken) f s)
+octets-back f w s payload fits = back f w payload fits s
 
-read-back : (f : Fields) (answer : Said (List ℕ)) → InRange f → Ways BothWays f → answer ≡ says (octetsOf f) → WrittenAndRead f answer
+read-back : (f : Fields) (answer : Said (List ℕ)) → InRange f → Ways TakenElements f → answer ≡ says (octetsOf f) → WrittenAndRead f answer
 read-back f answer w s e = record { octets = octetsOf f; written = e; back = octets-back f w s }
 
 pub round-trip : (h : Header) → inDomain h ≡ true → InRange (fieldsOf h) → ReadsBack (fieldsOf h) → (room : ℕ) → headerSize (fieldsOf h) ≤ room →
     WrittenAndRead (fieldsOf h) (writeHeader h room)
 round-trip h d w r room fits =
-    read-back (fieldsOf h) (writeHeader h room) w (kept-both (fieldsOf h) r) (writes h d w r room fits)
+    read-back (fieldsOf h) (writeHeader h room) w (kept-taken (fieldsOf h) r) (writes h d w r room fits)
 
 -- ---- a record that was read
 
@@ -164,7 +177,7 @@ reads-again s o r e room fits =
 
 -- ---- a plan whose padding stands behind the elements
 
-lawful-elements : (form : Form) (is : List Item) → AllLawful form is → LawfulIn form (elementsAmong is)
+lawful-elements : (form : Form) (is : List Item) → AllLawful form is → LawfulElements form (elementsAmong is)
 lawful-elements form [] l = tt
 lawful-elements form (padding ∷ is) l = lawful-elements form is (l .1)
 lawful-elements form (element id bytes ∷ is) l = (l .0, lawful-elements form is (l .1))
@@ -187,7 +200,7 @@ plan-yielded p l plain t w = go (p .content) (l .content) (l .header .extension)
     go (some (laid form is)) m k q u v =
         record {
           range = range-with f (l .header .fixed) true (profileOf form) (elementsAmong is) (padsAmong is) (k .profile) v;
-          way = in-form form q refl refl (form-again form q) (lawful-both form (elementsAmong is) (lawful-elements form is (m .1)));
+          way = in-form form q refl refl (form-again form q) (all-taken form (itemsFor (elementsAmong is)) (lawful-elements form is (m .1)));
           pads = omega (arith, ap padsAmong (u .2) ∙ pads-with (u .0) (u .1), u .3);
         }
     go (some (other profile words)) m k q u v =

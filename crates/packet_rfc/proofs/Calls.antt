@@ -62,7 +62,7 @@ written-as h payload d w r bits short room fits =
 pub round-trip : (h : Header) (payload : List ℕ) → inDomain h ≡ true → InRange (fieldsOf h) → ReadsBack (fieldsOf h) → length payload ≤ 65535 →
     (room : ℕ) → packetSize (fieldsOf h) payload ≤ room → WrittenAndRead (fieldsOf h) payload (writePacket h payload room)
 round-trip h payload d w r short room fits =
-    back (fieldsOf h) payload w (header.kept-both (fieldsOf h) r) (writePacket h payload room) (writes h payload d w r short room fits)
+    back (fieldsOf h) payload w (header.kept-taken (fieldsOf h) r) (writePacket h payload room) (writes h payload d w r short room fits)
 
 -- ---- a record that was read
 

@@ -23,6 +23,7 @@ use Rattle.header.specs.declared.Header.{Header}
 use Rattle.header.specs.declared.Length.{Length}
 use Rattle.header.specs.declared.Length.the-variants as len
 use Rattle.header.specs.Fields.{Fields, fieldsOf, layOut, inDomain}
+use Rattle.header.specs.Read.{readHeader}
 use Rattle.header.specs.Said as answers
 use Rattle.rfc3550.specs.Rfc3550.{Octets}
 use Rattle.rfc3550.specs.Packet.{Packet, LawfulPacket, packetOctets, IsRtpPacket, Padded, Uncounted, Short}
@@ -33,7 +34,7 @@ use Rattle.packet.specs.declared.Unmarshalled.{Unmarshalled}
 use Rattle.packet.specs.Read.{Payload, PacketReading, readPacket}
 use Rattle.packet.specs.Write as written
 use Rattle.packet.specs.Said.{heard, readingHeard}
-use Rattle.packet_rfc.specs.Says.{readingSaid, payloadIn, Complete, Conforming, Sound, CutInPadding}
+use Rattle.packet_rfc.specs.Says.{readingSaid, payloadIn, Complete, Conforming, ZeroCount, Straying, Told, Sound, CutInPadding}
 use Rattle.packet_rfc.specs.RoundTrip.{Chosen, FillingEnd, WrittenAs, Writes, WrittenAndRead, CodeWrittenAndRead, ReadsAgain}
 use Rattle.packet_rfc.proofs.Complete as complete
 use Rattle.packet_rfc.proofs.Readers as readers
@@ -82,11 +83,26 @@ pub NO-KEEPER : (read : List ℕ → Said PacketReading) →
     ((s : List ℕ) (r : PacketReading) → read s ≡ says r → r .payload .place + r .payload .len ≡ length s) → Complete read → ⊥
 NO-KEEPER = readers.no-keeper
 
--- SOUND. Whatever is accepted is a well-formed packet with those fields and that payload; or it is a lawful header with the P bit before
--- octets of which the last is 0, and all those octets are the payload; or its header strays, as the header's SOUND says, with the place and the reason,
--- and the payload is measured by the same rule from wherever the reading of the header ended.
+-- SOUND. Whatever is accepted, of whatever version, is a well-formed packet and says what its plan says; or it is a lawful header with the P bit before
+-- octets of which the last is 0, and all those octets are the payload; or its header leaves RFC 8285, with fields, elements and count of padding as the
+-- header's SOUND tells them, and the payload is measured by the same rule in the octets that the header leaves to it ..
 pub SOUND : Sound readPacket
 SOUND = sound.sound
+
+-- .. one of the three alone ..
+pub WELL-FORMED-ALONE : (s : List ℕ) (r t : PacketReading) → Conforming s r → ZeroCount s t ⊎ Straying s t → ⊥
+WELL-FORMED-ALONE = sound.well-formed-alone
+
+pub ZERO-ALONE : (s : List ℕ) (r t : PacketReading) → ZeroCount s r → Straying s t → ⊥
+ZERO-ALONE = sound.zero-alone
+
+-- .. what is told so is determined by the octets alone ..
+pub TOLD-ONCE : (s : List ℕ) (r t : PacketReading) → Told s r → Told s t → r ≡ t
+TOLD-ONCE = sound.told-once
+
+-- .. and, within the limits, it is what is read.
+pub EXACT : (s : List ℕ) (r : PacketReading) → Fits s → Within (r .fields .elements) → Told s r → readPacket s ≡ says r
+EXACT = sound.exact
 
 -- A well-formed packet is a packet of the RFC exactly where its version is 2, which the reader leaves to its caller.
 pub VERSION-2 : (s : List ℕ) (r : PacketReading) → Conforming s r → (r .fields .version ≡ 2 → IsRtpPacket s) × (IsRtpPacket s → r .fields .version ≡ 2)
@@ -103,6 +119,13 @@ ONLY-SHORT = refusals.only-short
 -- .. so that no packet of the RFC gets it, within the limits or not.
 pub NEVER-SHORT : (p : Packet) → LawfulPacket p → readPacket (packetOctets p) ≡ refuse 4 → ⊥
 NEVER-SHORT = refusals.never-short
+
+-- Every other number is the header's, so that 1, 2, 3 and 7 are given where the header's theorems say, and nowhere else.
+pub HEADER-REFUSED : (s : List ℕ) (w : Refusal) → readHeader s ≡ refused w → readPacket s ≡ refused w
+HEADER-REFUSED = refusals.header-refused
+
+pub ONLY-HEADER-REFUSED : (s : List ℕ) (n : ℕ) → (n ≡ 4 → ⊥) → readPacket s ≡ refuse n → readHeader s ≡ refuse n
+ONLY-HEADER-REFUSED = refusals.only-header-refused
 
 -- ---- the octets alone, without reader and writer
 
@@ -184,7 +207,7 @@ SAME-OCTETS = calls.same-octets
 -- RFC 3550 5.1, a padding count of 0              nothing is stripped: Deviations.zero-kept; no packet of the RFC: .zero-no-packet
 -- RFC 3550 5.1, padding of 1 to 255 octets        read whatever they are: COMPLETE; written 1 to 4, zeros and the count: WRITER-PADDING
 -- RFC 3550 A.1, a count that leaves no payload    taken, the payload is empty: Deviations.only-padding; written for an empty payload: .empty-written
--- RFC 3550 5.3.1, a header that strays            what is left of the packet behind what was read of it is judged by the same rule:
+-- RFC 3550 5.3.1, a header that strays            the octets that it leaves to the payload are judged by the same rule: EXACT and SHORT; by parts
 --                                                 Deviations.stray-plain, .stray-padded, .stray-zero, .stray-short
 -- RFC 8285 4.2, id 15, with the P bit             the padding may stand in the rest of the block: Deviations.reserved-padded
 -- RFC 8285 4.3, application bits not 0            the payload is that of the packet: Deviations.appbits-packet
