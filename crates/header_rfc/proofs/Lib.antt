@@ -10,6 +10,7 @@ pub mod Sound
 pub mod Written
 pub mod RoundTrip
 pub mod Deviations
+pub mod Ranges
 pub mod Yields
 pub mod Rewritten
 pub mod Refusals

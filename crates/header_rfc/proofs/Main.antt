@@ -18,13 +18,16 @@ use Prim.Native.Nat.{ℕ, _≤_}
 use lib.ListN.{length, drop}
 use Rattle.error.specs.Refusal.{Refusal}
 use Rattle.error.specs.Said.{Said, says, refused, refuse}
+use Rattle.wire.specs.Part.{splice}
 use Rattle.header.specs.declared.Header.{Header}
+use Rattle.header.specs.declared.Length.{Length}
+use Rattle.header.specs.declared.Length.the-variants as len
 use Rattle.header.specs.declared.Unmarshalled.{Unmarshalled}
 use Rattle.header.specs.Fields.{Fields, fieldsOf, layOut, inDomain}
 use Rattle.header.specs.Read.{Reading, readHeader}
 use Rattle.header.specs.Size.{headerSize}
-use Rattle.header.specs.Write.{inWritingDomain, writeHeader}
-use Rattle.header.specs.Said.{heard, readingHeard}
+use Rattle.header.specs.Write.{octetsOf, inWritingDomain, writeHeader}
+use Rattle.header.specs.Said.{heard, readingHeard, heardWritten, written}
 use Rattle.rfc3550.specs.Rfc3550.{Octets, Extension, LawfulExtension, Begins, IsRtp, CutShort}
 use Rattle.rfc3550.specs.Rfc3550 as rtp
 use Rattle.rfc3550.specs.Rfc8285.{Plan, Lawful, octets, Conforms, Strays}
@@ -33,7 +36,7 @@ use Rattle.rfc3550.proofs.Blocks as blocks
 use Rattle.header_rfc.specs.Says.{elementsSaid, fieldsSaid, Within, Plain, AppBits, Fits, Complete, Conforming}
 use Rattle.header_rfc.specs.Taken.{Course, elementsIn, answerIn, payloadIn, Follows, PastPacket, OverLimits}
 use Rattle.header_rfc.specs.Accepted.{Deviating, Told, Sound}
-use Rattle.header_rfc.specs.RoundTrip.{InRange, ReadsBack, WrittenAs, Writes, WrittenAndRead, AsTyped, Trailing}
+use Rattle.header_rfc.specs.RoundTrip.{InRange, AsTyped, ReadsBack, WrittenAs, Writes, WrittenAndRead, CodeWrittenAndRead, Trailing}
 use Rattle.header_rfc.proofs.Complete as complete
 use Rattle.header_rfc.proofs.Readers as readers
 use Rattle.header_rfc.proofs.Courses as courses
@@ -41,6 +44,7 @@ use Rattle.header_rfc.proofs.OneCourse as one-course
 use Rattle.header_rfc.proofs.Follows as follows
 use Rattle.header_rfc.proofs.Sound as sound
 use Rattle.header_rfc.proofs.Refusals as refusals
+use Rattle.header_rfc.proofs.Ranges as ranges
 use Rattle.header_rfc.proofs.Writers as writers
 
 -- ---- reading
@@ -165,8 +169,8 @@ NEVER-BOTH = blocks.not-both
 
 -- ---- writing
 
--- WRITES. Every record in the domain that meets the paper's conditions for the round trip is written, wherever there is room for its size, and as
--- the octets that the paper has for its fields.
+-- WRITES. Every record in the writing domain that meets the paper's conditions for the round trip is written, wherever there is room for its size, and
+-- as the octets that the paper has for its fields.
 pub WRITES : Writes writeHeader
 WRITES = writers.writes
 
@@ -175,24 +179,36 @@ pub NO-REFUSING-WRITER : (write : Header → ℕ → Said (List ℕ)) (why : Hea
     ((h : Header) (room : ℕ) → h .extension ≡ true → write h room ≡ refused (why h room)) → Writes write → ⊥
 NO-REFUSING-WRITER = writers.no-refusing-writer
 
--- Those conditions lie in the domain of writing ..
-pub IN-DOMAIN : (h : Header) → inDomain h ≡ true → InRange (fieldsOf h) → ReadsBack (fieldsOf h) → inWritingDomain h ≡ true
+-- Those conditions ask no more of ids and lengths than the writing domain does ..
+pub IN-DOMAIN : (h : Header) → inDomain h ≡ true → h .version ≤ 3 → h .«payload_type» ≤ 127 → ReadsBack (fieldsOf h) → inWritingDomain h ≡ true
 IN-DOMAIN = writers.kept-in-domain
 
--- .. and every record of that domain has its fields in those ranges.
+-- .. and in that domain the fields are in the ranges of the paper and of the RFC: the widths are those of the record's own types, which every record has
+-- (`typed` of src/lib.rt).
 pub IN-RANGE : (h : Header) → AsTyped h → inWritingDomain h ≡ true → InRange (fieldsOf h)
-IN-RANGE = writers.only-in-range
+IN-RANGE = ranges.only-in-range
 
 -- WRITER. What is written so is the octets of a lawful plan, which says the record. (A profile 0x1001 to 0x100F is RFC 8285's two-byte form; the crate
 -- writes any words there.)
-pub WRITER : (h : Header) → inDomain h ≡ true → InRange (fieldsOf h) → ReadsBack (fieldsOf h) → (AppBits (fieldsOf h .profile) → ⊥) → (room : ℕ) →
+pub WRITER : (h : Header) → AsTyped h → inWritingDomain h ≡ true → ReadsBack (fieldsOf h) → (AppBits (fieldsOf h .profile) → ⊥) → (room : ℕ) →
     headerSize (fieldsOf h) ≤ room → WrittenAs (fieldsOf h) (writeHeader h room)
 WRITER = writers.written-as
 
 -- ROUND TRIP. The call writes, and of what it wrote: "Fields and elements read back equal; extensions_padding reads back as the zeros written."
-pub ROUND-TRIP : (h : Header) → inDomain h ≡ true → InRange (fieldsOf h) → ReadsBack (fieldsOf h) → (room : ℕ) → headerSize (fieldsOf h) ≤ room →
+pub ROUND-TRIP : (h : Header) → AsTyped h → inWritingDomain h ≡ true → ReadsBack (fieldsOf h) → (room : ℕ) → headerSize (fieldsOf h) ≤ room →
     WrittenAndRead (fieldsOf h) (writeHeader h room)
 ROUND-TRIP = writers.round-trip
+
+-- The same of the code: under these conditions `marshal_to` answers how many bytes it wrote, whatever the buffer held ..
+pub CODE-WRITES : (h : Header) (buf exit : List ℕ) (a : Length) → heardWritten a exit ≡ written buf (writeHeader h (length buf)) →
+    inWritingDomain h ≡ true → ReadsBack (fieldsOf h) → headerSize (fieldsOf h) ≤ length buf →
+    (a ≡ len.Bytes (length (octetsOf (fieldsOf h)))) × (exit ≡ splice buf 0 (octetsOf (fieldsOf h)))
+CODE-WRITES = writers.code-writes
+
+-- .. and whatever `unmarshal` answers of these bytes, with any payload behind them, is what reads back.
+pub CODE-ROUND-TRIP : (h : Header) → AsTyped h → (buf exit : List ℕ) (a : Length) → heardWritten a exit ≡ written buf (writeHeader h (length buf)) →
+    inWritingDomain h ≡ true → ReadsBack (fieldsOf h) → headerSize (fieldsOf h) ≤ length buf → CodeWrittenAndRead h exit a
+CODE-ROUND-TRIP = writers.code-round-trip
 
 -- The other way round: the record that was read from any octets is written, and reads back ..
 pub READ-WRITE-READ : (s : List ℕ) → Octets s → (r : Reading) → readHeader s ≡ says r → (room : ℕ) → headerSize (r .fields) ≤ room →

@@ -1,9 +1,9 @@
 -- What the reader yields, whatever the octets: the elements of the way that they go are all taken, within the limits, and each octet of padding is one of
 -- the block. So a record with any other element is never read. Assumes nothing.
 use mathlib.Core.Path.{_≡_, refl, _∙_, subst}
-use mathlib.Core.Bool.{Bool, true, false}
+use mathlib.Core.Bool.{true, false}
 use mathlib.Core.List.{List, [], _∷_, _++_}
-use Prim.Native.Nat.{ℕ, _<_, _≤_}
+use Prim.Native.Nat.{ℕ, _≤_}
 use native.Mathlib.Omega.{arith}
 use lib.ListN.{length, length-append}
 use Rattle.error.specs.Said.{says}
@@ -18,6 +18,7 @@ use Rattle.header_rfc.specs.Taken.{TakenElement, AllTaken, Ending, ends,
 use Rattle.header_rfc.specs.Accepted.{IsRead}
 use Rattle.header_rfc.specs.RoundTrip.{InRange}
 use Rattle.header_rfc.proofs.Items.{OneTaken, one-taken}
+use Rattle.header_rfc.proofs.Ranges.{range-with}
 use Rattle.header_rfc.proofs.Sound.{Gone, gone}
 use Rattle.header_rfc.proofs.Written.{form-again}
 use Rattle.header_rfc.proofs.RoundTrip.{Ways, without, in-form, whole, TakenElements}
@@ -30,23 +31,6 @@ pub record YieldedAs (f : Fields) : Type 0 where
   pub way : Ways TakenElements f
   -- "extensions_padding in any record up to 262,140": 65,535 words
   pub pads : f .pads ≤ 262140
-
--- fields of a lawful header are in their ranges
-pub range-with : (f : Fixed) → LawfulFixed f → (x : Bool) (profile : ℕ) (es : List Element) (pads : ℕ) → profile < 65536 → Within es →
-    InRange (fieldsWith f x profile es pads)
-unfolding fieldsWith
-range-with f l x profile es pads p w =
-    record {
-      version = omega (arith, l .version);
-      type = omega (arith, l .payload-type);
-      number = l .sequence-number;
-      time = l .timestamp;
-      source = l .ssrc;
-      count = omega (arith, l .count);
-      csrcs = l .csrcs;
-      profile = p;
-      within = w;
-    }
 
 -- ---- the elements and the padding of what is taken
 

@@ -11,8 +11,8 @@ use lib.Seq.{take-at, take-length, drop-at}
 use Rattle.error.specs.Said.{says, refuse}
 use Rattle.elements.specs.Elements.{Element}
 use Rattle.header.specs.declared.Header.{Header}
-use Rattle.header.specs.Fields.{fieldsOf, inDomain}
-use Rattle.header.specs.Write.{octetsOf}
+use Rattle.header.specs.Fields.{fieldsOf}
+use Rattle.header.specs.Write.{octetsOf, inWritingDomain}
 use Rattle.rfc3550.specs.Rfc3550.{Fixed, present}
 use Rattle.rfc3550.specs.Rfc3550 as rtp
 use Rattle.rfc3550.specs.Rfc8285.{profileOf, Plan, Lawful, octets}
@@ -22,7 +22,7 @@ use Rattle.rfc3550.proofs.Packets.{count-last, length-padding, padded-counted}
 use Rattle.header_rfc.specs.Says.{elementsAmong, padsAmong, elementsSaid, wholeElement, fieldsSaid, fieldsWith, Within, Plain, AppBits, Fits}
 use Rattle.header_rfc.specs.Taken.{fifteen, headerWith, Taken, LawfulTaken, packetTaken}
 use Rattle.header_rfc.specs.Accepted.{ReadAs}
-use Rattle.header_rfc.specs.RoundTrip.{InRange, ReadsBack}
+use Rattle.header_rfc.specs.RoundTrip.{ReadsBack}
 use Rattle.header_rfc.proofs.Complete as header
 use Rattle.header_rfc.proofs.Deviations as header-strays
 use Rattle.packet.specs.Read.{readPacket}
@@ -73,11 +73,11 @@ only-padding p q l k plain bit fits w = (
 )
 
 -- and an empty payload with the padding bit is written so
-pub empty-written : (h : Header) → inDomain h ≡ true → InRange (fieldsOf h) → ReadsBack (fieldsOf h) → h .padding ≡ true → (room : ℕ) →
+pub empty-written : (h : Header) → inWritingDomain h ≡ true → ReadsBack (fieldsOf h) → h .padding ≡ true → (room : ℕ) →
     written.packetSize (fieldsOf h) [] ≤ room → written.writePacket h [] room ≡ says (octetsOf (fieldsOf h) ++ (0 ∷ 0 ∷ 0 ∷ 4 ∷ []))
 unfolding fieldsOf written.packetOctets written.payloadOctets
-empty-written h d w r bit room fits =
-    writes h [] d w r (omega arith) room fits
+empty-written h d r bit room fits =
+    writes h [] d r (omega arith) room fits
     ∙ ap (λ (b : Bool). says (octetsOf (fieldsOf h) ++ written.paddingOctets (written.paddingLength b 0))) bit
 
 -- ---- headers that stray: `ReadAs` is what the header's theorems say of each way, with the octets from the payload's place on

@@ -22,14 +22,15 @@ use Rattle.wire.specs.Part.{splice}
 use Rattle.header.specs.declared.Header.{Header}
 use Rattle.header.specs.declared.Length.{Length}
 use Rattle.header.specs.declared.Length.the-variants as len
-use Rattle.header.specs.Fields.{Fields, fieldsOf, layOut, inDomain}
+use Rattle.header.specs.Fields.{Fields, fieldsOf, layOut}
+use Rattle.header.specs.Write.{inWritingDomain}
 use Rattle.header.specs.Read.{readHeader}
 use Rattle.header.specs.Said as answers
 use Rattle.rfc3550.specs.Rfc3550.{Octets}
 use Rattle.rfc3550.specs.Packet.{Packet, LawfulPacket, packetOctets, IsRtpPacket, Padded, Uncounted, Short}
 use Rattle.rfc3550.proofs.Packets as packets
 use Rattle.header_rfc.specs.Says.{elementsSaid, fieldsSaid, Within, Plain, AppBits, Fits}
-use Rattle.header_rfc.specs.RoundTrip.{InRange, ReadsBack, Trailing}
+use Rattle.header_rfc.specs.RoundTrip.{AsTyped, ReadsBack, Trailing}
 use Rattle.packet.specs.declared.Unmarshalled.{Unmarshalled}
 use Rattle.packet.specs.Read.{Payload, PacketReading, readPacket}
 use Rattle.packet.specs.Write as written
@@ -149,7 +150,7 @@ UNCOUNTED-ROOM = packets.uncounted-room
 
 -- ---- writing
 
--- WRITES. Every record in the domain that meets the paper's conditions for the round trip is written with any payload of the domain, wherever there is
+-- WRITES. Every record in the writing domain that meets the paper's conditions for the round trip is written with any payload of the domain, wherever there is
 -- room for both and the padding, and as the octets that the paper has for them.
 pub WRITES : Writes written.writePacket
 WRITES = calls.writes
@@ -161,7 +162,7 @@ NO-REFUSING-WRITER = calls.no-refusing-writer
 
 -- WRITER. What is written so is the octets of a lawful packet, which says the record and has the payload. (A profile 0x1001 to 0x100F is RFC 8285's
 -- two-byte form; the crate writes any words there.)
-pub WRITER : (h : Header) (payload : List ℕ) → inDomain h ≡ true → InRange (fieldsOf h) → ReadsBack (fieldsOf h) → (AppBits (fieldsOf h .profile) → ⊥) →
+pub WRITER : (h : Header) (payload : List ℕ) → AsTyped h → inWritingDomain h ≡ true → ReadsBack (fieldsOf h) → (AppBits (fieldsOf h .profile) → ⊥) →
     length payload ≤ 65535 → (room : ℕ) → written.packetSize (fieldsOf h) payload ≤ room → WrittenAs (fieldsOf h) payload (written.writePacket h payload room)
 WRITER = calls.written-as
 
@@ -171,21 +172,21 @@ WRITER-PADDING = round-trip.padding-chosen
 
 -- ROUND TRIP. The call writes, and "A whole packet reads back so too, where at most 65,535 bytes were written": the fields as in the header's round trip,
 -- the payload at its place with its length, and the bytes there.
-pub ROUND-TRIP : (h : Header) (payload : List ℕ) → inDomain h ≡ true → InRange (fieldsOf h) → ReadsBack (fieldsOf h) → length payload ≤ 65535 →
+pub ROUND-TRIP : (h : Header) (payload : List ℕ) → AsTyped h → inWritingDomain h ≡ true → ReadsBack (fieldsOf h) → length payload ≤ 65535 →
     (room : ℕ) → written.packetSize (fieldsOf h) payload ≤ room → WrittenAndRead (fieldsOf h) payload (written.writePacket h payload room)
 ROUND-TRIP = calls.round-trip
 
 -- The same of the code: under these conditions `marshal_to` answers how many bytes it wrote, whatever the buffer held ..
 pub CODE-WRITES : (h : Header) (payload buf exit : List ℕ) (a : Length) →
     answers.heardWritten a exit ≡ answers.written buf (written.writePacket h payload (length buf)) →
-    inDomain h ≡ true → InRange (fieldsOf h) → ReadsBack (fieldsOf h) → length payload ≤ 65535 → written.packetSize (fieldsOf h) payload ≤ length buf →
+    inWritingDomain h ≡ true → ReadsBack (fieldsOf h) → length payload ≤ 65535 → written.packetSize (fieldsOf h) payload ≤ length buf →
     (a ≡ len.Bytes (length (written.packetOctets (fieldsOf h) payload))) × (exit ≡ splice buf 0 (written.packetOctets (fieldsOf h) payload))
 CODE-WRITES = calls.code-writes
 
 -- .. and whatever `unmarshal` answers of these bytes is what reads back.
-pub CODE-ROUND-TRIP : (h : Header) (payload buf exit : List ℕ) (a : Length) →
+pub CODE-ROUND-TRIP : (h : Header) → AsTyped h → (payload buf exit : List ℕ) (a : Length) →
     answers.heardWritten a exit ≡ answers.written buf (written.writePacket h payload (length buf)) →
-    inDomain h ≡ true → InRange (fieldsOf h) → ReadsBack (fieldsOf h) → length payload ≤ 65535 → written.packetSize (fieldsOf h) payload ≤ length buf →
+    inWritingDomain h ≡ true → ReadsBack (fieldsOf h) → length payload ≤ 65535 → written.packetSize (fieldsOf h) payload ≤ length buf →
     CodeWrittenAndRead h payload exit a
 CODE-ROUND-TRIP = calls.code-round-trip
 
