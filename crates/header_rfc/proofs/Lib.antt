@@ -13,6 +13,7 @@ pub mod Deviations
 pub mod Ranges
 pub mod Yields
 pub mod Rewritten
+pub mod Padding
 pub mod Refusals
 pub mod Writers
 pub mod Examples

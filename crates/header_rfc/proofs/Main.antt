@@ -11,14 +11,17 @@
 -- `Rewritten` and `Yields`, one theorem for each row of docs/DIFFERENCES.md; the one that COMPLETE has to leave out is `Plain`: of the two-byte
 -- form's profiles 0x1000 to 0x100F only 0x1000 is read as such.
 use mathlib.Core.Path.{_≡_, ap, _∙_}
-use mathlib.Core.Bool.{true}
+use mathlib.Core.Bool.{true, false}
 use mathlib.Core.List.{List, _++_}
 use mathlib.Core.Logic.{_⊎_}
-use Prim.Native.Nat.{ℕ, _≤_}
+use Prim.Native.Nat.{ℕ, _+_, _%_, _≤_}
 use lib.ListN.{length, drop}
 use Rattle.error.specs.Refusal.{Refusal}
 use Rattle.error.specs.Said.{Said, says, refused, refuse}
 use Rattle.wire.specs.Part.{splice}
+use Rattle.elements.specs.Elements.{dataOf}
+use Rattle.block.specs.Form.{formOf, lengthFor}
+use Rattle.block.specs.Form as forms
 use Rattle.header.specs.declared.Header.{Header}
 use Rattle.header.specs.declared.Length.{Length}
 use Rattle.header.specs.declared.Length.the-variants as len
@@ -27,6 +30,7 @@ use Rattle.header.specs.Fields.{Fields, fieldsOf, layOut, inDomain}
 use Rattle.header.specs.Read.{Reading, readHeader}
 use Rattle.header.specs.Size.{headerSize}
 use Rattle.header.specs.Write.{octetsOf, inWritingDomain, writeHeader}
+use Rattle.header.specs.Extension.{setExtension, delExtension, firstProfile}
 use Rattle.header.specs.Said.{heard, readingHeard, heardWritten, written}
 use Rattle.rfc3550.specs.Rfc3550.{Octets, Extension, LawfulExtension, Begins, IsRtp, CutShort}
 use Rattle.rfc3550.specs.Rfc3550 as rtp
@@ -34,9 +38,9 @@ use Rattle.rfc3550.specs.Rfc8285.{Plan, Lawful, octets, Conforms, Strays}
 use Rattle.rfc3550.proofs.Parse as parse
 use Rattle.rfc3550.proofs.Blocks as blocks
 use Rattle.header_rfc.specs.Says.{elementsSaid, fieldsSaid, Within, Plain, AppBits, Fits, Complete, Conforming}
-use Rattle.header_rfc.specs.Taken.{Course, elementsIn, answerIn, payloadIn, Follows, PastPacket, OverLimits}
-use Rattle.header_rfc.specs.Accepted.{Deviating, Told, Sound}
-use Rattle.header_rfc.specs.RoundTrip.{InRange, AsTyped, ReadsBack, WrittenAs, Writes, WrittenAndRead, CodeWrittenAndRead, Trailing}
+use Rattle.header_rfc.specs.Taken.{TakenIn, Course, elementsIn, answerIn, payloadIn, Follows, PastPacket, OverLimits}
+use Rattle.header_rfc.specs.Accepted.{Strayed, Unformed, Deviating, Told, Sound}
+use Rattle.header_rfc.specs.RoundTrip.{InRange, AsTyped, ReadsBack, WrittenAs, Writes, WrittenAndRead, CodeWrittenAndRead, Trailing, beyond}
 use Rattle.header_rfc.proofs.Complete as complete
 use Rattle.header_rfc.proofs.Readers as readers
 use Rattle.header_rfc.proofs.Courses as courses
@@ -46,6 +50,7 @@ use Rattle.header_rfc.proofs.Sound as sound
 use Rattle.header_rfc.proofs.Refusals as refusals
 use Rattle.header_rfc.proofs.Ranges as ranges
 use Rattle.header_rfc.proofs.Writers as writers
+use Rattle.header_rfc.proofs.Padding as padding
 
 -- ---- reading
 
@@ -68,9 +73,9 @@ NO-REFUSER = readers.no-refuser
 pub NO-FIXED-RECORD : (f : Fields) (read : List ℕ → Said Reading) → ((s : List ℕ) (r : Reading) → read s ≡ says r → r .fields ≡ f) → Complete read → ⊥
 NO-FIXED-RECORD = readers.no-fixed-record
 
--- COURSE. Every list of octets is cut short, or goes one of four ways. Its header has no extension. Or the reader takes items of a form, which are the
--- RFC's lawful ones and ids 0 with a length, and behind them comes the block's end, the reserved id 15, an element that leaves the block into the payload,
--- or an id alone at the block's end. Or it takes such items, and then the packet does not hold an element. Or the profile is another ..
+-- COURSE. Every list of octets is cut short, or goes one of four ways: a header without an extension; items that the reader takes, which are the RFC's
+-- lawful ones and ids 0 with a length, up to the block's end, a reserved id 15, an element that leaves the block for the payload, or an id alone at the
+-- block's end; such items before an element that the packet does not hold; or words of another profile ..
 pub COURSE : (s : List ℕ) → Octets s → Course s ⊎ CutShort s
 COURSE = courses.every-course
 
@@ -81,6 +86,10 @@ COURSE-NOT-CUT = one-course.course-not-cut
 -- .. and one way alone: two of them say the same elements, the same answer and the same payload.
 pub ONE-COURSE : {s : List ℕ} (c d : Course s) → (elementsIn c ≡ elementsIn d) × (answerIn c ≡ answerIn d) × (payloadIn c ≡ payloadIn d)
 ONE-COURSE = one-course.one-course
+
+-- Where items are taken, the octets tell them, and how the block goes on behind them.
+pub ONE-TAKEN : {s : List ℕ} (x y : TakenIn s) → (x .taken ≡ y .taken) × (x .after ≡ y .after)
+ONE-TAKEN = one-course.one-taken-way
 
 -- FOLLOWS. The reader answers what that way says: fields, elements, count of padding and the payload's place, or 3; and 7 where the elements pass the limits ..
 pub FOLLOWS : Follows readHeader
@@ -105,17 +114,24 @@ NO-SKIPPER = readers.no-skipper
 pub SOUND : Sound readHeader
 SOUND = sound.sound
 
--- .. well-formed or not, never both ..
-pub NEVER-TWO : (s : List ℕ) (r t : Reading) → Conforming s r → Deviating s t → ⊥
-NEVER-TWO = sound.never-two
+-- .. one of the three alone ..
+pub WELL-FORMED-ALONE : (s : List ℕ) (r t : Reading) → Conforming s r → Deviating s t → ⊥
+WELL-FORMED-ALONE = sound.well-formed-alone
+
+pub STRAYED-ALONE : (s : List ℕ) (r t : Reading) → Strayed s r → Unformed s t → ⊥
+STRAYED-ALONE = sound.strayed-alone
 
 -- .. what is told so is determined by the octets alone ..
 pub TOLD-ONCE : (s : List ℕ) (r t : Reading) → Told s r → Told s t → r ≡ t
 TOLD-ONCE = sound.told-once
 
--- .. and, within the limits, it is what is read.
+-- .. and it is what is read, within the limits ..
 pub EXACT : (s : List ℕ) (r : Reading) → Fits s → Within (r .fields .elements) → Told s r → readHeader s ≡ says r
 EXACT = sound.exact
+
+-- .. where whatever is read stands.
+pub LIMITS : (s : List ℕ) (r : Reading) → Octets s → readHeader s ≡ says r → Fits s × Within (r .fields .elements)
+LIMITS = sound.limits
 
 -- What is accepted begins with a header of RFC 3550 exactly where its version is 2, which the reader leaves to its caller.
 pub VERSION-2 : (s : List ℕ) (r : Reading) → Octets s → readHeader s ≡ says r → (r .fields .version ≡ 2 → IsRtp s) × (IsRtp s → r .fields .version ≡ 2)
@@ -220,6 +236,25 @@ READ-WRITE-READ = writers.reads-again
 pub SAME-OCTETS : (p : Plan) → Lawful p → Plain (p .content) → Trailing (p .content) → Within (elementsSaid (p .content)) → (room : ℕ) →
     headerSize (fieldsSaid p) ≤ room → writeHeader (layOut (fieldsSaid p)) room ≡ says (octets p)
 SAME-OCTETS = writers.same-octets
+
+-- ---- setting and deleting
+
+-- A later set and a delete leave elements and padding together as far from whole words as they were, so that a block of whole words stays one ..
+pub SET-KEEPS-WORDS : (h : Header) (id : ℕ) (bytes : List ℕ) (h′ : Header) → h .extension ≡ true → setExtension h id bytes ≡ says h′ →
+    beyond (fieldsOf h′) ≡ beyond (fieldsOf h)
+SET-KEEPS-WORDS = padding.set-keeps
+
+pub DELETE-KEEPS-WORDS : (h : Header) (id : ℕ) (h′ : Header) → delExtension h id ≡ says h′ → beyond (fieldsOf h′) ≡ beyond (fieldsOf h)
+DELETE-KEEPS-WORDS = padding.delete-keeps
+
+-- .. and so does a first set, with the elements that stood there counted in the profile that it picks: none on an empty header. (Over 255 bytes it keeps
+-- the profile and counts no head, so that this is so of other profiles alone.)
+pub FIRST-SET-KEEPS-WORDS : (h : Header) (id : ℕ) (bytes : List ℕ) (h′ : Header) → h .extension ≡ false →
+    (length bytes ≤ 255) ⊎ (formOf (h .«extension_profile») ≡ forms.other) → setExtension h id bytes ≡ says h′ →
+    beyond (fieldsOf h′)
+    ≡ (lengthFor (firstProfile (h .«extension_profile») (length bytes)) (length (fieldsOf h .elements)) (length (dataOf (fieldsOf h .elements)))
+    + h .«extensions_padding») % 4
+FIRST-SET-KEEPS-WORDS = padding.first-set-keeps
 
 -- ---- where the crate leaves the RFCs, each with the theorem that says exactly what it does
 --

@@ -257,7 +257,7 @@ module _ {s : List ℕ} where
       (plain-told (t .form) (y .form) (x .lawful .plain) (y .plain) (header .1)) (y .taken) (y .lacking) (y .payload) (y .why) (header .2) (begin .1)
 
   -- a form that the reader knows, and words of another profile
-  form-words : (c : Course s) (f : Fixed) (form : Form) → PlainForm form → (content : List ℕ) → begun c .plan ≡ headerWith f (profileOf form) content → WordsIn s → ⊥
+  pub form-words : (c : Course s) (f : Fixed) (form : Form) → PlainForm form → (content : List ℕ) → begun c .plan ≡ headerWith f (profileOf form) content → WordsIn s → ⊥
   form-words c f form plain content e w =
       plain-known form plain (w .profile) (w .not-one-byte) (w .not-two-byte)
       (headers-told f (w .fixed) (profileOf form) (w .profile) content (w .words) (sym e ∙ one-beginning (begun c) (begun (words w)) .0) .1)

@@ -21,11 +21,11 @@ use Rattle.rfc3550.proofs.Blocks.{laid-or-strays}
 use Rattle.rfc3550.proofs.Blocks as blocks
 use Rattle.header_rfc.specs.Says.{elementsAmong, padsAmong, fieldsWith, readingAt, readingSaid, Within, Over, PlainForm, Plain, AppBits, Fits, Conforming}
 use Rattle.header_rfc.specs.Taken.{ends, borrowed, Taken, contentTaken, headerTaken, readingTaken, headerWith, TakenIn, WordsIn, readingWords, Course, bare, takes, lacks, words, elementsIn, answerIn}
-use Rattle.header_rfc.specs.Accepted.{Deviating, payloadLeft, Told, Sound}
+use Rattle.header_rfc.specs.Accepted.{Strayed, Unformed, Deviating, payloadLeft, Told, Sound}
 use Rattle.header_rfc.proofs.Items.{all-taken, within-or-over}
 use Rattle.header_rfc.proofs.Fixed.{block-octets}
 use Rattle.header_rfc.proofs.Courses.{every-course}
-use Rattle.header_rfc.proofs.OneCourse.{begun, one-beginning, plain-lawful, one-course}
+use Rattle.header_rfc.proofs.OneCourse.{begun, one-beginning, plain-lawful, form-words, one-course}
 use Rattle.header_rfc.proofs.Follows.{follows, payload-told}
 
 -- ---- what is cut short is refused: 1 within the fixed header and the CSRCs, 2 within the extension
@@ -227,18 +227,25 @@ told-once s r t a b =
     let y : Way s t = told-way s t b in
     said-same (sym (y .said) ∙ sym (one-course (x .course) (y .course) .1) ∙ x .said)
 
--- .. and within the limits it is what is read
-pub exact : (s : List ℕ) (r : Reading) → Fits s → Within (r .fields .elements) → Told s r → readHeader s ≡ says r
+-- the elements that a way says
+elements-said : {s : List ℕ} (c : Course s) (r : Reading) → answerIn c ≡ says r → elementsIn c ≡ r .fields .elements
 unfolding fieldsWith
+elements-said (bare b) r q = sym (ap (λ (t : Reading). t .fields .elements) (said-same q))
+elements-said (takes t) r q = sym (ap (λ (t : Reading). t .fields .elements) (said-same q))
+elements-said (lacks l) r q = absurd (let z : _≡_ {A = ℕ} 0 1 = cc in omega arith)
+elements-said (words x) r q = sym (ap (λ (t : Reading). t .fields .elements) (said-same q))
+
+-- .. and within the limits it is what is read ..
+pub exact : (s : List ℕ) (r : Reading) → Fits s → Within (r .fields .elements) → Told s r → readHeader s ≡ says r
 exact s r fits w a =
     let x : Way s r = told-way s r a in
-    follows .within s (x .course) fits (subst Within (sym (elements-said (x .course) (x .said))) w) ∙ x .said
-  where
-    elements-said : (c : Course s) → answerIn c ≡ says r → elementsIn c ≡ r .fields .elements
-    elements-said (bare b) q = sym (ap (λ (t : Reading). t .fields .elements) (said-same q))
-    elements-said (takes t) q = sym (ap (λ (t : Reading). t .fields .elements) (said-same q))
-    elements-said (lacks l) q = absurd (let z : _≡_ {A = ℕ} 0 1 = cc in omega arith)
-    elements-said (words x) q = sym (ap (λ (t : Reading). t .fields .elements) (said-same q))
+    follows .within s (x .course) fits (subst Within (sym (elements-said (x .course) r (x .said))) w) ∙ x .said
+
+-- .. where whatever is read stands
+pub limits : (s : List ℕ) (r : Reading) → Octets s → readHeader s ≡ says r → Fits s × Within (r .fields .elements)
+limits s r o e =
+    let g : Gone s r = gone s r o e in
+    (fits-accepted s r e, subst Within (elements-said (g .course) r (g .said)) (g .within))
 
 -- ---- what is well-formed does not leave the RFC
 
@@ -259,8 +266,8 @@ no-bits (some (other p s)) profile content a l plain e =
     let profiles : p ≡ profile = ap (λ (x : Extension). x .profile) same in
     l .1 (omega (arith, a .from, a .to))
 
-pub never-two : (s : List ℕ) (r t : Reading) → Conforming s r → Deviating s t → ⊥
-never-two s r t c d = go d
+pub well-formed-alone : (s : List ℕ) (r t : Reading) → Conforming s r → Deviating s t → ⊥
+well-formed-alone s r t c d = go d
   where
     -- the two headers are one
     told : (d : Course s) (x : Extension) → begun d .plan .extension ≡ some x → extensionIn (c .plan .content) ≡ some x
@@ -278,6 +285,12 @@ never-two s r t c d = go d
     go (inr y) =
         no-bits (c .plan .content) (y .header .profile) (y .header .words) (y .bits) (c .lawful .content) (c .plain)
         (told (words (y .header)) (extensionWith (y .header .profile) (y .header .words)) refl)
+
+-- and what strays from a form has the profile of one
+pub strayed-alone : (s : List ℕ) (r t : Reading) → Strayed s r → Unformed s t → ⊥
+strayed-alone s r t x y =
+    let u : Taken = x .header .taken in
+    form-words (takes (x .header)) (u .fixed) (u .form) (x .header .lawful .plain) (contentTaken u) refl (y .header)
 
 -- ---- version 2
 

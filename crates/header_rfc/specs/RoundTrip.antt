@@ -3,7 +3,7 @@ use mathlib.Core.Path.{_≡_}
 use mathlib.Core.Bool.{Bool, true, false, cond}
 use mathlib.Core.List.{List, [], _∷_, _++_}
 use mathlib.Core.Option.{Option, none, some}
-use Prim.Native.Nat.{ℕ, _-_, _*_, _%_, _<_, _≤_}
+use Prim.Native.Nat.{ℕ, _+_, _-_, _*_, _%_, _<_, _≤_}
 use lib.ListN.{length, take, replicate}
 use Rattle.error.specs.Said.{Said, says}
 use Rattle.wire.specs.Each.{Each}
@@ -148,3 +148,9 @@ abbrev pub Trailing : Option Content → Type 0
 Trailing none = Unit
 Trailing (some (laid form items)) = (es : List Element) × (z : ℕ) × (items ≡ itemsWith es z) × (z < 4)
 Trailing (some (Rfc8285.other profile words)) = Unit
+
+-- ---- setting and deleting
+
+-- how far the elements, with their heads, and the padding are from whole words
+abbrev pub beyond : Fields → ℕ
+beyond f = (payloadLength f + f .pads) % 4

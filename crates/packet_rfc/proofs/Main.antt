@@ -101,9 +101,13 @@ ZERO-ALONE = sound.zero-alone
 pub TOLD-ONCE : (s : List ℕ) (r t : PacketReading) → Told s r → Told s t → r ≡ t
 TOLD-ONCE = sound.told-once
 
--- .. and, within the limits, it is what is read.
+-- .. and it is what is read, within the limits ..
 pub EXACT : (s : List ℕ) (r : PacketReading) → Fits s → Within (r .fields .elements) → Told s r → readPacket s ≡ says r
 EXACT = sound.exact
+
+-- .. where whatever is read stands.
+pub LIMITS : (s : List ℕ) (r : PacketReading) → Octets s → readPacket s ≡ says r → Fits s × Within (r .fields .elements)
+LIMITS = sound.limits
 
 -- A well-formed packet is a packet of the RFC exactly where its version is 2, which the reader leaves to its caller.
 pub VERSION-2 : (s : List ℕ) (r : PacketReading) → Conforming s r → (r .fields .version ≡ 2 → IsRtpPacket s) × (IsRtpPacket s → r .fields .version ≡ 2)

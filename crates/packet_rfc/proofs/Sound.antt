@@ -11,7 +11,7 @@ use lib.ListN.{length, drop, length-append}
 use lib.Seq.{drop-at}
 use Rattle.error.specs.Said.{says}
 use Rattle.header.specs.Read.{Reading, readHeader}
-use Rattle.rfc3550.specs.Rfc3550.{present}
+use Rattle.rfc3550.specs.Rfc3550.{Octets, present}
 use Rattle.rfc3550.specs.Rfc8285.{Plan, Lawful, octets}
 use Rattle.rfc3550.specs.Packet.{Padding, Packet, LawfulEnd, endOctets, packetOctets, IsRtpPacket, lastOctet}
 use Rattle.rfc3550.proofs.Packets.{unambiguous-packets, length-padded, count-last, padded-counted}
@@ -166,7 +166,7 @@ told-once s r t a b =
     (subst (λ (h : Reading). Measured (h .fields .padding) (drop (h .place) s) (r .payload .len)) fields (x .payload)) (y .payload) in
     λ i. record { fields = fields i .fields; payload = record { place = fields i .place; len = len i } }
 
--- .. and within the limits it is what is read
+-- .. and within the limits it is what is read ..
 pub exact : (s : List ℕ) (r : PacketReading) → Fits s → Within (r .fields .elements) → Told s r → readPacket s ≡ says r
 exact s r fits w a = go (x .payload)
   where
@@ -187,16 +187,20 @@ exact s r fits w a = go (x .payload)
     go (without-padding on p e) = said (length (p .payload)) e (read-padded s rest (r .payload .place) refl (r .fields) read on (p .payload) (p .padding) (p .same))
     go (uncounted on u e) = said (length rest) e (read-uncounted s rest (r .payload .place) refl (r .fields) read on (u .before) (u .same))
 
+-- .. where whatever is read stands
+pub limits : (s : List ℕ) (r : PacketReading) → Octets s → readPacket s ≡ says r → Fits s × Within (r .fields .elements)
+limits s r o e = header-read.limits s (headerOf r) o (accepted s r o e .header)
+
 -- ---- the three never meet
 
 -- what is well-formed neither has a padding count of 0 nor strays ..
 pub well-formed-alone : (s : List ℕ) (r t : PacketReading) → Conforming s r → ZeroCount s t ⊎ Straying s t → ⊥
 well-formed-alone s r t c (inl z) = zero-no-packet (z .plan) (z .before) (z .lawful) (z .bit) (c .plan) (c .lawful) (c .same ∙ sym (z .same))
-well-formed-alone s r t c (inr y) = header-read.never-two s (headerOf r) (headerOf t) (well-formed-front s r c) (y .header)
+well-formed-alone s r t c (inr y) = header-read.well-formed-alone s (headerOf r) (headerOf t) (well-formed-front s r c) (y .header)
 
 -- .. and where the padding count is 0 the header does not
 pub zero-alone : (s : List ℕ) (r t : PacketReading) → ZeroCount s r → Straying s t → ⊥
-zero-alone s r t z y = header-read.never-two s (headerOf r) (headerOf t) (zero-front s r z) (y .header)
+zero-alone s r t z y = header-read.well-formed-alone s (headerOf r) (headerOf t) (zero-front s r z) (y .header)
 
 -- ---- version 2
 
