@@ -37,7 +37,7 @@ form-known (two-byte appbits) p b = ap (λ (a : ℕ). readBlock (formOf (0x1000 
 -- ---- a block that is one element
 
 module _ (words rest : List ℕ) where
-  pub read-whole : Within (wholeElement words ∷ []) →
+  read-whole : Within (wholeElement words ∷ []) →
       wholeBlock (now (words ++ rest) (length words) [] 0) ≡ says (now rest 0 (wholeElement words ∷ []) 0)
   unfolding wholeBlock
   read-whole w =
@@ -54,7 +54,7 @@ module _ (words rest : List ℕ) where
       small : length words ≤ 1024
       small = rw (append-nil words) at (w .small)
 
-  pub read-whole-over : Over (wholeElement words ∷ []) → wholeBlock (now (words ++ rest) (length words) [] 0) ≡ refuse 7
+  read-whole-over : Over (wholeElement words ∷ []) → wholeBlock (now (words ++ rest) (length words) [] 0) ≡ refuse 7
   unfolding wholeBlock
   read-whole-over (inl many) = absurd (omega arith)
   read-whole-over (inr much) =

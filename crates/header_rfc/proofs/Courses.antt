@@ -92,18 +92,10 @@ runs-over form id n m part payload h =
           let more : List ℕ = take k payload in
           let some-more : length more ≡ k = length-take-le k payload (omega (arith, length-append part payload)) in
           let long : length (part ++ more) ≡ n = omega (arith, length-append part more) in
-          ending-at form (leaving id part more) (leaving-lawful form part more (subst (TakenElement form id) (sym long) m) (omega arith)) (drop k payload)
+          ending-at form (leaving id part more) (subst (TakenElement form id) (sym long) m, omega arith) (drop k payload)
           (headOctets form id n ++ part) payload (ap (λ (i : ℕ). headOctets form id i ++ part) long) (take-append-drop k payload)
-      | no over ↦ lacking-at form (data-lack id n part) (headOctets form id n ++ part) payload (lacking-lawful form m (lt-of-not-le over)) refl
+      | no over ↦ lacking-at form (data-lack id n part) (headOctets form id n ++ part) payload (m, lt-of-not-le over) refl
     ]
-  where
-    leaving-lawful : (g : Form) (a b : List ℕ) → TakenElement g id (length (a ++ b)) → 1 ≤ length b → LawfulEnding g (leaving id a b)
-    leaving-lawful one-byte a b x y = (x, y)
-    leaving-lawful (two-byte appbits) a b x y = (x, y)
-
-    lacking-lawful : (g : Form) → TakenElement g id n → length (part ++ payload) < n → LawfulLacking g (data-lack id n part) payload
-    lacking-lawful one-byte x y = (x, y)
-    lacking-lawful (two-byte appbits) x y = (x, y)
 
 -- an id as the block's last octet: so does the packet
 runs-alone : (appbits id : ℕ) (payload : List ℕ) → 1 ≤ id → id < 256 → Octets payload → Goes (two-byte appbits) (id ∷ []) payload
@@ -207,7 +199,7 @@ in-form s f l x k payload same form plain p (inr o) =
       same = ap (λ (y : Extension). rtp.octets (extended f y) ++ payload) all ∙ same;
     })
 
-pub with-extension : (s : List ℕ) (f : Fixed) → LawfulFixed f → (x : Extension) → LawfulExtension x → (payload : List ℕ) →
+with-extension : (s : List ℕ) (f : Fixed) → LawfulFixed f → (x : Extension) → LawfulExtension x → (payload : List ℕ) →
     rtp.octets (extended f x) ++ payload ≡ s → Octets (x .content ++ payload) → Course s
 with-extension s f l x k payload same o = go (known (x .profile))
   where

@@ -124,8 +124,7 @@ module _ (es : List Element) (pads : ℕ) where
       ∙ ap (λ (n : ℕ). says (now (rest ++ after) n es pads)) left
       ∙ ap says (no-more (rest ++ after) (length rest))
   ending-read (two-byte appbits) (fifteen len rest) after k m enough w = absurd m
-  ending-read one-byte (leaving id part more) after k m enough w = leaving-read one-byte id part more after k (m .0) enough w
-  ending-read (two-byte appbits) (leaving id part more) after k m enough w = leaving-read (two-byte appbits) id part more after k (m .0) enough w
+  ending-read form (leaving id part more) after k m enough w = leaving-read form id part more after k (m .0) enough w
   ending-read one-byte (lone id bytes) after k m enough w = absurd m
   ending-read (two-byte appbits) (lone id bytes) after k m enough w =
       lasts (two-byte appbits) id bytes after 1 k m (omega arith) (omega arith) enough w
@@ -134,19 +133,14 @@ module _ (es : List Element) (pads : ℕ) where
       Within es → Over (es ++ lastElement e) → Begun form e after k ≡ refuse 7
   ending-full form ends after k m enough w o = absurd (not-both es w (rw append-nil at o))
   ending-full form (fifteen len rest) after k m enough w o = absurd (not-both es w (rw append-nil at o))
-  ending-full one-byte (leaving id part more) after k m enough w o = leaving-full one-byte id part more after k (m .0) enough w o
-  ending-full (two-byte appbits) (leaving id part more) after k m enough w o = leaving-full (two-byte appbits) id part more after k (m .0) enough w o
+  ending-full form (leaving id part more) after k m enough w o = leaving-full form id part more after k (m .0) enough w o
   ending-full one-byte (lone id bytes) after k m enough w o = absurd m
   ending-full (two-byte appbits) (lone id bytes) after k m enough w o = fills (two-byte appbits) id bytes after 1 k m (omega arith) enough w o
 
-  past-lacking : (form : Form) (id n : ℕ) (part payload : List ℕ) → TakenElement form id n → length (part ++ payload) < n →
-      itemsBy (isTwo form) ((headOctets form id n ++ part) ++ payload) ≡ paper.past
-  past-lacking form id n part payload m h = ap (itemsBy (isTwo form)) (append-assoc (headOctets form id n) part payload) ∙ past-seen form id n (part ++ payload) m h
-
   lacking-past : (form : Form) (l : Lacking) (payload : List ℕ) → LawfulLacking form l payload → itemsBy (isTwo form) (lackingOctets form l ++ payload) ≡ paper.past
   unfolding twoByte
-  lacking-past one-byte (data-lack id n part) payload m = past-lacking one-byte id n part payload (m .0) (m .1)
-  lacking-past (two-byte appbits) (data-lack id n part) payload m = past-lacking (two-byte appbits) id n part payload (m .0) (m .1)
+  lacking-past form (data-lack id n part) payload m =
+      ap (itemsBy (isTwo form)) (append-assoc (headOctets form id n) part payload) ∙ past-seen form id n (part ++ payload) (m .0) (m .1)
   lacking-past one-byte (length-lacks id) payload m = absurd m
   lacking-past (two-byte appbits) (length-lacks id) [] m = rw (ne-eqb id 0 (λ z. omega (arith, m .0)))
   lacking-past (two-byte appbits) (length-lacks id) (n ∷ rest) m = past-seen (two-byte appbits) id n rest (m .0) (m .1)

@@ -72,7 +72,7 @@ pub item-telling : (form : Form) (i : Item) → TakenItem form i → TellingItem
 item-telling form padding t = tt
 item-telling form (element id bytes) t = taken-telling form id (length bytes) t
 
-pub lawful-taken : (form : Form) (id n : ℕ) → LawfulElement form id n → TakenElement form id n
+lawful-taken : (form : Form) (id n : ℕ) → LawfulElement form id n → TakenElement form id n
 lawful-taken one-byte id n l = inl l
 lawful-taken (two-byte appbits) id n l = l
 

@@ -18,9 +18,9 @@ use Rattle.header_rfc.specs.Says.{elementsAmong, wholeElement, readingAt
 use Rattle.header_rfc.specs.Taken.{TakenElement, TakenItem, AllTaken, Ending, ends, fifteen, leaving, lone, LawfulEnding, endingOctets, borrowed, headerWith, Taken, contentTaken, headerTaken, payloadTaken, elementsTaken, readingTaken, Lacking, data-lack, length-lacks, LawfulLacking, lackingOctets, contentLacking, Bare, TakenIn, LackingIn, WordsIn, Course, bare, takes, lacks, words, elementsIn, answerIn, payloadIn}
 use Rattle.header_rfc.proofs.Items.{OneTaken, one-taken, taken-telling, item-telling}
 
--- ---- and one alone
+-- ---- the header in front
 
--- each begins with a lawful header of RFC 3550
+-- each way begins with a lawful header of RFC 3550
 abbrev pub begun : {s : List ℕ} → Course s → Begins s
 begun (bare b) =
     record { plan = record { fixed = b .fixed; extension = none }; lawful = record { fixed = b .lawful; extension = tt }; payload = b .payload; same = b .same }
@@ -54,21 +54,19 @@ ending-none one-byte (fifteen len rest) m (element id bytes) l s q =
     let o : OneTaken id (length bytes) = one-taken id (length bytes) l in
     omega (arith, front q, o .id-fits, o .fits, o .enough)
 ending-none (two-byte appbits) (fifteen len rest) m i l s q = absurd m
-ending-none one-byte (leaving id part more) m i l s q = over-none one-byte id (length (part ++ more)) part (m .0) (omega (arith, m .1, length-append part more)) i l s q
-ending-none (two-byte appbits) (leaving id part more) m i l s q =
-    over-none (two-byte appbits) id (length (part ++ more)) part (m .0) (omega (arith, m .1, length-append part more)) i l s q
+ending-none form (leaving id part more) m i l s q =
+    over-none form id (length (part ++ more)) part (m .0) (omega (arith, m .1, length-append part more)) i l s q
 ending-none one-byte (lone id bytes) m i l s q = absurd m
 ending-none (two-byte appbits) (lone id bytes) m i l s q = lone-none appbits id (m .not-padding) i l s q
 
 lacking-none : (form : Form) (x : Lacking) (payload : List ℕ) → LawfulLacking form x payload → NoneBegins form (TakenItem form) (lackingOctets form x)
-lacking-none one-byte (data-lack id n part) payload m i l s q = over-none one-byte id n part (m .0) (omega (arith, m .1, length-append part payload)) i l s q
-lacking-none (two-byte appbits) (data-lack id n part) payload m i l s q =
-    over-none (two-byte appbits) id n part (m .0) (omega (arith, m .1, length-append part payload)) i l s q
+lacking-none form (data-lack id n part) payload m i l s q =
+    over-none form id n part (m .0) (omega (arith, m .1, length-append part payload)) i l s q
 lacking-none one-byte (length-lacks id) payload m i l s q = absurd m
 lacking-none (two-byte appbits) (length-lacks id) [] m i l s q = lone-none appbits id (m .0) i l s q
 lacking-none (two-byte appbits) (length-lacks id) (n ∷ rest) m i l s q = lone-none appbits id (m .0 .not-padding) i l s q
 
--- ---- and with the payload its octets tell it
+-- ---- what stands there is told by its octets and those of the payload
 
 head-size : (form : Form) (id n : ℕ) (part : List ℕ) → 1 ≤ length (headOctets form id n ++ part)
 head-size one-byte id n part = omega arith
@@ -92,47 +90,34 @@ leaving-told form id part more id′ part′ more′ a b l m o p =
 fifteen-not : (len : ℕ) (rest : List ℕ) (id n : ℕ) (part : List ℕ) → TakenElement one-byte id n → (15 * 16 + len) ∷ rest ≡ headOctets one-byte id n ++ part → ⊥
 fifteen-not len rest id n part m q = let o : OneTaken id n = one-taken id n m in omega (arith, front q, o .id-fits, o .fits, o .enough)
 
-one-told : (e d : Ending) (a b : List ℕ) → LawfulEnding one-byte e → LawfulEnding one-byte d → endingOctets one-byte e ≡ endingOctets one-byte d →
-    borrowed e ++ a ≡ borrowed d ++ b → (e ≡ d) × (a ≡ b)
-one-told ends ends a b l m o p = (refl, p)
-one-told ends (fifteen len rest) a b l m o p = absurd (omega (arith, ap length o))
-one-told ends (leaving id part more) a b l m o p = absurd (omega (arith, ap length o))
-one-told ends (lone id bytes) a b l m o p = absurd m
-one-told (fifteen len rest) ends a b l m o p = absurd (omega (arith, ap length o))
-one-told (fifteen len rest) (fifteen len′ rest′) a b l m o p =
-    let same : len ≡ len′ = omega (arith, front o) in
-    (ap₂ fifteen same (behind o), p)
-one-told (fifteen len rest) (leaving id part more) a b l m o p = absurd (fifteen-not len rest id (length (part ++ more)) part (m .0) o)
-one-told (fifteen len rest) (lone id bytes) a b l m o p = absurd m
-one-told (leaving id part more) ends a b l m o p = absurd (omega (arith, ap length o))
-one-told (leaving id part more) (fifteen len rest) a b l m o p = absurd (fifteen-not len rest id (length (part ++ more)) part (l .0) (sym o))
-one-told (leaving id part more) (leaving id′ part′ more′) a b l m o p = leaving-told one-byte id part more id′ part′ more′ a b (l .0) (m .0) o p
-one-told (leaving id part more) (lone id′ bytes) a b l m o p = absurd m
-one-told (lone id bytes) d a b l m o p = absurd l
-
-two-told : (appbits : ℕ) (e d : Ending) (a b : List ℕ) → LawfulEnding (two-byte appbits) e → LawfulEnding (two-byte appbits) d →
-    endingOctets (two-byte appbits) e ≡ endingOctets (two-byte appbits) d → borrowed e ++ a ≡ borrowed d ++ b → (e ≡ d) × (a ≡ b)
-two-told appbits ends ends a b l m o p = (refl, p)
-two-told appbits ends (fifteen len rest) a b l m o p = absurd m
-two-told appbits ends (leaving id part more) a b l m o p = absurd (omega (arith, ap length o))
-two-told appbits ends (lone id bytes) a b l m o p = absurd (omega (arith, ap length o))
-two-told appbits (fifteen len rest) d a b l m o p = absurd l
-two-told appbits (leaving id part more) ends a b l m o p = absurd (omega (arith, ap length o))
-two-told appbits (leaving id part more) (fifteen len rest) a b l m o p = absurd m
-two-told appbits (leaving id part more) (leaving id′ part′ more′) a b l m o p =
-    leaving-told (two-byte appbits) id part more id′ part′ more′ a b (l .0) (m .0) o p
-two-told appbits (leaving id part more) (lone id′ bytes) a b l m o p = absurd (omega (arith, ap length o))
-two-told appbits (lone id bytes) ends a b l m o p = absurd (omega (arith, ap length o))
-two-told appbits (lone id bytes) (fifteen len rest) a b l m o p = absurd m
-two-told appbits (lone id bytes) (leaving id′ part more) a b l m o p = absurd (omega (arith, ap length o))
-two-told appbits (lone id bytes) (lone id′ bytes′) a b l m o p =
-    let rest : (bytes ≡ bytes′) × (a ≡ b) = append-inj bytes a bytes′ b (front p) (behind p) in
-    (ap₂ lone (front o) (rest .0), rest .1)
-
 ending-told : (form : Form) (e d : Ending) (a b : List ℕ) → LawfulEnding form e → LawfulEnding form d → endingOctets form e ≡ endingOctets form d →
     borrowed e ++ a ≡ borrowed d ++ b → (e ≡ d) × (a ≡ b)
-ending-told one-byte e d a b l m o p = one-told e d a b l m o p
-ending-told (two-byte appbits) e d a b l m o p = two-told appbits e d a b l m o p
+ending-told form ends ends a b l m o p = (refl, p)
+ending-told form ends (fifteen len rest) a b l m o p = absurd (omega (arith, ap length o))
+ending-told form ends (leaving id part more) a b l m o p = absurd (omega (arith, ap length o, head-size form id (length (part ++ more)) part))
+ending-told form ends (lone id bytes) a b l m o p = absurd (omega (arith, ap length o))
+ending-told form (fifteen len rest) ends a b l m o p = absurd (omega (arith, ap length o))
+ending-told form (fifteen len rest) (fifteen len′ rest′) a b l m o p =
+    let same : len ≡ len′ = omega (arith, front o) in
+    (ap₂ fifteen same (behind o), p)
+ending-told one-byte (fifteen len rest) (leaving id part more) a b l m o p = absurd (fifteen-not len rest id (length (part ++ more)) part (m .0) o)
+ending-told (two-byte appbits) (fifteen len rest) (leaving id part more) a b l m o p = absurd l
+ending-told one-byte (fifteen len rest) (lone id bytes) a b l m o p = absurd m
+ending-told (two-byte appbits) (fifteen len rest) (lone id bytes) a b l m o p = absurd l
+ending-told form (leaving id part more) ends a b l m o p = absurd (omega (arith, ap length o, head-size form id (length (part ++ more)) part))
+ending-told one-byte (leaving id part more) (fifteen len rest) a b l m o p = absurd (fifteen-not len rest id (length (part ++ more)) part (l .0) (sym o))
+ending-told (two-byte appbits) (leaving id part more) (fifteen len rest) a b l m o p = absurd m
+ending-told form (leaving id part more) (leaving id′ part′ more′) a b l m o p = leaving-told form id part more id′ part′ more′ a b (l .0) (m .0) o p
+ending-told one-byte (leaving id part more) (lone id′ bytes) a b l m o p = absurd m
+ending-told (two-byte appbits) (leaving id part more) (lone id′ bytes) a b l m o p = absurd (omega (arith, ap length o))
+ending-told form (lone id bytes) ends a b l m o p = absurd (omega (arith, ap length o))
+ending-told one-byte (lone id bytes) (fifteen len rest) a b l m o p = absurd l
+ending-told (two-byte appbits) (lone id bytes) (fifteen len rest) a b l m o p = absurd m
+ending-told one-byte (lone id bytes) (leaving id′ part more) a b l m o p = absurd l
+ending-told (two-byte appbits) (lone id bytes) (leaving id′ part more) a b l m o p = absurd (omega (arith, ap length o))
+ending-told form (lone id bytes) (lone id′ bytes′) a b l m o p =
+    let rest : (bytes ≡ bytes′) × (a ≡ b) = append-inj bytes a bytes′ b (front p) (behind p) in
+    (ap₂ lone (front o) (rest .0), rest .1)
 
 -- what the packet holds, it does not lack
 held : (form : Form) (id : ℕ) (part more : List ℕ) (id′ n : ℕ) (part′ after : List ℕ) → TakenElement form id (length (part ++ more)) → TakenElement form id′ n →
@@ -150,9 +135,8 @@ held-or-not form ends (length-lacks id) after l m o = omega (arith, ap length o)
 held-or-not one-byte (fifteen len rest) (data-lack id n part) after l m o = fifteen-not len rest id n part (m .0) o
 held-or-not one-byte (fifteen len rest) (length-lacks id) after l m o = absurd m
 held-or-not (two-byte appbits) (fifteen len rest) x after l m o = absurd l
-held-or-not one-byte (leaving id part more) (data-lack id′ n part′) after l m o = held one-byte id part more id′ n part′ after (l .0) (m .0) (m .1) o
+held-or-not form (leaving id part more) (data-lack id′ n part′) after l m o = held form id part more id′ n part′ after (l .0) (m .0) (m .1) o
 held-or-not one-byte (leaving id part more) (length-lacks id′) after l m o = absurd m
-held-or-not (two-byte appbits) (leaving id part more) (data-lack id′ n part′) after l m o = held (two-byte appbits) id part more id′ n part′ after (l .0) (m .0) (m .1) o
 held-or-not (two-byte appbits) (leaving id part more) (length-lacks id′) after l m o = omega (arith, ap length o)
 held-or-not one-byte (lone id bytes) x after l m o = absurd l
 held-or-not (two-byte appbits) (lone id bytes) (data-lack id′ n part) after l m o = omega (arith, ap length o)
@@ -315,5 +299,6 @@ module _ {s : List ℕ} where
       absurd (form-words (lacks l) (l .fixed) (l .form) (l .plain) (contentLacking (l .form) (l .items) (l .lacking)) refl w)
   one-course (words w) (words v) = words-words w v
 
+-- what goes one of them is not cut short
 pub course-not-cut : (s : List ℕ) → Course s → CutShort s → ⊥
 course-not-cut s c cut = begins-not-cut s (begun c) cut

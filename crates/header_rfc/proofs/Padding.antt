@@ -33,22 +33,26 @@ grown-by P pads n enough short =
       | no h ↦ rw (lt-ltb pads (n % 4) (lt-of-not-le h)) (short (lt-of-not-le h))
     ]
 
--- the block grew by n: with what it grew the padding has the remainder that it had ..
-pub grown-keeps : (pads n : ℕ) → (n + grown pads n) % 4 ≡ pads % 4
-grown-keeps pads n = grown-by (λ p. (n + p) % 4 ≡ pads % 4) pads n (λ h. omega arith) (λ h. omega arith)
+-- the block grew by n, and its padding was `pads`: p is what is left of it
+pub record GrownTo (pads n p : ℕ) : Type 0 where
+  -- with what the block grew it has the remainder that it had
+  pub keeps : (n + p) % 4 ≡ pads % 4
+  -- it is less by fewer than four bytes
+  pub least : pads < p + 4
+  -- and more only where it fills a word
+  pub most : (p ≤ pads) ⊎ (p < 4)
 
--- .. it is less by fewer than four bytes ..
-pub grown-least : (pads n : ℕ) → pads < grown pads n + 4
-grown-least pads n = grown-by (λ p. pads < p + 4) pads n (λ h. omega arith) (λ h. omega arith)
+pub grown-to : (pads n : ℕ) → GrownTo pads n (grown pads n)
+grown-to pads n =
+    grown-by (GrownTo pads n) pads n
+    (λ h. record { keeps = omega arith; least = omega arith; most = inl (omega arith) })
+    (λ h. record { keeps = omega arith; least = omega arith; most = inr (omega arith) })
 
--- .. and more only where it fills a word ..
-pub grown-most : (pads n : ℕ) → (grown pads n ≤ pads) ⊎ (grown pads n < 4)
-grown-most pads n = grown-by (λ p. (p ≤ pads) ⊎ (p < 4)) pads n (λ h. inl (omega arith)) (λ h. inr (omega arith))
-
--- .. and it is the one number of which this is so.
-pub grown-only : (pads n p : ℕ) → (n + p) % 4 ≡ pads % 4 → pads < p + 4 → (p ≤ pads) ⊎ (p < 4) → p ≡ grown pads n
-grown-only pads n p keeps least most =
-    near n p (grown pads n) (keeps ∙ sym (grown-keeps pads n)) (below pads p (grown pads n) most (grown-least pads n)) (below pads (grown pads n) p (grown-most pads n) least)
+-- and of no other number is this so
+pub grown-only : (pads n p : ℕ) → GrownTo pads n p → p ≡ grown pads n
+grown-only pads n p a =
+    let b : GrownTo pads n (grown pads n) = grown-to pads n in
+    near n p (grown pads n) (a .keeps ∙ sym (b .keeps)) (below pads p (grown pads n) (a .most) (b .least)) (below pads (grown pads n) p (b .most) (a .least))
   where
     -- two numbers with one remainder that are less than 4 apart
     near : (k a b : ℕ) → (k + a) % 4 ≡ (k + b) % 4 → a < b + 4 → b < a + 4 → a ≡ b
@@ -66,7 +70,7 @@ shrunk-keeps pads n rest = omega arith
 pub resized-keeps : (pads old new : ℕ) → (new + resized pads old new) % 4 ≡ (old + pads) % 4
 resized-keeps pads old new =
     elim (decLe old new) [
-      | yes h ↦ rw (le-ltb new old h) (omega (arith, grown-keeps pads (new - old)))
+      | yes h ↦ rw (le-ltb new old h) (omega (arith, grown-to pads (new - old) .keeps))
       | no h ↦ rw (lt-ltb new old (lt-of-not-le h)) (omega arith)
     ]
 
@@ -101,7 +105,7 @@ module _ (front : List Element) (e : Element) (back : List Element) where
       omega (arith, length-append (e .bytes) (dataOf back))
 
   -- with it there are its head and its bytes more
-  pub longer : (profile : ℕ) →
+  longer : (profile : ℕ) →
       lengthFor profile (length (front ++ (e ∷ back))) (length (dataOf (front ++ (e ∷ back))))
       ≡ lengthFor profile (length (front ++ back)) (length (dataOf (front ++ back))) + (length (e .bytes) + perElement (formOf profile))
   longer profile =
@@ -199,7 +203,7 @@ module _ (h : Header) where
           left h′ (append id bytes old) z
           (change-leaves h profile (append id bytes old) z h′ (sym (ap (setFound h old id bytes) (find-absent id 0 old none)) ∙ found))
           (ap (λ (n : ℕ). (n + z) % 4) (appended profile old (record { id = id; bytes = bytes }))
-          ∙ beside (len old) (length bytes + per) z pads (grown-keeps pads (length bytes + per)))
+          ∙ beside (len old) (length bytes + per) z pads (grown-to pads (length bytes + per) .keeps))
       go (inr f) =
           let z : ℕ = resized pads (length (f .held .bytes)) (length bytes) in
           left h′ (replace id bytes old) z
@@ -248,7 +252,7 @@ module _ (h : Header) where
       ap (λ (g : Header). beyond (fieldsOf g)) (change-leaves h p (append id bytes old) z h′ set)
       ∙ beyond-changed h p (append id bytes old) z
       ∙ ap (λ (k : ℕ). (k + z) % 4) (appended p old added ∙ ap (λ (k : ℕ). l + (length bytes + k)) (sym (head-counted profile (length bytes) fine)))
-      ∙ beside l n z pads (grown-keeps pads n)
+      ∙ beside l n z pads (grown-to pads n .keeps)
     where
       set : setFirst h old id bytes ≡ says h′
       set =

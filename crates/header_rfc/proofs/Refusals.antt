@@ -33,13 +33,13 @@ fits-refused s n e h =
     ]
 
 -- why a header got a number
-pub data Why (s : List ℕ) (n : ℕ) : Type 0 where
+data Why (s : List ℕ) (n : ℕ) : Type 0 where
   is-cut : (c : CutShort s) → n ≡ cutNumber c → Why s n
   is-past : PastPacket s → n ≡ 3 → Why s n
   is-over : OverLimits s → n ≡ 7 → Why s n
   is-read : n ≡ 0 → Why s n
 
-pub why : (s : List ℕ) → Octets s → Fits s → (n : ℕ) → numberIn (readHeader s) ≡ n → Why s n
+why : (s : List ℕ) → Octets s → Fits s → (n : ℕ) → numberIn (readHeader s) ≡ n → Why s n
 why s o fits n e = go (every-course s o)
   where
     within : (c : Course s) → Within (elementsIn c) → numberIn (answerIn c) ≡ n → Why s n

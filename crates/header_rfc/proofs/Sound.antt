@@ -210,7 +210,7 @@ sound s r o e = go (gone s r o e .course) (gone s r o e .said)
 
 -- ---- what is told is what one of the four ways says
 
-pub told-way : (s : List ℕ) (r : Reading) → Told s r → Way s r
+told-way : (s : List ℕ) (r : Reading) → Told s r → Way s r
 told-way s r (inl c) = subst (Way s) (sym (c .said)) (plan-way s (c .plan .fixed) (c .plan .content) (c .payload) (c .lawful) (c .plain) (c .same))
 told-way s r (inr (inl d)) = record { course = takes (d .header); said = ap says (sym (d .said)) }
 told-way s r (inr (inr d)) = record { course = words (d .header); said = ap says (sym (d .said)) }

@@ -42,8 +42,7 @@ taken-elements form (element id bytes ∷ is) fs t u = (t .0, taken-elements for
 last-taken : (form : Form) (e : Ending) → LawfulEnding form e → TakenElements form (lastElement e)
 last-taken form ends l = tt
 last-taken form (fifteen len rest) l = tt
-last-taken one-byte (leaving id part more) l = (l .0, tt)
-last-taken (two-byte appbits) (leaving id part more) l = (l .0, tt)
+last-taken form (leaving id part more) l = (l .0, tt)
 last-taken one-byte (lone id bytes) l = absurd l
 last-taken (two-byte appbits) (lone id bytes) l = (l, tt)
 

@@ -18,7 +18,7 @@ use Rattle.header_rfc.specs.Says.{elementsAmong, padsAmong, wholeElement
 
 -- ---- items that are taken
 
--- section 4.1.2, one-byte form: an id 0 with a length field above 0. The RFC ends the elements there; the reader takes an element of 2 to 16 bytes
+-- RFC 8285 4.1.2, one-byte form: an id 0 with a length field above 0. The RFC ends the elements there; the reader takes an element of 2 to 16 bytes
 pub record ZeroId (id n : ℕ) : Type 0 where
   pub is-zero : id ≡ 0
   pub enough : 2 ≤ n
@@ -43,11 +43,11 @@ AllTaken form is = Each (TakenItem form) is
 pub data Ending : Type 0 where
   -- it ends
   ends : Ending
-  -- section 4.2, one-byte form: the reserved id 15, whatever its length field; `rest` is what the block has behind it
+  -- RFC 8285 4.2, one-byte form: the reserved id 15, whatever its length field; `rest` is what the block has behind it
   fifteen : (len : ℕ) (rest : List ℕ) → Ending
   -- an element of which the block holds `part` of the data alone; the payload begins with `more`, the others
   leaving : (id : ℕ) (part more : List ℕ) → Ending
-  -- section 4.3, two-byte form: an id as the block's last octet; the payload begins with a length octet and that many bytes
+  -- RFC 8285 4.3, two-byte form: an id as the block's last octet; the payload begins with a length octet and that many bytes
   lone : (id : ℕ) (bytes : List ℕ) → Ending
 
 -- which of these can stand in which form
@@ -55,8 +55,7 @@ abbrev pub LawfulEnding : Form → Ending → Type 0
 LawfulEnding form ends = Unit
 LawfulEnding one-byte (fifteen len rest) = len < 16
 LawfulEnding (two-byte appbits) (fifteen len rest) = ⊥
-LawfulEnding one-byte (leaving id part more) = TakenElement one-byte id (length (part ++ more)) × (1 ≤ length more)
-LawfulEnding (two-byte appbits) (leaving id part more) = TakenElement (two-byte appbits) id (length (part ++ more)) × (1 ≤ length more)
+LawfulEnding form (leaving id part more) = TakenElement form id (length (part ++ more)) × (1 ≤ length more)
 LawfulEnding one-byte (lone id bytes) = ⊥
 LawfulEnding (two-byte appbits) (lone id bytes) = TakenElement (two-byte appbits) id (length bytes)
 
@@ -94,12 +93,14 @@ lastElement (lone id bytes) = record { id = id; bytes = bytes } ∷ []
 abbrev pub headerWith : Fixed → ℕ → List ℕ → rtp.Plan
 headerWith f profile content = record { fixed = f; extension = some (extensionWith profile content) }
 
+-- its fixed fields, the form that its profile tells, the items of its block that are taken, and how the block goes on behind them
 pub record Taken : Type 0 where
   pub fixed : Fixed
   pub form : Form
   pub items : List Item
   pub ending : Ending
 
+-- the whole block
 abbrev pub contentTaken : Taken → List ℕ
 contentTaken t = blockOctets (t .form) (t .items) ++ endingOctets (t .form) (t .ending)
 
@@ -118,13 +119,15 @@ pub record LawfulTaken (t : Taken) : Type 0 where
 abbrev pub packetTaken : Taken → List ℕ → List ℕ
 packetTaken t after = rtp.octets (headerTaken t) ++ (borrowed (t .ending) ++ after)
 
+-- the elements among the items, and the last
+abbrev pub elementsTaken : Taken → List Element
+elementsTaken t = elementsAmong (t .items) ++ lastElement (t .ending)
+
 -- what is read as payload
 abbrev pub payloadTaken : Taken → List ℕ → List ℕ
 payloadTaken t after = unread (t .ending) ++ after
 
-abbrev pub elementsTaken : Taken → List Element
-elementsTaken t = elementsAmong (t .items) ++ lastElement (t .ending)
-
+-- where that begins: behind what is borrowed, and before what is unread
 abbrev pub placeTaken : Taken → ℕ
 placeTaken t = length (rtp.octets (headerTaken t)) + length (borrowed (t .ending)) - length (unread (t .ending))
 
@@ -142,8 +145,7 @@ pub data Lacking : Type 0 where
 
 -- the payload does not hold the others: fewer bytes of data, or no length octet
 abbrev pub LawfulLacking : Form → Lacking → List ℕ → Type 0
-LawfulLacking one-byte (data-lack id n part) payload = TakenElement one-byte id n × (length (part ++ payload) < n)
-LawfulLacking (two-byte appbits) (data-lack id n part) payload = TakenElement (two-byte appbits) id n × (length (part ++ payload) < n)
+LawfulLacking form (data-lack id n part) payload = TakenElement form id n × (length (part ++ payload) < n)
 LawfulLacking one-byte (length-lacks id) payload = ⊥
 LawfulLacking (two-byte appbits) (length-lacks id) [] = (1 ≤ id) × (id < 256)
 LawfulLacking (two-byte appbits) (length-lacks id) (n ∷ rest) = TakenElement (two-byte appbits) id n × (length rest < n)
