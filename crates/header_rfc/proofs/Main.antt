@@ -23,6 +23,7 @@ use Rattle.elements.specs.Elements.{dataOf}
 use Rattle.block.specs.Form.{formOf, lengthFor}
 use Rattle.block.specs.Form as forms
 use Rattle.header.specs.declared.Header.{Header}
+use Rattle.header.specs.declared.HeaderRead.the-variants as read
 use Rattle.header.specs.declared.Length.{Length}
 use Rattle.header.specs.declared.Length.the-variants as len
 use Rattle.header.specs.declared.Unmarshalled.{Unmarshalled}
@@ -39,7 +40,7 @@ use Rattle.rfc3550.proofs.Parse as parse
 use Rattle.rfc3550.proofs.Blocks as blocks
 use Rattle.header_rfc.specs.Says.{elementsSaid, fieldsSaid, Within, Plain, AppBits, Fits, Complete, Conforming}
 use Rattle.header_rfc.specs.Taken.{TakenIn, Course, elementsIn, answerIn, payloadIn, Follows, PastPacket, OverLimits}
-use Rattle.header_rfc.specs.Accepted.{Strayed, Unformed, Deviating, Told, Sound}
+use Rattle.header_rfc.specs.Accepted.{Strayed, Unformed, Deviating, Told, Sound, CodeTold}
 use Rattle.header_rfc.specs.RoundTrip.{InRange, AsTyped, ReadsBack, WrittenAs, Writes, WrittenAndRead, CodeWrittenAndRead, Trailing, beyond}
 use Rattle.header_rfc.proofs.Complete as complete
 use Rattle.header_rfc.proofs.Readers as readers
@@ -113,6 +114,10 @@ NO-SKIPPER = readers.no-skipper
 -- 0x1001 to 0x100F, and it says one element of id 0, the whole block ..
 pub SOUND : Sound readHeader
 SOUND = sound.sound
+
+-- .. and so is whatever `unmarshal` accepts under its contract ..
+pub CODE-SOUND : (u : Unmarshalled) (s : List ℕ) → Octets s → heard u ≡ readingHeard (readHeader s) → (place : ℕ) → u .read ≡ read.Payload place → CodeTold s u place
+CODE-SOUND = sound.code-sound
 
 -- .. one of the three alone ..
 pub WELL-FORMED-ALONE : (s : List ℕ) (r t : Reading) → Conforming s r → Deviating s t → ⊥

@@ -10,8 +10,11 @@ use native.Mathlib.Nat.{lt-of-not-le}
 use native.Mathlib.Decide.{decLe, ℕ-discrete}
 use native.Mathlib.Omega.{arith}
 use lib.ListN.{length, drop}
-use Rattle.error.specs.Said.{Said, says, refuse}
+use Rattle.error.specs.Said.{Said, says, refused, refuse}
+use Rattle.header.specs.declared.HeaderRead.the-variants as read
+use Rattle.header.specs.declared.Unmarshalled.{Unmarshalled}
 use Rattle.header.specs.Read.{Reading, readHeader}
+use Rattle.header.specs.Said.{saidRead, Heard, heard, readingHeard}
 use Rattle.header.proofs.Reading.{header-long, header-short, header-cut, header-extended, extension-cut, block-cut}
 use Rattle.rfc3550.specs.Rfc3550.{Octets, Fixed, Extension, IsRtp, CutShort, fixed-cut, csrcs-cut, head-cut, content-cut}
 use Rattle.rfc3550.specs.Rfc3550 as rtp
@@ -21,7 +24,7 @@ use Rattle.rfc3550.proofs.Blocks.{laid-or-strays}
 use Rattle.rfc3550.proofs.Blocks as blocks
 use Rattle.header_rfc.specs.Says.{elementsAmong, padsAmong, fieldsWith, readingAt, readingSaid, Within, Over, PlainForm, Plain, AppBits, Fits, Conforming}
 use Rattle.header_rfc.specs.Taken.{ends, borrowed, Taken, contentTaken, headerTaken, readingTaken, headerWith, TakenIn, WordsIn, readingWords, Course, bare, takes, lacks, words, elementsIn, answerIn}
-use Rattle.header_rfc.specs.Accepted.{Strayed, Unformed, Deviating, payloadLeft, Told, Sound}
+use Rattle.header_rfc.specs.Accepted.{Strayed, Unformed, Deviating, payloadLeft, Told, Sound, CodeTold}
 use Rattle.header_rfc.proofs.Items.{all-taken, within-or-over}
 use Rattle.header_rfc.proofs.Fixed.{block-octets}
 use Rattle.header_rfc.proofs.Courses.{every-course}
@@ -207,6 +210,29 @@ sound s r o e = go (gone s r o e .course) (gone s r o e .said)
         taken-told s r e t q (below-left 256 (x .content) payload (block-octets (t .taken .fixed) x payload (subst Octets (sym (t .same)) o)))
     go (lacks l) q = absurd (let z : _≡_ {A = ℕ} 0 1 = cc in omega arith)
     go (words w) q = words-told s r e w q
+
+-- ---- the code
+
+-- whatever `unmarshal` accepts under its contract
+pub code-sound : (u : Unmarshalled) (s : List ℕ) → Octets s → heard u ≡ readingHeard (readHeader s) → (place : ℕ) → u .read ≡ read.Payload place → CodeTold s u place
+code-sound u s o contract place answer = go (readHeader s) refl
+  where
+    said : (a : Said Reading) → readHeader s ≡ a → says place ≡ readingHeard a .answer
+    said a e = sym (ap saidRead answer) ∙ ap (λ (x : Heard). x .answer) (contract ∙ ap readingHeard e)
+
+    go : (a : Said Reading) → readHeader s ≡ a → CodeTold s u place
+    go (says r) e =
+        let p : says place ≡ says (r .place) = said (says r) e in
+        let same : r .place ≡ place = cc in
+        record {
+          reading = r;
+          told = sound s r o e;
+          payload = same;
+          header = ap (λ (x : Heard). x .header) (contract ∙ ap readingHeard e);
+        }
+    go (refused w) e =
+        let p : says place ≡ refused w = said (refused w) e in
+        absurd (let z : _≡_ {A = ℕ} 0 1 = cc in omega arith)
 
 -- ---- what is told is what one of the four ways says
 

@@ -7,7 +7,8 @@ use lib.ListN.{drop}
 use Prim.Native.Nat.{ℕ}
 use Rattle.error.specs.Said.{Said, says}
 use Rattle.elements.specs.Elements.{Element}
-use Rattle.header.specs.Fields.{Fields}
+use Rattle.header.specs.declared.Unmarshalled.{Unmarshalled}
+use Rattle.header.specs.Fields.{Fields, layOut}
 use Rattle.header.specs.Read.{Reading, readHeader}
 use Rattle.rfc3550.specs.Rfc3550.{Octets, Fixed}
 use Rattle.rfc3550.specs.Rfc8285.{StraysIn}
@@ -42,6 +43,13 @@ Told s r = Conforming s r ⊎ Deviating s r
 -- whatever is accepted is told so
 abbrev pub Sound : (List ℕ → Said Reading) → Type 0
 Sound read = (s : List ℕ) (r : Reading) → Octets s → read s ≡ says r → Told s r
+
+-- the code accepted s, with the payload at `place`, and its record is laid out from what is told
+pub record CodeTold (s : List ℕ) (u : Unmarshalled) (place : ℕ) : Type 0 where
+  pub reading : Reading
+  pub told : Told s reading
+  pub payload : reading .place ≡ place
+  pub header : u .header ≡ layOut (reading .fields)
 
 -- ---- reading by parts
 

@@ -31,11 +31,12 @@ use Rattle.rfc3550.specs.Packet.{Packet, LawfulPacket, packetOctets, IsRtpPacke
 use Rattle.rfc3550.proofs.Packets as packets
 use Rattle.header_rfc.specs.Says.{elementsSaid, fieldsSaid, Within, Plain, AppBits, Fits}
 use Rattle.header_rfc.specs.RoundTrip.{AsTyped, ReadsBack, Trailing}
+use Rattle.packet.specs.declared.PacketRead.the-variants as read
 use Rattle.packet.specs.declared.Unmarshalled.{Unmarshalled}
 use Rattle.packet.specs.Read.{Payload, PacketReading, readPacket}
 use Rattle.packet.specs.Write as written
 use Rattle.packet.specs.Said.{heard, readingHeard}
-use Rattle.packet_rfc.specs.Says.{readingSaid, payloadIn, Complete, Conforming, ZeroCount, Straying, Told, Sound, CutInPadding}
+use Rattle.packet_rfc.specs.Says.{readingSaid, payloadIn, Complete, Conforming, ZeroCount, Straying, Told, Sound, CodeTold, CutInPadding}
 use Rattle.packet_rfc.specs.RoundTrip.{Chosen, FillingEnd, WrittenAs, Writes, WrittenAndRead, CodeWrittenAndRead, ReadsAgain}
 use Rattle.packet_rfc.proofs.Complete as complete
 use Rattle.packet_rfc.proofs.Readers as readers
@@ -89,6 +90,11 @@ NO-KEEPER = readers.no-keeper
 -- header's SOUND tells them, and the payload is measured by the same rule in the octets that the header leaves to it ..
 pub SOUND : Sound readPacket
 SOUND = sound.sound
+
+-- .. and so is whatever `unmarshal` accepts under its contract ..
+pub CODE-SOUND : (u : Unmarshalled) (s : List ℕ) → Octets s → heard u ≡ readingHeard (readPacket s) → (place len : ℕ) → u .read ≡ read.Payload place len →
+    CodeTold s u place len
+CODE-SOUND = sound.code-sound
 
 -- .. one of the three alone ..
 pub WELL-FORMED-ALONE : (s : List ℕ) (r t : PacketReading) → Conforming s r → ZeroCount s t ⊎ Straying s t → ⊥

@@ -9,7 +9,7 @@ use Prim.Native.Nat.{ℕ, _+_}
 use native.Mathlib.Omega.{arith}
 use lib.ListN.{length, drop, length-append}
 use lib.Seq.{drop-at}
-use Rattle.error.specs.Said.{says}
+use Rattle.error.specs.Said.{Said, says, refused}
 use Rattle.header.specs.Read.{Reading, readHeader}
 use Rattle.rfc3550.specs.Rfc3550.{Octets, present}
 use Rattle.rfc3550.specs.Rfc8285.{Plan, Lawful, octets}
@@ -20,8 +20,11 @@ use Rattle.header_rfc.specs.Says as header
 use Rattle.header_rfc.specs.Accepted.{payloadLeft}
 use Rattle.header_rfc.specs.Accepted as header-told
 use Rattle.header_rfc.proofs.Sound as header-read
-use Rattle.packet.specs.Read.{PacketReading, readPacket}
-use Rattle.packet_rfc.specs.Says.{headerOf, Measured, all, without-padding, uncounted, Conforming, ZeroCount, Straying, Told, Sound}
+use Rattle.packet.specs.declared.PacketRead.the-variants as read
+use Rattle.packet.specs.declared.Unmarshalled.{Unmarshalled}
+use Rattle.packet.specs.Read.{Payload, PacketReading, readPacket}
+use Rattle.packet.specs.Said.{saidRead, Heard, heard, readingHeard}
+use Rattle.packet_rfc.specs.Says.{headerOf, Measured, all, without-padding, uncounted, Conforming, ZeroCount, Straying, Told, Sound, CodeTold}
 use Rattle.packet_rfc.proofs.Behind.{readingAt, Accepted, accepted, read-all, read-padded, read-uncounted}
 use Rattle.packet_rfc.proofs.Deviations.{zero-no-packet}
 
@@ -91,6 +94,33 @@ sound s r o e = go (header-read.sound s (headerOf r) o (a .header))
     go : header-told.Told s (headerOf r) → Told s r
     go (inl c) = either (conforms s r c (measured (c .payload) (rest s r c)))
     go (inr d) = inr (inr (record { header = d; payload = measured (payloadLeft d) (header-read.left-told s (headerOf r) d) }))
+
+-- ---- the code
+
+-- whatever `unmarshal` accepts under its contract
+pub code-sound : (u : Unmarshalled) (s : List ℕ) → Octets s → heard u ≡ readingHeard (readPacket s) → (place len : ℕ) → u .read ≡ read.Payload place len →
+    CodeTold s u place len
+code-sound u s o contract place len answer = go (readPacket s) refl
+  where
+    at : Payload
+    at = record { place = place; len = len }
+
+    said : (a : Said PacketReading) → readPacket s ≡ a → says at ≡ readingHeard a .answer
+    said a e = sym (ap saidRead answer) ∙ ap (λ (x : Heard). x .answer) (contract ∙ ap readingHeard e)
+
+    go : (a : Said PacketReading) → readPacket s ≡ a → CodeTold s u place len
+    go (says r) e =
+        let p : says at ≡ says (r .payload) = said (says r) e in
+        let same : r .payload ≡ at = cc in
+        record {
+          reading = r;
+          told = sound s r o e;
+          payload = same;
+          header = ap (λ (x : Heard). x .header) (contract ∙ ap readingHeard e);
+        }
+    go (refused w) e =
+        let p : says at ≡ refused w = said (refused w) e in
+        absurd (let z : _≡_ {A = ℕ} 0 1 = cc in omega arith)
 
 -- ---- what is told is a header that is told, and octets behind it that are measured
 

@@ -9,12 +9,14 @@ use lib.ListN.{length, drop}
 use Rattle.error.specs.Said.{Said, says, refuse}
 use Rattle.wire.specs.Part.{part}
 use Rattle.elements.specs.Elements.{Element}
+use Rattle.header.specs.Fields.{layOut}
 use Rattle.header.specs.Read.{Reading, readHeader}
 use Rattle.rfc3550.specs.Rfc3550.{Octets, Fixed}
 use Rattle.rfc3550.specs.Rfc8285.{Plan, Lawful, octets}
 use Rattle.rfc3550.specs.Packet.{Packet, LawfulPacket, packetOctets, Padded, Uncounted, Short}
 use Rattle.header_rfc.specs.Says.{elementsSaid, fieldsSaid, fieldsWith, Within, Over, Plain, Fits}
 use Rattle.header_rfc.specs.Accepted.{Deviating, payloadLeft}
+use Rattle.packet.specs.declared.Unmarshalled.{Unmarshalled}
 use Rattle.packet.specs.Read.{PacketReading, readPacket}
 
 -- ---- what a plan says
@@ -83,6 +85,13 @@ Told s r = Conforming s r ⊎ (ZeroCount s r ⊎ Straying s r)
 -- whatever is accepted is told so
 abbrev pub Sound : (List ℕ → Said PacketReading) → Type 0
 Sound read = (s : List ℕ) (r : PacketReading) → Octets s → read s ≡ says r → Told s r
+
+-- the code accepted s, with `len` bytes of payload at `place`, and its record is laid out from what is told
+pub record CodeTold (s : List ℕ) (u : Unmarshalled) (place len : ℕ) : Type 0 where
+  pub reading : PacketReading
+  pub told : Told s reading
+  pub payload : reading .payload ≡ record { place = place; len = len }
+  pub header : u .header ≡ layOut (reading .fields)
 
 -- ---- 4
 
