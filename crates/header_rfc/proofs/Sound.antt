@@ -96,6 +96,7 @@ gone s r o e = go (every-course s o)
 
 -- ---- a lawful plan goes one of the four ways
 
+-- r is what one of them says
 pub record Way (s : List ℕ) (r : Reading) : Type 0 where
   pub course : Course s
   pub said : answerIn course ≡ says r
@@ -124,6 +125,7 @@ laid-way s f form is payload plain l same =
     place : length (rtp.octets (headerTaken t)) + 0 - 0 ≡ length (rtp.octets (headerWith f (profileOf form) (blockOctets form is)))
     place = omega (arith, ap (λ (p : rtp.Plan). length (rtp.octets p)) header)
 
+-- no extension, items, or words
 pub plan-way : (s : List ℕ) (f : Fixed) (c : Option Content) (payload : List ℕ) → Lawful (record { fixed = f; content = c }) → Plain c →
     octets (record { fixed = f; content = c }) ++ payload ≡ s → Way s (readingSaid (record { fixed = f; content = c }))
 plan-way s f none payload l plain same =
