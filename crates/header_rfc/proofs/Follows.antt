@@ -2,32 +2,40 @@
 -- and the header round it is `Fixed`. Assumes nothing.
 use mathlib.Core.Path.{_≡_, refl, sym, ap, ap₂, _∙_, subst}
 use mathlib.Core.Bool.{true, false}
-use mathlib.Core.List.{List, [], _∷_, _++_, append-assoc}
+use mathlib.Core.List.{List, [], _∷_, _++_, append-assoc, append-nil}
 use mathlib.Core.Logic.{_⊎_, inl, inr}
 use mathlib.Core.Option.{none}
-use Prim.Native.Nat.{ℕ, _+_, _-_, _*_, _/_, _<_}
+use Prim.Native.Nat.{ℕ, _+_, _-_, _*_, _/_, _<_, _≤_}
 use native.Mathlib.Nat.{zero-add}
 use native.Mathlib.Omega.{arith}
-use lib.ListN.{length, drop, length-append}
-use lib.Seq.{drop-at}
+use lib.ListN.{length, take, drop, length-append}
+use lib.Seq.{take-at, drop-at}
 use Rattle.error.specs.Said.{Said, says, refuse}
 use Rattle.wire.specs.Net.{be16}
-use Rattle.block.specs.Read.{Block, itemsBy, taken}
+use Rattle.elements.proofs.Elements.{room, no-room}
+use Rattle.block.specs.Form.{formOf}
+use Rattle.block.specs.Form as forms
+use Rattle.block.specs.Read.{Block, itemsBy, wholeBlock, readBlock}
 use Rattle.block.specs.Read as paper
 use Rattle.block.proofs.Form.{form-other}
+use Rattle.block.proofs.Reading.{block-path}
 use Rattle.header.specs.Read.{Reading, readHeader}
 use Rattle.rfc3550.specs.Rfc3550.{Fixed, fixedOctets, extensionOctets}
 use Rattle.rfc3550.specs.Rfc3550 as rtp
-use Rattle.rfc3550.specs.Rfc8285.{Form, profileOf, Item, headOctets, blockOctets, extensionWith}
+use Rattle.rfc3550.specs.Rfc8285.{Form, one-byte, two-byte, profileOf, Item, headOctets, blockOctets, extensionWith}
 use Rattle.rfc3550.proofs.Places.{plain-octets, extended-octets}
-use Rattle.header_rfc.specs.Says.{elementsAmong, padsAmong, readingAt, Within, Over, PlainForm, Fits}
-use Rattle.header_rfc.specs.Taken.{AllTaken, Ending, ends, fifteen, leaving, lone, endingOctets, borrowed, unread, lastElement, headerWith, Taken, contentTaken, headerTaken, packetTaken, payloadTaken, elementsTaken, placeTaken, readingTaken, lackingOctets, contentLacking, Bare, TakenIn, LackingIn, Course, bare, takes, lacks, words, elementsIn, answerIn, payloadIn, Follows}
+use Rattle.header_rfc.specs.Says.{elementsAmong, padsAmong, wholeElement, readingAt, Within, Over, PlainForm, Fits}
+use Rattle.header_rfc.specs.Taken.{AllTaken, Ending, ends, fifteen, leaving, lone, endingOctets, borrowed, unread, lastElement, headerWith, Taken, contentTaken, headerTaken, packetTaken, payloadTaken, elementsTaken, placeTaken, readingTaken, lackingOctets, contentLacking, Bare, TakenIn, LackingIn, WordsIn, readingWords, Course, bare, takes, lacks, words, elementsIn, answerIn, payloadIn, Follows}
 use Rattle.header_rfc.proofs.Items.{isTwo, now, reads, within-or-over, read-off, read-over}
 use Rattle.header_rfc.proofs.Fixed.{around, read-plain, read-content}
-use Rattle.header_rfc.proofs.Complete.{form-known, other-within, other-over}
 use Rattle.header_rfc.proofs.Endings.{within-front, Come, ending-read, ending-full, lacking-read}
 
--- ---- the whole header: items, the block's other octets `tail`, and the payload
+-- ---- items, the block's other octets `tail`, and the payload
+
+-- a form, as the reader knows it
+form-known : (form : Form) → PlainForm form → (b : Block) → readBlock (formOf (profileOf form)) b ≡ paper.items (itemsBy (isTwo form)) b
+form-known one-byte p b = refl
+form-known (two-byte appbits) p b = ap (λ (a : ℕ). readBlock (formOf (0x1000 + a)) b) p
 
 module _ (f : Fixed) (form : Form) (plain : PlainForm form) (is : List Item) (t : AllTaken form is) (tail : List ℕ)
     (l : rtp.Lawful (headerWith f (profileOf form) (blockOctets form is ++ tail))) (payload : List ℕ)
@@ -127,6 +135,56 @@ module _ (s : List ℕ) (x : LackingIn s) (fits : Fits s) where
       sym (ap readHeader (x .same))
       ∙ items-full (x .fixed) (x .form) (x .plain) (x .items) (x .taken) (lackingOctets (x .form) (x .lacking)) (x .lawful) (x .payload) lacking-fits o
 
+-- ---- words of another profile
+
+module _ (words rest : List ℕ) where
+  read-whole : Within (wholeElement words ∷ []) →
+      wholeBlock (now (words ++ rest) (length words) [] 0) ≡ says (now rest 0 (wholeElement words ∷ []) 0)
+  unfolding wholeBlock
+  read-whole w =
+      rw (room [] (length words) (omega arith) (omega (arith, small)))
+      (ap says
+      (block-path
+      (paper.with-element (record { id = 0; bytes = take (length words) (words ++ rest) }) (paper.skip (length words) (now (words ++ rest) (length words) [] 0)))
+      (now rest 0 (wholeElement words ∷ []) 0)
+      (drop-at words rest (length words) refl)
+      (omega arith)
+      (ap (λ (b : List ℕ). wholeElement b ∷ []) (take-at words rest (length words) refl))
+      refl))
+    where
+      small : length words ≤ 1024
+      small = rw (append-nil words) at (w .small)
+
+  read-whole-over : Over (wholeElement words ∷ []) → wholeBlock (now (words ++ rest) (length words) [] 0) ≡ refuse 7
+  unfolding wholeBlock
+  read-whole-over (inl many) = absurd (omega arith)
+  read-whole-over (inr much) =
+      let long : 1024 < length words = rw (append-nil words) at much in
+      rw (no-room [] (length words) (inr (omega arith)))
+
+module _ (s : List ℕ) (x : WordsIn s) (fits : Fits s) where
+  abbrev header : rtp.Plan
+  header = headerWith (x .fixed) (x .profile) (x .words)
+
+  -- what comes of the block comes of the header
+  of-words : (b : Said Block) → wholeBlock (now (x .words ++ x .payload) (length (x .words)) [] 0) ≡ b →
+      readHeader s ≡ around (x .fixed) (x .profile) (length (rtp.octets header ++ x .payload)) b
+  of-words b e =
+      sym (ap readHeader (x .same))
+      ∙ read-content (x .fixed) (x .lawful .fixed) (extensionWith (x .profile) (x .words)) (x .lawful .extension) (x .payload) (subst Fits (sym (x .same)) fits) b
+      (ap (λ (g : forms.Form). readBlock g (now (x .words ++ x .payload) (length (x .words)) [] 0)) (form-other (x .not-one-byte) (x .not-two-byte)) ∙ e)
+
+  words-read : Within (elementsIn (words x)) → readHeader s ≡ says (readingWords x)
+  words-read w =
+      let place : length (rtp.octets header ++ x .payload) - length (x .payload) ≡ length (rtp.octets header) = omega (arith, length-append (rtp.octets header) (x .payload)) in
+      of-words (says (now (x .payload) 0 (wholeElement (x .words) ∷ []) 0)) (read-whole (x .words) (x .payload) w)
+      ∙ ap (λ (n : ℕ). says (readingAt (x .fixed) true (x .profile) (wholeElement (x .words) ∷ []) 0 n)) place
+
+  words-over : Over (elementsIn (words x)) → readHeader s ≡ refuse 7
+  words-over o = of-words (refuse 7) (read-whole-over (x .words) (x .payload) o)
+
+-- ---- FOLLOWS
+
 pub follows : Follows readHeader
 follows = record { within = within; over = over }
   where
@@ -134,20 +192,14 @@ follows = record { within = within; over = over }
     within s (bare b) fits w = bare-read s b fits
     within s (takes t) fits w = taken-read s t fits w
     within s (lacks l) fits w = lacking-refused s l fits w
-    within s (words x) fits w =
-        sym (ap readHeader (x .same))
-        ∙ other-within (x .fixed) (x .lawful .fixed) (x .payload) (x .profile) (x .words) (form-other (x .not-one-byte) (x .not-two-byte))
-        (x .lawful .extension) (subst Fits (sym (x .same)) fits) w
+    within s (words x) fits w = words-read s x fits w
 
     over : (s : List ℕ) (c : Course s) → Fits s → Over (elementsIn c) → readHeader s ≡ refuse 7
     over s (bare b) fits (inl many) = absurd (omega arith)
     over s (bare b) fits (inr much) = absurd (omega arith)
     over s (takes t) fits o = taken-over s t fits o
     over s (lacks l) fits o = lacking-over s l fits o
-    over s (words x) fits o =
-        sym (ap readHeader (x .same))
-        ∙ other-over (x .fixed) (x .lawful .fixed) (x .payload) (x .profile) (x .words) (form-other (x .not-one-byte) (x .not-two-byte))
-        (x .lawful .extension) (subst Fits (sym (x .same)) fits) o
+    over s (words x) fits o = words-over s x fits o
 
 -- ---- the octets from the payload's place on
 

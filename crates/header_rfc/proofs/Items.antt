@@ -5,7 +5,7 @@ use mathlib.Core.Bool.{Bool, true, false, cond}
 use mathlib.Core.List.{List, [], _∷_, _++_, append-assoc, append-nil}
 use mathlib.Core.Logic.{_⊎_, inl, inr}
 use Prim.Native.Nat.{ℕ, suc, _+_, _-_, _*_, _/_, _%_, _<_, _≤_}
-use native.Mathlib.Nat.{lt-of-not-le, zero-add}
+use native.Mathlib.Nat.{lt-of-not-le}
 use native.Mathlib.Decide.{decLe, ℕ-discrete}
 use native.Mathlib.Omega.{arith}
 use lib.Dec.{eqb}
@@ -311,26 +311,7 @@ read-over form (element id bytes ∷ is) t rest left n es pads fuel sum enough w
         run-done (turn (itemsBy (isTwo form))) (refuse 3) fuel (now (headOctets form id (length bytes) ++ (bytes ++ tail)) n es pads)
         (refuse 7) (omega arith) (full-element form id bytes tail n es pads (t .0) some full)
 
--- ---- a block of items
-
 -- at the block's end reading ends
 pub read-end : (form : Form) (rest : List ℕ) (es : List Element) (pads k : ℕ) → 0 < k → reads form k (now rest 0 es pads) ≡ says (now rest 0 es pads)
 unfolding turn
 read-end form rest es pads k h = run-done (turn (itemsBy (isTwo form))) (refuse 3) k (now rest 0 es pads) (says (now rest 0 es pads)) h refl
-
--- a block that is items, whatever follows it
-abbrev pub blockOf : Form → List Item → List ℕ → Block
-blockOf form is rest = now (blockOctets form is ++ rest) (length (blockOctets form is)) [] 0
-
-pub read-items : (form : Form) (is : List Item) (rest : List ℕ) → AllTaken form is → Within (elementsAmong is) →
-    paper.items (itemsBy (isTwo form)) (blockOf form is rest) ≡ says (now rest 0 (elementsAmong is) (padsAmong is))
-read-items form is rest t w =
-    let n : ℕ = length (blockOctets form is) in
-    read-off form is t rest 0 n [] 0 (n + 1) (omega arith) (omega arith) w (says (now rest 0 (elementsAmong is) (padsAmong is)))
-    (λ k h. read-end form rest (elementsAmong is) (0 + padsAmong is) k h ∙ ap (λ (p : ℕ). says (now rest 0 (elementsAmong is) p)) (zero-add (padsAmong is)))
-
-pub read-items-over : (form : Form) (is : List Item) (rest : List ℕ) → AllTaken form is → Over (elementsAmong is) →
-    paper.items (itemsBy (isTwo form)) (blockOf form is rest) ≡ refuse 7
-read-items-over form is rest t o =
-    let n : ℕ = length (blockOctets form is) in
-    read-over form is t rest 0 n [] 0 (n + 1) (omega arith) (omega arith) (record { few = omega arith; small = omega arith }) o

@@ -1,10 +1,11 @@
 pub mod Items
 pub mod Fixed
+pub mod Endings
+pub mod Follows
+pub mod Plans
 pub mod Complete
 pub mod Courses
 pub mod OneCourse
-pub mod Endings
-pub mod Follows
 pub mod Readers
 pub mod Sound
 pub mod Written

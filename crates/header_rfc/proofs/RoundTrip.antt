@@ -25,7 +25,7 @@ use Rattle.header_rfc.specs.Taken.{TakenItem, AllTaken}
 use Rattle.header_rfc.specs.RoundTrip.{InRange, AllKept, KeptIn, KeptBy, ReadsBack, zerosWritten, readBack, WrittenAs, itemsFor}
 use Rattle.header_rfc.proofs.Items.{Known, known, is-one-byte, is-two-byte, is-other, all-taken}
 use Rattle.header_rfc.proofs.Fixed.{read-plain, extended}
-use Rattle.header_rfc.proofs.Complete.{laid-within, other-within}
+use Rattle.header_rfc.proofs.Plans.{way-within, items-way, words-way}
 use Rattle.header_rfc.proofs.Written.{fixedFor, fixed-lawful, inPaper, zerosFor, filled, filled-lawful, filled-words, filled-items, itemsIn, elements-with, pads-with, octets-plain, octets-extended}
 
 -- ---- the record that is read back
@@ -159,6 +159,7 @@ module _ (f : Fields) (w : InRange f) (payload : List ℕ) (fits : Fits (octetsO
       ∙ ap (λ (t : List ℕ). says (record { fields = readBack f; place = length t })) (sym e)
 
   pub back : Ways TakenElements f → Back
+  unfolding fieldsWith
   back (without off p e) =
       through (rtp.fixedOctets (fixedFor f) false) (octets-plain f off ∙ plain-octets (fixedFor f))
       (λ h. read-plain (fixedFor f) (fixed-lawful f w) payload h ∙ ap says (plain-said f off p e (length (rtp.fixedOctets (fixedFor f) false))))
@@ -170,13 +171,16 @@ module _ (f : Fields) (w : InRange f) (payload : List ℕ) (fits : Fits (octetsO
       (all-taken form (replicate z padding) (lawful-padding form z)) in
       let s : List ℕ = rtp.octets (extended (fixedFor f) (extensionOf (laid form is))) in
       through s (laid-same f w form on p g)
-      (λ h. laid-within (fixedFor f) (fixed-lawful f w) payload form is plain taken (laid-lawful f w form on p g) h
-      (rw (laid-elements f w form on p g) (w .within))
+      (λ h. way-within (s ++ payload) (readingAt (fixedFor f) true (profileOf form) (elementsAmong is) (padsAmong is) (length s))
+      (items-way (s ++ payload) (fixedFor f) form is payload plain taken (record { fixed = fixed-lawful f w; extension = laid-lawful f w form on p g }) refl)
+      h (rw (laid-elements f w form on p g) (w .within))
       ∙ ap says (laid-said f w form on p g (length s)))
   back (whole words on g e m a b) =
       let s : List ℕ = rtp.octets (extended (fixedFor f) (extensionWith (f .profile) words)) in
       through s (other-same f w words on g e m)
-      (λ h. other-within (fixedFor f) (fixed-lawful f w) payload (f .profile) words g (other-lawful f w words on g e m) h (rw e at (w .within))
+      (λ h. way-within (s ++ payload) (readingAt (fixedFor f) true (f .profile) (wholeElement words ∷ []) 0 (length s))
+      (words-way (s ++ payload) (fixedFor f) (f .profile) words payload a b (record { fixed = fixed-lawful f w; extension = other-lawful f w words on g e m }) refl)
+      h (rw e at (w .within))
       ∙ ap says (other-said f w words on g e m (length s)))
 
 -- ---- the paper's conditions

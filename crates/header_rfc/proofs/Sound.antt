@@ -1,8 +1,7 @@
 -- Whatever is accepted is well-formed or strays, and is told in one way alone: the octets go one of the four ways, the reader says what that way says,
 -- and each way but one that is refused is a lawful plan or leaves RFC 8285. Assumes nothing.
 use mathlib.Core.Path.{_≡_, refl, sym, ap, _∙_, subst}
-use mathlib.Core.Bool.{true}
-use mathlib.Core.List.{List, _++_, append-nil}
+use mathlib.Core.List.{List, _++_}
 use mathlib.Core.Logic.{_⊎_, inl, inr}
 use mathlib.Core.Option.{Option, none, some}
 use Prim.Native.Nat.{ℕ, _+_, _-_, _/_}
@@ -18,17 +17,18 @@ use Rattle.header.specs.Said.{saidRead, Heard, heard, readingHeard}
 use Rattle.header.proofs.Reading.{header-long, header-short, header-cut, header-extended, extension-cut, block-cut}
 use Rattle.rfc3550.specs.Rfc3550.{Octets, Fixed, Extension, IsRtp, CutShort, fixed-cut, csrcs-cut, head-cut, content-cut}
 use Rattle.rfc3550.specs.Rfc3550 as rtp
-use Rattle.rfc3550.specs.Rfc8285.{Form, one-byte, two-byte, profileOf, Item, blockOctets, Content, laid, other, Plan, Lawful, LawfulPart, planOf, octets, extensionIn, extensionOf, extensionWith, Conforms, LaidOut, StraysIn}
+use Rattle.rfc3550.specs.Rfc8285.{Form, one-byte, two-byte, profileOf, Content, laid, other, Plan, Lawful, LawfulPart, planOf, octets, extensionIn, extensionOf, extensionWith, Conforms, LaidOut, StraysIn}
 use Rattle.rfc3550.proofs.Octets.{below-left}
 use Rattle.rfc3550.proofs.Blocks.{laid-or-strays}
 use Rattle.rfc3550.proofs.Blocks as blocks
-use Rattle.header_rfc.specs.Says.{elementsAmong, padsAmong, fieldsWith, readingAt, readingSaid, Within, Over, PlainForm, Plain, AppBits, Fits, Conforming}
-use Rattle.header_rfc.specs.Taken.{ends, borrowed, Taken, contentTaken, headerTaken, readingTaken, headerWith, TakenIn, WordsIn, readingWords, Course, bare, takes, lacks, words, elementsIn, answerIn}
+use Rattle.header_rfc.specs.Says.{fieldsWith, readingSaid, Within, Over, Plain, AppBits, Fits, Conforming}
+use Rattle.header_rfc.specs.Taken.{borrowed, Taken, contentTaken, headerTaken, readingTaken, headerWith, TakenIn, WordsIn, readingWords, Course, bare, takes, lacks, words, elementsIn, answerIn}
 use Rattle.header_rfc.specs.Accepted.{Strayed, Unformed, Deviating, payloadLeft, Told, Sound, CodeTold}
-use Rattle.header_rfc.proofs.Items.{all-taken, within-or-over}
+use Rattle.header_rfc.proofs.Items.{within-or-over}
 use Rattle.header_rfc.proofs.Fixed.{block-octets}
 use Rattle.header_rfc.proofs.Courses.{every-course}
 use Rattle.header_rfc.proofs.OneCourse.{begun, one-beginning, plain-lawful, form-words, one-course}
+use Rattle.header_rfc.proofs.Plans.{said-same, elements-said, Way, way-within, plan-way}
 use Rattle.header_rfc.proofs.Follows.{follows, payload-told}
 
 -- ---- what is cut short is refused: 1 within the fixed header and the CSRCs, 2 within the extension
@@ -94,59 +94,6 @@ gone s r o e = go (every-course s o)
     go (inl c) = judged c (within-or-over (elementsIn c))
     go (inr c) = absurd (not-refused (readHeader s) (cutNumber c) r (cut-refused s fits c) e)
 
--- ---- a lawful plan goes one of the four ways
-
--- r is what one of them says
-pub record Way (s : List ℕ) (r : Reading) : Type 0 where
-  pub course : Course s
-  pub said : answerIn course ≡ says r
-
--- the plan's items are taken, up to the block's end
-laid-way : (s : List ℕ) (f : Fixed) (form : Form) (is : List Item) (payload : List ℕ) → PlainForm form → Lawful (record { fixed = f; content = some (laid form is) }) →
-    octets (record { fixed = f; content = some (laid form is) }) ++ payload ≡ s → Way s (readingSaid (record { fixed = f; content = some (laid form is) }))
-laid-way s f form is payload plain l same =
-    record {
-      course = takes
-          (record {
-            taken = t;
-            lawful = record { header = subst rtp.Lawful (sym header) (l .header); plain = plain; items = all-taken form is (l .content .1); ending = tt };
-            after = payload;
-            same = ap (λ (p : rtp.Plan). rtp.octets p ++ payload) header ∙ same;
-          });
-      said = λ i. says (readingAt f true (profileOf form) (append-nil (elementsAmong is) i) (padsAmong is) (place i));
-    }
-  where
-    t : Taken
-    t = record { fixed = f; form = form; items = is; ending = ends }
-
-    header : headerTaken t ≡ headerWith f (profileOf form) (blockOctets form is)
-    header = ap (headerWith f (profileOf form)) (append-nil (blockOctets form is))
-
-    place : length (rtp.octets (headerTaken t)) + 0 - 0 ≡ length (rtp.octets (headerWith f (profileOf form) (blockOctets form is)))
-    place = omega (arith, ap (λ (p : rtp.Plan). length (rtp.octets p)) header)
-
--- no extension, items, or words
-pub plan-way : (s : List ℕ) (f : Fixed) (c : Option Content) (payload : List ℕ) → Lawful (record { fixed = f; content = c }) → Plain c →
-    octets (record { fixed = f; content = c }) ++ payload ≡ s → Way s (readingSaid (record { fixed = f; content = c }))
-plan-way s f none payload l plain same =
-    record { course = bare (record { fixed = f; lawful = l .header .fixed; payload = payload; same = same }); said = refl }
-plan-way s f (some (laid form is)) payload l plain same = laid-way s f form is payload plain l same
-plan-way s f (some (other profile content)) payload l plain same =
-    record {
-      course = words
-          (record {
-            fixed = f;
-            profile = profile;
-            not-one-byte = l .content .0;
-            not-two-byte = λ e. l .content .1 (omega arith);
-            words = content;
-            lawful = l .header;
-            payload = payload;
-            same = same;
-          });
-      said = refl;
-    }
-
 -- ---- SOUND
 
 -- a lawful plan that the reader knows whole
@@ -155,9 +102,6 @@ of-plan : (s : List ℕ) (r : Reading) (p : Plan) (payload : List ℕ) → readH
 of-plan s r p payload e l plain same =
     let x : Way s (readingSaid p) = plan-way s (p .fixed) (p .content) payload l plain same in
     record { plan = p; lawful = l; plain = plain; payload = payload; same = same; said = way-read s (x .course) (readingSaid p) r (x .said) e }
-
-said-same : {q r : Reading} → says q ≡ says r → r ≡ q
-said-same e = cc
 
 module _ (s : List ℕ) (r : Reading) (e : readHeader s ≡ says r) where
   -- items in a form: they are laid out as the RFC has it, or stray
@@ -255,19 +199,9 @@ told-once s r t a b =
     let y : Way s t = told-way s t b in
     said-same (sym (y .said) ∙ sym (one-course (x .course) (y .course) .1) ∙ x .said)
 
--- the elements that a way says
-elements-said : {s : List ℕ} (c : Course s) (r : Reading) → answerIn c ≡ says r → elementsIn c ≡ r .fields .elements
-unfolding fieldsWith
-elements-said (bare b) r q = sym (ap (λ (t : Reading). t .fields .elements) (said-same q))
-elements-said (takes t) r q = sym (ap (λ (t : Reading). t .fields .elements) (said-same q))
-elements-said (lacks l) r q = absurd (let z : _≡_ {A = ℕ} 0 1 = cc in omega arith)
-elements-said (words x) r q = sym (ap (λ (t : Reading). t .fields .elements) (said-same q))
-
 -- .. and within the limits it is what is read ..
 pub exact : (s : List ℕ) (r : Reading) → Fits s → Within (r .fields .elements) → Told s r → readHeader s ≡ says r
-exact s r fits w a =
-    let x : Way s r = told-way s r a in
-    follows .within s (x .course) fits (subst Within (sym (elements-said (x .course) r (x .said))) w) ∙ x .said
+exact s r fits w a = way-within s r (told-way s r a) fits w
 
 -- .. where whatever is read stands
 pub limits : (s : List ℕ) (r : Reading) → Octets s → readHeader s ≡ says r → Fits s × Within (r .fields .elements)

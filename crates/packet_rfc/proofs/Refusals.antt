@@ -27,9 +27,9 @@ use Rattle.rfc3550.specs.Packet.{Padding, Packet, LawfulPacket, LawfulEnd, endO
 use Rattle.rfc3550.proofs.Packets.{padded-room}
 use Rattle.header_rfc.specs.Says.{fieldsWith, Plain}
 use Rattle.header_rfc.specs.Says as header
-use Rattle.header_rfc.specs.Taken.{Course, words, answerIn}
 use Rattle.header_rfc.proofs.Refusals.{numberIn}
-use Rattle.header_rfc.proofs.Sound.{not-refused, way-read, Way, plan-way}
+use Rattle.header_rfc.proofs.Plans.{Way, words-way, plan-way}
+use Rattle.header_rfc.proofs.Sound.{not-refused, way-read}
 use Rattle.packet.specs.Read.{PacketReading, behind, readPacket}
 use Rattle.packet_rfc.specs.Says.{CutInPadding}
 use Rattle.packet_rfc.proofs.Behind.{readingAt, read-all, read-counted, read-short}
@@ -186,22 +186,21 @@ module _ (f : Fixed) (body : List ℕ) (r : Reading) where
   Told c = (r .place ≡ length (octets (record { fixed = f; content = c }))) × (r .fields .padding ≡ f .padding)
 
   -- the way that its octets go tells it
-  by-way : (c : Option Content) (d : Course (octets (record { fixed = f; content = c }) ++ body)) (x : Bool) (profile : ℕ) (es : List Element) (pads : ℕ) →
-      answerIn d ≡ says (header.readingAt f x profile es pads (length (octets (record { fixed = f; content = c })))) →
+  by-way : (c : Option Content) (x : Bool) (profile : ℕ) (es : List Element) (pads : ℕ) →
+      Way (octets (record { fixed = f; content = c }) ++ body) (header.readingAt f x profile es pads (length (octets (record { fixed = f; content = c })))) →
       readHeader (octets (record { fixed = f; content = c }) ++ body) ≡ says r → Told c
   unfolding fieldsWith
-  by-way c d x profile es pads a e =
+  by-way c x profile es pads w e =
       let p : Plan = record { fixed = f; content = c } in
       let said : r ≡ header.readingAt f x profile es pads (length (octets p)) =
-      way-read (octets p ++ body) d (header.readingAt f x profile es pads (length (octets p))) r a e in
+      way-read (octets p ++ body) (w .course) (header.readingAt f x profile es pads (length (octets p))) r (w .said) e in
       (ap (λ (t : Reading). t .place) said, ap (λ (t : Reading). t .fields .padding) said)
 
   plain-told : (c : Option Content) → Lawful (record { fixed = f; content = c }) → Plain c →
       readHeader (octets (record { fixed = f; content = c }) ++ body) ≡ says r → Told c
   plain-told c l plain e =
-      let w : Way (octets (record { fixed = f; content = c }) ++ body) (header.readingSaid (record { fixed = f; content = c })) =
-      plan-way (octets (record { fixed = f; content = c }) ++ body) f c body l plain refl in
-      by-way c (w .course) (present c) (header.profileSaid c) (header.elementsSaid c) (header.padsSaid c) (w .said) e
+      by-way c (present c) (header.profileSaid c) (header.elementsSaid c) (header.padsSaid c)
+      (plan-way (octets (record { fixed = f; content = c }) ++ body) f c body l plain refl) e
 
   told : (c : Option Content) → Lawful (record { fixed = f; content = c }) →
       readHeader (octets (record { fixed = f; content = c }) ++ body) ≡ says r → Told c
@@ -211,19 +210,10 @@ module _ (f : Fixed) (body : List ℕ) (r : Reading) where
       elim (ℕ-discrete appbits 0) [
         | yes z ↦ plain-told (some (laid (two-byte appbits) is)) l z e
         | no z ↦
-            by-way (some (laid (two-byte appbits) is))
-            (words
-            (record {
-              fixed = f;
-              profile = 0x1000 + appbits;
-              not-one-byte = λ q. omega (arith, l .content .0);
-              not-two-byte = λ q. z (omega arith);
-              words = blockOctets (two-byte appbits) is;
-              lawful = l .header;
-              payload = body;
-              same = refl;
-            }))
-            true (0x1000 + appbits) (header.wholeElement (blockOctets (two-byte appbits) is) ∷ []) 0 refl e
+            by-way (some (laid (two-byte appbits) is)) true (0x1000 + appbits) (header.wholeElement (blockOctets (two-byte appbits) is) ∷ []) 0
+            (words-way (octets (record { fixed = f; content = some (laid (two-byte appbits) is) }) ++ body) f (0x1000 + appbits)
+            (blockOctets (two-byte appbits) is) body (λ q. omega (arith, l .content .0)) (λ q. z (omega arith)) (l .header) refl)
+            e
       ]
   told (some (other profile content)) l e = plain-told (some (other profile content)) l tt e
 
