@@ -1,6 +1,6 @@
 -- The reader on the octets of a plan of RFC 3550: each field is read as the plan has it, and what is left is the extension's content with
 -- the payload behind it. Assumes nothing.
-use mathlib.Core.Path.{_≡_, refl, sym, ap, ap₂, _∙_}
+use mathlib.Core.Path.{_≡_, refl, sym, ap, ap₂, _∙_, subst}
 use mathlib.Core.Bool.{Bool, true, false}
 use mathlib.Core.List.{List, [], _∷_, _++_, append-assoc}
 use mathlib.Core.Option.{some}
@@ -10,19 +10,19 @@ use lib.ListN.{length, drop, getD, length-append}
 use lib.Seq.{drop-at, drop-drop}
 use borrow.Author.Tests.{eq-eqb, ne-eqb}
 use Rattle.error.specs.Said.{Said, says, refused}
-use Rattle.wire.specs.Net.{u16At, u32At, be32}
+use Rattle.wire.specs.Net.{u16At, u32At, be16, be32}
 use Rattle.wire.proofs.Net.{u32At-drop, u32-of-be32, length-be32}
-use Rattle.rfc3550.specs.Rfc3550.{AllBelow, Fixed, LawfulFixed, bit, csrcOctets, fixedOctets, Extension, LawfulExtension, extensionOctets}
+use Rattle.rfc3550.specs.Rfc3550.{AllBelow, Octets, Fixed, LawfulFixed, bit, csrcOctets, fixedOctets, Extension, LawfulExtension, extensionOctets}
 use Rattle.rfc3550.specs.Rfc3550 as rtp
+use Rattle.rfc3550.proofs.Octets.{below-right}
 use Rattle.rfc3550.proofs.Places.{length-fixed, behind-fixed, version-at, padding-at, extension-at, count-at, marker-at, type-at, number-at, time-at, source-at, csrcs-at, length-extension, profile-at, words-at, content-at, extended-octets}
-use Rattle.elements.specs.Elements.{Element}
 use Rattle.block_read.specs.Read.{Block, blockAt, readBlock}
 use Rattle.block.specs.Form.{formOf}
 use Rattle.header.specs.Fields.{Fields}
 use Rattle.header.specs.Read.{Reading, csrcsAt, countOf, fixedLength, fieldsAt, readExtension, readHeader}
 use Rattle.header.specs.Read as paper
 use Rattle.header.proofs.Reading.{block-whole, header-plain, header-extended}
-use Rattle.header_rfc.specs.Says.{fieldsWith}
+use Rattle.header_rfc.specs.Says.{fieldsWith, readingAt}
 use Rattle.header_rfc.proofs.Items.{now}
 
 -- ---- bits
@@ -74,10 +74,6 @@ module _ (f : Fixed) (x : Bool) (l : LawfulFixed f) (tail : List ℕ) where
         elements = b .elements;
         pads = b .pads;
       }
-
--- what is said of a header, from its parts
-abbrev pub readingAt : Fixed → Bool → ℕ → List Element → ℕ → ℕ → Reading
-readingAt f x profile es pads place = record { fields = fieldsWith f x profile es pads; place = place }
 
 -- the header round what the block's reading comes to, in a packet of n bytes
 abbrev pub around : Fixed → ℕ → ℕ → Said Block → Said Reading
@@ -180,3 +176,9 @@ read-content f l x k payload fits b e =
     ∙ read-extended f l x k payload (rw same at fits)
     ∙ ap₂ (λ (s : List ℕ) (r : Said Block). around f (x .profile) (length s) r) (sym same)
     (ap (λ (n : ℕ). readBlock (formOf (x .profile)) (now (x .content ++ payload) n [] 0)) (sym (k .content)) ∙ e)
+
+-- the octets of its block and payload are octets
+pub block-octets : (f : Fixed) (x : Extension) (payload : List ℕ) → Octets (rtp.octets (extended f x) ++ payload) → Octets (x .content ++ payload)
+unfolding extensionOctets be16
+block-octets f x payload o =
+    below-right 256 (fixedOctets f true) (extensionOctets x ++ payload) (subst Octets (extended-octets f x payload) o) .1 .1 .1 .1

@@ -5,8 +5,8 @@ use mathlib.Core.Bool.{Bool, true, false, cond}
 use mathlib.Core.List.{List, [], _∷_, _++_, append-assoc, append-nil}
 use mathlib.Core.Logic.{_⊎_, inl, inr}
 use Prim.Native.Nat.{ℕ, suc, _+_, _-_, _*_, _/_, _%_, _<_, _≤_}
-use native.Mathlib.Nat.{lt-of-not-le, zero-add}
-use native.Mathlib.Decide.{decLe}
+use native.Mathlib.Nat.{lt-of-not-le}
+use native.Mathlib.Decide.{decLe, ℕ-discrete}
 use native.Mathlib.Omega.{arith}
 use lib.Dec.{eqb}
 use lib.ListN.{length, take, drop, length-append}
@@ -20,8 +20,12 @@ use Rattle.elements.specs.Elements.{Element, dataOf, roomFor}
 use Rattle.elements.proofs.Elements.{dataOf-append, room, no-room}
 use Rattle.block_read.specs.Read.{Block, within, oneByte, twoByte, itemsBy, taken, turn, with-element, skip}
 use Rattle.block_read.specs.Read as paper
+use Rattle.block.specs.Form.{formOf}
+use Rattle.block.specs.Form as forms
+use Rattle.block.proofs.Form.{form-other}
 use Rattle.block_read.proofs.Reading.{block-path, zero-first}
 use Rattle.rfc3550.specs.Rfc8285.{Form, one-byte, two-byte, Item, padding, element, headOctets, blockOctets, LawfulElement, LawfulItem, AllLawful}
+use Rattle.rfc3550.proofs.Blocks.{Telling, TellingItem}
 use Rattle.header_rfc.specs.Says.{elementsAmong, padsAmong, Within, Over}
 use Rattle.header_rfc.specs.Taken.{TakenElement, TakenItem, AllTaken}
 
@@ -36,9 +40,41 @@ abbrev pub isTwo : Form → Bool
 isTwo one-byte = false
 isTwo (two-byte appbits) = true
 
-pub lawful-taken : (form : Form) (id n : ℕ) → LawfulElement form id n → TakenElement form id n
-lawful-taken one-byte id n l = record { id-fits = l .id-fits; enough = l .enough; fits = l .data-fits; not-zero = omega (arith, l .not-padding, l .enough) }
-lawful-taken (two-byte appbits) id n l = l .not-padding
+pub data Known (profile : ℕ) : Type 0 where
+  is-one-byte : profile ≡ 0xBEDE → Known profile
+  is-two-byte : profile ≡ 0x1000 → Known profile
+  is-other : formOf profile ≡ forms.other → (profile ≡ 0xBEDE → ⊥) → (profile ≡ 0x1000 → ⊥) → Known profile
+
+pub known : (profile : ℕ) → Known profile
+known profile =
+    elim (ℕ-discrete profile 0xBEDE) [
+      | yes e ↦ is-one-byte e
+      | no a ↦ elim (ℕ-discrete profile 0x1000) [ yes e ↦ is-two-byte e | no b ↦ is-other (form-other a b) a b ]
+    ]
+
+-- an element of the one-byte form that is taken: its head is any octet but 0 and those of id 15
+pub record OneTaken (id n : ℕ) : Type 0 where
+  pub id-fits : id ≤ 14
+  pub enough : 1 ≤ n
+  pub fits : n ≤ 16
+  pub not-zero : 2 ≤ id * 16 + n
+
+pub one-taken : (id n : ℕ) → TakenElement one-byte id n → OneTaken id n
+one-taken id n (inl l) = record { id-fits = l .id-fits; enough = l .enough; fits = l .data-fits; not-zero = omega (arith, l .not-padding, l .enough) }
+one-taken id n (inr z) = record { id-fits = omega (arith, z .is-zero); enough = omega (arith, z .enough); fits = z .fits; not-zero = omega (arith, z .enough) }
+
+-- the octets of what is taken tell it
+pub taken-telling : (form : Form) (id n : ℕ) → TakenElement form id n → Telling form id n
+taken-telling one-byte id n t = let o : OneTaken id n = one-taken id n t in (o .enough, o .fits, o .not-zero)
+taken-telling (two-byte appbits) id n t = t .not-padding
+
+pub item-telling : (form : Form) (i : Item) → TakenItem form i → TellingItem form i
+item-telling form padding t = tt
+item-telling form (element id bytes) t = taken-telling form id (length bytes) t
+
+lawful-taken : (form : Form) (id n : ℕ) → LawfulElement form id n → TakenElement form id n
+lawful-taken one-byte id n l = inl l
+lawful-taken (two-byte appbits) id n l = l
 
 pub all-taken : (form : Form) (is : List Item) → AllLawful form is → AllTaken form is
 all-taken form is l = each-by (TakenItem form) (LawfulItem form) one is l
@@ -65,12 +101,13 @@ two-seen id n tail some = rw (ne-eqb id 0 some)
 pub head-seen : (form : Form) (id n : ℕ) (tail : List ℕ) → TakenElement form id n →
     itemsBy (isTwo form) (headOctets form id n ++ tail) ≡ within (headSize form) id n tail
 head-seen one-byte id n tail t =
+    let o : OneTaken id n = one-taken id n t in
     one-seen (id * 16 + (n - 1)) id n tail
-    (λ z. omega (arith, t .not-zero, t .enough))
-    (omega (arith, t .fits, t .enough))
-    (omega (arith, t .fits, t .enough))
-    (λ z. omega (arith, t .id-fits))
-head-seen (two-byte appbits) id n tail t = two-seen id n tail (λ z. omega arith)
+    (λ z. omega (arith, o .not-zero, o .enough))
+    (omega (arith, o .fits, o .enough))
+    (omega (arith, o .fits, o .enough))
+    (λ z. omega (arith, o .id-fits))
+head-seen (two-byte appbits) id n tail t = two-seen id n tail (λ z. omega (arith, t .not-padding))
 
 pub element-seen : (form : Form) (id n : ℕ) (tail : List ℕ) → TakenElement form id n → n ≤ length tail →
     itemsBy (isTwo form) (headOctets form id n ++ tail) ≡ paper.element (headSize form) id n
@@ -207,6 +244,17 @@ pub not-both : (es : List Element) → Within es → Over es → ⊥
 not-both es w (inl many) = omega (arith, w .few)
 not-both es w (inr much) = omega (arith, w .small)
 
+pub within-or-over : (es : List Element) → Within es ⊎ Over es
+within-or-over es =
+    elim (decLe (length es) 32) [
+      | yes few ↦
+          elim (decLe (length (dataOf es)) 1024) [
+            | yes small ↦ inl (record { few = few; small = small })
+            | no much ↦ inr (inr (lt-of-not-le much))
+          ]
+      | no many ↦ inr (inl (lt-of-not-le many))
+    ]
+
 -- the elements with one more are within the limits, or there is no room for it
 pub one-more : (es : List Element) (e : Element) → Within es → Within (es ++ (e ∷ [])) ⊎ (roomFor es (length (e .bytes)) ≡ false)
 one-more es e w =
@@ -263,26 +311,7 @@ read-over form (element id bytes ∷ is) t rest left n es pads fuel sum enough w
         run-done (turn (itemsBy (isTwo form))) (refuse 3) fuel (now (headOctets form id (length bytes) ++ (bytes ++ tail)) n es pads)
         (refuse 7) (omega arith) (full-element form id bytes tail n es pads (t .0) some full)
 
--- ---- a block of items
-
 -- at the block's end reading ends
 pub read-end : (form : Form) (rest : List ℕ) (es : List Element) (pads k : ℕ) → 0 < k → reads form k (now rest 0 es pads) ≡ says (now rest 0 es pads)
 unfolding turn
 read-end form rest es pads k h = run-done (turn (itemsBy (isTwo form))) (refuse 3) k (now rest 0 es pads) (says (now rest 0 es pads)) h refl
-
--- a block that is items, whatever follows it
-abbrev pub blockOf : Form → List Item → List ℕ → Block
-blockOf form is rest = now (blockOctets form is ++ rest) (length (blockOctets form is)) [] 0
-
-pub read-items : (form : Form) (is : List Item) (rest : List ℕ) → AllTaken form is → Within (elementsAmong is) →
-    paper.items (itemsBy (isTwo form)) (blockOf form is rest) ≡ says (now rest 0 (elementsAmong is) (padsAmong is))
-read-items form is rest t w =
-    let n : ℕ = length (blockOctets form is) in
-    read-off form is t rest 0 n [] 0 (n + 1) (omega arith) (omega arith) w (says (now rest 0 (elementsAmong is) (padsAmong is)))
-    (λ k h. read-end form rest (elementsAmong is) (0 + padsAmong is) k h ∙ ap (λ (p : ℕ). says (now rest 0 (elementsAmong is) p)) (zero-add (padsAmong is)))
-
-pub read-items-over : (form : Form) (is : List Item) (rest : List ℕ) → AllTaken form is → Over (elementsAmong is) →
-    paper.items (itemsBy (isTwo form)) (blockOf form is rest) ≡ refuse 7
-read-items-over form is rest t o =
-    let n : ℕ = length (blockOctets form is) in
-    read-over form is t rest 0 n [] 0 (n + 1) (omega arith) (omega arith) (record { few = omega arith; small = omega arith }) o

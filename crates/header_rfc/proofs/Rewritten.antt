@@ -14,27 +14,28 @@ use Rattle.block.specs.Form as forms
 use Rattle.block_write.specs.Write as blocks
 use Rattle.block_write.proofs.Octets.{length-blockOctets}
 use Rattle.block.proofs.Form.{form-other}
-use Rattle.header.specs.Fields.{Fields}
+use Rattle.header.specs.declared.Header.{Header}
+use Rattle.header.specs.Fields.{Fields, fieldsOf}
 use Rattle.header.specs.Read.{readHeader}
-use Rattle.header.specs.Write.{octetsOf}
+use Rattle.header.specs.Write.{octetsOf, inWritingDomain}
 use Rattle.header.specs.Write as written
 use Rattle.rfc3550.specs.Rfc3550.{Fixed, Extension, LawfulExtension}
 use Rattle.rfc3550.specs.Rfc3550 as rtp
 use Rattle.rfc3550.proofs.Places.{version-at}
-use Rattle.rfc3550.specs.Rfc8285.{Form, one-byte, two-byte, profileOf, padding, itemOctets, blockOctets, Content, laid, other, extensionIn, extensionWith, Plan, Lawful, LawfulPart, octets, reserved}
-use Rattle.header_rfc.specs.Says.{elementsAmong, padsAmong, fieldsSaid, fieldsWith, Within, PlainForm, Plain, Fits}
-use Rattle.header_rfc.specs.Taken.{AllTaken, strayed, ReadAs}
-use Rattle.header_rfc.specs.RoundTrip.{InRange, AllKept, readBack, Trailing, itemsFor, itemsWith}
+use Rattle.rfc3550.specs.Rfc8285.{Form, one-byte, two-byte, profileOf, padding, itemOctets, blockOctets, Content, laid, other, extensionIn, extensionWith, Plan, Lawful, LawfulPart, octets}
+use Rattle.header_rfc.specs.Says.{elementsAmong, padsAmong, fieldsSaid, fieldsWith, Within, Plain, Fits}
+use Rattle.header_rfc.specs.Taken.{AllTaken, fifteen, Taken, headerTaken}
+use Rattle.header_rfc.specs.Accepted.{ReadAs}
+use Rattle.header_rfc.specs.RoundTrip.{InRange, AsTyped, AllKept, readBack, Trailing, itemsFor, itemsWith}
+use Rattle.header_rfc.proofs.Items.{all-taken}
 use Rattle.header_rfc.proofs.Fixed.{extended}
-use Rattle.header_rfc.proofs.Written.{fixedFor, fixed-lawful, fixed-same, inPaper, packedLength, zerosFor, filled, octets-with, filled-lawful, filled-words, elements-with, pads-with, octets-plain, octets-extended}
+use Rattle.header_rfc.proofs.Ranges.{only-in-range}
+use Rattle.header_rfc.proofs.Written.{fixedFor, fixed-lawful, fixed-same, inPaper, form-again, packedLength, zerosFor, filled, octets-with, filled-lawful, filled-words, elements-with, pads-with, octets-plain, octets-extended}
 use Rattle.header_rfc.proofs.RoundTrip.{in-form, kept-lawful, back}
-use Rattle.header_rfc.proofs.Deviations.{reserved-read, within-front}
+use Rattle.header_rfc.proofs.Deviations.{reserved-read}
+use Rattle.header_rfc.proofs.Endings.{within-front}
 
 -- ---- the same octets again
-
-pub form-again : (form : Form) → PlainForm form → formOf (profileOf form) ≡ inPaper form
-form-again one-byte p = refl
-form-again (two-byte appbits) p = ap (λ (a : ℕ). formOf (0x1000 + a)) p
 
 -- fewer than four octets of padding fill the last word in one way
 zeros-told : (n z m : ℕ) → n + z ≡ 4 * m → z < 4 → z ≡ 4 * wordsFor n - n
@@ -87,21 +88,26 @@ octets-alone : (form : Form) (es : List Element) → blocks.blockOctets (inPaper
 octets-alone form es =
     sym (append-nil (blocks.blockOctets (inPaper form) es)) ∙ sym (octets-with form es 0) ∙ ap (blockOctets form) (items-alone es)
 
--- RFC 8285 4.2: an element of id 15 is written; the elements before it read back, and it is payload with all that was written behind it
-pub fifteen-written : (f : Fields) → InRange f → f .extension ≡ true → f .profile ≡ 0xBEDE → (es fs : List Element) (bytes : List ℕ) →
+-- what was written from an id 15 on is payload
+fifteen-cuts : (f : Fields) → InRange f → f .extension ≡ true → f .profile ≡ 0xBEDE → (es fs : List Element) (bytes : List ℕ) →
     f .elements ≡ es ++ (record { id = 15; bytes = bytes } ∷ fs) → AllKept 14 1 16 es → length bytes ≤ 16 →
     (payload : List ℕ) → Fits (octetsOf f ++ payload) →
     ReadAs (octetsOf f ++ payload) (fixedFor f) 0xBEDE es 0
     (bytes ++ (blocks.blockOctets forms.one-byte fs ++ replicate (zerosFor forms.one-byte (f .elements)) 0) ++ payload)
-fifteen-written f w on p es fs bytes at k most payload fits =
+fifteen-cuts f w on p es fs bytes at k most payload fits =
     subst (λ (s : List ℕ). ReadAs (s ++ payload) (fixedFor f) 0xBEDE es 0 (rest ++ payload)) (sym same)
     (subst (λ (l : List Element). ReadAs (cut-octets ++ payload) (fixedFor f) 0xBEDE l 0 (rest ++ payload)) elements
     (subst (λ (n : ℕ). ReadAs (cut-octets ++ payload) (fixedFor f) 0xBEDE (elementsAmong (itemsFor es)) n (rest ++ payload)) pads
-    (reserved-read (fixedFor f) (itemsFor es) (length bytes - 1) rest payload
-    (kept-lawful one-byte es k)
-    (omega arith)
-    (record { fixed = fixed-lawful f w; extension = subst LawfulExtension lay (filled-lawful forms.one-byte (f .profile) (f .elements) (w .profile) (w .within)) })
+    (reserved-read cut-there
+    (record {
+      header = record { fixed = fixed-lawful f w; extension = subst LawfulExtension lay (filled-lawful forms.one-byte (f .profile) (f .elements) (w .profile) (w .within)) };
+      plain = tt;
+      items = all-taken one-byte (itemsFor es) (kept-lawful one-byte es k);
+      ending = omega arith;
+    })
+    payload
     (subst (λ (s : List ℕ). Fits (s ++ payload)) same fits)
+    (length bytes - 1) rest refl
     (subst Within (sym elements) (within-front es (record { id = 15; bytes = bytes } ∷ fs) (subst Within at (w .within)))))))
   where
     zeros : List ℕ
@@ -110,8 +116,11 @@ fifteen-written f w on p es fs bytes at k most payload fits =
     rest : List ℕ
     rest = bytes ++ (blocks.blockOctets forms.one-byte fs ++ zeros)
 
+    cut-there : Taken
+    cut-there = record { fixed = fixedFor f; form = one-byte; items = itemsFor es; ending = fifteen (length bytes - 1) rest }
+
     cut-octets : List ℕ
-    cut-octets = rtp.octets (strayed (fixedFor f) one-byte (itemsFor es) (reserved (length bytes - 1) rest))
+    cut-octets = rtp.octets (headerTaken cut-there)
 
     elements : elementsAmong (itemsFor es) ≡ es
     elements = ap elementsAmong (sym (items-alone es)) ∙ elements-with es 0
@@ -149,20 +158,32 @@ pub two-byte-zero-octets : (bytes : List ℕ) →
     blocks.elementOctets forms.two-byte (record { id = 0; bytes = bytes }) ≡ itemOctets (two-byte 0) padding ++ (length bytes ∷ bytes)
 two-byte-zero-octets bytes = refl
 
--- in the one-byte form elements of id 0 with 2 to 16 bytes are written and read back as such
-pub zero-reads-back : (f : Fields) → InRange f → f .extension ≡ true → f .profile ≡ 0xBEDE → AllTaken one-byte (itemsFor (f .elements)) →
-    (payload : List ℕ) → Fits (octetsOf f ++ payload) →
-    readHeader (octetsOf f ++ payload) ≡ says (record { fields = readBack f; place = length (octetsOf f) })
-zero-reads-back f w on p t payload fits =
-    back f w payload fits (in-form one-byte tt on p (ap formOf p) t)
+-- ---- a record of the writing domain
 
--- ---- RFC 3550 5.1, the version
+module _ (h : Header) (t : AsTyped h) (d : inWritingDomain h ≡ true) where
+  abbrev f : Fields
+  f = fieldsOf h
 
--- whatever version a record has, it is written
-pub version-written : (f : Fields) → InRange f → (payload : List ℕ) → getD (octetsOf f ++ payload) 0 0 / 64 ≡ f .version
-unfolding octetsOf
-version-written f w payload =
-    let tail : List ℕ = cond (f .extension) (written.extensionOctets f) [] ++ payload in
-    ap (λ (s : List ℕ). getD s 0 0 / 64)
-    (append-assoc (written.fixedOctets f) (cond (f .extension) (written.extensionOctets f) []) payload ∙ ap (λ (s : List ℕ). s ++ tail) (fixed-same f))
-    ∙ version-at (fixedFor f) (f .extension) (fixed-lawful f w) tail
+  -- RFC 8285 4.2: an element of id 15 is written; the elements before it read back, and it is payload with all that was written behind it
+  pub fifteen-written : f .extension ≡ true → f .profile ≡ 0xBEDE → (es fs : List Element) (bytes : List ℕ) →
+      f .elements ≡ es ++ (record { id = 15; bytes = bytes } ∷ fs) → AllKept 14 1 16 es → length bytes ≤ 16 →
+      (payload : List ℕ) → Fits (octetsOf f ++ payload) →
+      ReadAs (octetsOf f ++ payload) (fixedFor f) 0xBEDE es 0
+      (bytes ++ (blocks.blockOctets forms.one-byte fs ++ replicate (zerosFor forms.one-byte (f .elements)) 0) ++ payload)
+  fifteen-written on p es fs bytes at k most payload fits = fifteen-cuts f (only-in-range h t d) on p es fs bytes at k most payload fits
+
+  -- in the one-byte form elements of id 0 with 2 to 16 bytes are written and read back as such
+  pub zero-reads-back : f .extension ≡ true → f .profile ≡ 0xBEDE → AllTaken one-byte (itemsFor (f .elements)) →
+      (payload : List ℕ) → Fits (octetsOf f ++ payload) →
+      readHeader (octetsOf f ++ payload) ≡ says (record { fields = readBack f; place = length (octetsOf f) })
+  zero-reads-back on p taken payload fits =
+      back f (only-in-range h t d) payload fits (in-form one-byte tt on p (ap formOf p) taken)
+
+  -- RFC 3550 5.1: whatever version the record has, it is written
+  pub version-written : (payload : List ℕ) → getD (octetsOf f ++ payload) 0 0 / 64 ≡ f .version
+  unfolding octetsOf
+  version-written payload =
+      let tail : List ℕ = cond (f .extension) (written.extensionOctets f) [] ++ payload in
+      ap (λ (s : List ℕ). getD s 0 0 / 64)
+      (append-assoc (written.fixedOctets f) (cond (f .extension) (written.extensionOctets f) []) payload ∙ ap (λ (s : List ℕ). s ++ tail) (fixed-same f))
+      ∙ version-at (fixedFor f) (f .extension) (fixed-lawful f (only-in-range h t d)) tail

@@ -1,21 +1,17 @@
 -- What is written reads back: the written octets are those of a plan that says the record, and every such plan is read as what it says.
 -- Assumes nothing.
 use mathlib.Core.Path.{_≡_, refl, sym, ap, ap₂, _∙_, subst}
-use mathlib.Core.Bool.{Bool, true, false, cond, _&&_}
+use mathlib.Core.Bool.{Bool, true, false, cond}
 use mathlib.Core.List.{List, [], _∷_, _++_, append-nil}
 use mathlib.Core.Option.{none, some}
 use Prim.Native.Nat.{ℕ, zero, suc, _-_, _*_, _%_}
-use native.Mathlib.Decide.{ℕ-discrete}
 use native.Mathlib.Omega.{arith}
 use lib.ListN.{length, replicate}
-use borrow.Author.Tests.{le-leb}
 use Rattle.error.specs.Said.{Said, says}
 use Rattle.wire.proofs.Each.{each-append}
 use Rattle.elements.specs.Elements.{Element, dataOf}
 use Rattle.block.specs.Form.{formOf, wordsFor}
-use Rattle.block_write.specs.Write.{fits, allWritable}
 use Rattle.block.specs.Form as forms
-use Rattle.block.proofs.Form.{form-other}
 use Rattle.header.specs.Fields.{Fields}
 use Rattle.header.specs.Read.{Reading, readHeader}
 use Rattle.header.specs.Size.{payloadLength}
@@ -23,28 +19,14 @@ use Rattle.header.specs.Write.{octetsOf}
 use Rattle.rfc3550.specs.Rfc3550.{Extension, LawfulExtension}
 use Rattle.rfc3550.specs.Rfc3550 as rtp
 use Rattle.rfc3550.proofs.Places.{plain-octets}
-use Rattle.rfc3550.specs.Rfc8285.{Form, one-byte, two-byte, LawfulForm, profileOf, Item, padding, highestId, leastData, mostData, LawfulElement, LawfulItem, AllLawful, laid, other, extensionOf, extensionWith}
-use Rattle.header_rfc.specs.Says.{elementsAmong, padsAmong, wholeElement, fieldsWith, PlainForm, AppBits, Fits}
-use Rattle.header_rfc.specs.Taken.{OneTaken, TakenItem, AllTaken}
+use Rattle.rfc3550.specs.Rfc8285.{Form, one-byte, two-byte, LawfulForm, profileOf, Item, padding, highestId, leastData, mostData, LawfulItem, AllLawful, laid, other, extensionOf, extensionWith}
+use Rattle.header_rfc.specs.Says.{elementsAmong, padsAmong, wholeElement, fieldsWith, readingAt, PlainForm, AppBits, Fits}
+use Rattle.header_rfc.specs.Taken.{TakenItem, AllTaken}
 use Rattle.header_rfc.specs.RoundTrip.{InRange, AllKept, KeptIn, KeptBy, ReadsBack, zerosWritten, readBack, WrittenAs, itemsFor}
-use Rattle.header_rfc.proofs.Items.{lawful-taken, all-taken}
-use Rattle.header_rfc.proofs.Fixed.{readingAt, read-plain, extended}
-use Rattle.header_rfc.proofs.Complete.{laid-within, other-within}
+use Rattle.header_rfc.proofs.Items.{Known, known, is-one-byte, is-two-byte, is-other, all-taken}
+use Rattle.header_rfc.proofs.Fixed.{read-plain, extended}
+use Rattle.header_rfc.proofs.Plans.{way-within, items-way, words-way}
 use Rattle.header_rfc.proofs.Written.{fixedFor, fixed-lawful, inPaper, zerosFor, filled, filled-lawful, filled-words, filled-items, itemsIn, elements-with, pads-with, octets-plain, octets-extended}
-
--- ---- how a profile is known
-
-pub data Known (profile : ℕ) : Type 0 where
-  is-one-byte : profile ≡ 0xBEDE → Known profile
-  is-two-byte : profile ≡ 0x1000 → Known profile
-  is-other : formOf profile ≡ forms.other → (profile ≡ 0xBEDE → ⊥) → (profile ≡ 0x1000 → ⊥) → Known profile
-
-pub known : (profile : ℕ) → Known profile
-known profile =
-    elim (ℕ-discrete profile 0xBEDE) [
-      | yes e ↦ is-one-byte e
-      | no a ↦ elim (ℕ-discrete profile 0x1000) [ yes e ↦ is-two-byte e | no b ↦ is-other (form-other a b) a b ]
-    ]
 
 -- ---- the record that is read back
 
@@ -150,31 +132,12 @@ ways-by P Q h f (in-form form plain on p g k) = in-form form plain on p g (h for
 ways-by P Q h f (whole words on g e m a b) = whole words on g e m a b
 
 -- elements that are lawful ..
-abbrev pub LawfulIn : Form → List Element → Type 0
-LawfulIn form es = AllLawful form (itemsFor es)
+abbrev pub LawfulElements : Form → List Element → Type 0
+LawfulElements form es = AllLawful form (itemsFor es)
 
--- .. whose heads the reader takes for elements ..
-abbrev pub TakenIn : Form → List Element → Type 0
-TakenIn form es = AllTaken form (itemsFor es)
-
--- .. and that the writing domain allows too
-pub record BothWays (form : Form) (es : List Element) : Type 0 where
-  pub taken : TakenIn form es
-  pub allowed : allWritable (inPaper form) es ≡ true
-
-pub one-allowed : (id n : ℕ) → OneTaken id n → fits forms.one-byte id n ≡ true
-one-allowed id n t = rw (le-leb id 15 (omega (arith, t .id-fits)), le-leb 1 n (t .enough), le-leb n 16 (t .fits))
-
-pub lawful-both : (form : Form) (es : List Element) → LawfulIn form es → BothWays form es
-lawful-both form es l = record { taken = all-taken form (itemsFor es) l; allowed = all es l }
-  where
-    one : (g : Form) (id n : ℕ) → LawfulElement g id n → fits (inPaper g) id n ≡ true
-    one one-byte id n m = one-allowed id n (lawful-taken one-byte id n m)
-    one (two-byte appbits) id n m = le-leb n 255 (m .data-fits)
-
-    all : (fs : List Element) → LawfulIn form fs → allWritable (inPaper form) fs ≡ true
-    all [] k = refl
-    all (e ∷ fs) k = ap₂ (λ (a b : Bool). a && b) (one form (e .id) (length (e .bytes)) (k .0)) (all fs (k .1))
+-- .. or taken at least
+abbrev pub TakenElements : Form → List Element → Type 0
+TakenElements form es = AllTaken form (itemsFor es)
 
 -- ---- what stands so reads back
 
@@ -195,7 +158,8 @@ module _ (f : Fields) (w : InRange f) (payload : List ℕ) (fits : Fits (octetsO
       ∙ h (rw e at fits)
       ∙ ap (λ (t : List ℕ). says (record { fields = readBack f; place = length t })) (sym e)
 
-  pub back : Ways TakenIn f → Back
+  pub back : Ways TakenElements f → Back
+  unfolding fieldsWith
   back (without off p e) =
       through (rtp.fixedOctets (fixedFor f) false) (octets-plain f off ∙ plain-octets (fixedFor f))
       (λ h. read-plain (fixedFor f) (fixed-lawful f w) payload h ∙ ap says (plain-said f off p e (length (rtp.fixedOctets (fixedFor f) false))))
@@ -207,36 +171,39 @@ module _ (f : Fields) (w : InRange f) (payload : List ℕ) (fits : Fits (octetsO
       (all-taken form (replicate z padding) (lawful-padding form z)) in
       let s : List ℕ = rtp.octets (extended (fixedFor f) (extensionOf (laid form is))) in
       through s (laid-same f w form on p g)
-      (λ h. laid-within (fixedFor f) (fixed-lawful f w) payload form is plain taken (laid-lawful f w form on p g) h
-      (rw (laid-elements f w form on p g) (w .within))
+      (λ h. way-within (s ++ payload) (readingAt (fixedFor f) true (profileOf form) (elementsAmong is) (padsAmong is) (length s))
+      (items-way (s ++ payload) (fixedFor f) form is payload plain taken (record { fixed = fixed-lawful f w; extension = laid-lawful f w form on p g }) refl)
+      h (rw (laid-elements f w form on p g) (w .within))
       ∙ ap says (laid-said f w form on p g (length s)))
   back (whole words on g e m a b) =
       let s : List ℕ = rtp.octets (extended (fixedFor f) (extensionWith (f .profile) words)) in
       through s (other-same f w words on g e m)
-      (λ h. other-within (fixedFor f) (fixed-lawful f w) payload (f .profile) words g (other-lawful f w words on g e m) h (rw e at (w .within))
+      (λ h. way-within (s ++ payload) (readingAt (fixedFor f) true (f .profile) (wholeElement words ∷ []) 0 (length s))
+      (words-way (s ++ payload) (fixedFor f) (f .profile) words payload a b (record { fixed = fixed-lawful f w; extension = other-lawful f w words on g e m }) refl)
+      h (rw e at (w .within))
       ∙ ap says (other-said f w words on g e m (length s)))
 
 -- ---- the paper's conditions
 
-pub kept-lawful : (form : Form) (es : List Element) → AllKept (highestId form) (leastData form) (mostData form) es → LawfulIn form es
+pub kept-lawful : (form : Form) (es : List Element) → AllKept (highestId form) (leastData form) (mostData form) es → LawfulElements form es
 kept-lawful form [] k = tt
 kept-lawful form (e ∷ es) k = (
   record { not-padding = k .0 .id-from; id-fits = k .0 .id-to; enough = k .0 .len-from; data-fits = k .0 .len-to },
   kept-lawful form es (k .1),
 )
 
-pub ways-kept : (f : Fields) → ReadsBack f → Ways LawfulIn f
+pub ways-kept : (f : Fields) → ReadsBack f → Ways LawfulElements f
 ways-kept f r = go (f .extension) refl r
   where
-    on-known : Known (f .profile) → f .extension ≡ true → KeptIn (formOf (f .profile)) (f .elements) → Ways LawfulIn f
+    on-known : Known (f .profile) → f .extension ≡ true → KeptIn (formOf (f .profile)) (f .elements) → Ways LawfulElements f
     on-known (is-one-byte p) on k = in-form one-byte tt on p (ap formOf p) (kept-lawful one-byte (f .elements) (rw p at k))
     on-known (is-two-byte p) on k = in-form (two-byte 0) refl on p (ap formOf p) (kept-lawful (two-byte 0) (f .elements) (rw p at k))
     on-known (is-other g a b) on k = words (rw g at k)
       where
-        words : KeptIn forms.other (f .elements) → Ways LawfulIn f
+        words : KeptIn forms.other (f .elements) → Ways LawfulElements f
         words k = whole (k .0) on g (k .1) (k .2) a b
 
-    go : (x : Bool) → f .extension ≡ x → KeptBy x (f .profile) (f .elements) → Ways LawfulIn f
+    go : (x : Bool) → f .extension ≡ x → KeptBy x (f .profile) (f .elements) → Ways LawfulElements f
     go false off k = without off (k .0) (k .1)
     go true on k = on-known (known (f .profile)) on k
 
@@ -251,7 +218,7 @@ writer f w r bits answer e = go (ways-kept f r)
     lawful-form one-byte plain = tt
     lawful-form (two-byte appbits) plain = omega arith
 
-    go : Ways LawfulIn f → WrittenAs f answer
+    go : Ways LawfulElements f → WrittenAs f answer
     go (without off p none-there) =
         record {
           plan = record { fixed = fixedFor f; content = none };

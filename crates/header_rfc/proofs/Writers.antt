@@ -1,55 +1,71 @@
 -- The call writes: a record whose extension stands in one of the three ways is in the writing domain, and neither 9 nor 10 is given; so what
 -- is shown of its octets is shown of the call. Assumes nothing.
-use mathlib.Core.Path.{_≡_, refl, sym, ap, ap₂, _∙_}
-use mathlib.Core.Bool.{Bool, true, false}
+use mathlib.Core.Path.{_≡_, refl, sym, ap, ap₂, _∙_, subst}
+use mathlib.Core.Bool.{Bool, true, false, _&&_}
 use mathlib.Core.List.{List, [], _∷_, _++_, append-nil}
 use mathlib.Core.Option.{Option, none, some}
 use Prim.Native.Nat.{ℕ, _+_, _*_, _%_, _≤_}
 use native.Mathlib.Omega.{arith}
-use lib.ListN.{length, take, drop, take-append-drop}
-use lib.Seq.{length-take-le}
+use lib.ListN.{length, take, drop}
+use lib.Seq.{take-at}
 use borrow.Author.Tests.{le-leb, eq-eqb}
 use Rattle.error.specs.Refusal.{Refusal}
 use Rattle.error.specs.Said.{Said, says, refused}
+use Rattle.wire.specs.Part.{splice}
 use Rattle.wire.proofs.Part.{take-padTo}
 use Rattle.elements.specs.Elements.{Element, dataOf, layElements}
 use Rattle.elements.proofs.Elements.{elementsOf-layElements}
-use Rattle.elements.proofs.Packed.{length-elementsOf, length-dataOf}
 use Rattle.block.specs.Form.{formOf, perElement}
-use Rattle.block_write.specs.Write.{allWritable}
+use Rattle.block_write.specs.Write.{fits, allWritable}
 use Rattle.block.specs.Form as forms
 use Rattle.block.proofs.Form.{form-other}
 use Rattle.header.specs.declared.Header.{Header}
+use Rattle.header_write.specs.declared.Length.{Length}
+use Rattle.header_write.specs.declared.Length.the-variants as len
 use Rattle.header.specs.Fields.{Fields, fieldsOf, layOut, inDomain}
 use Rattle.header.specs.Read.{Reading, readHeader}
 use Rattle.header.specs.Size.{payloadLength, headerSize}
 use Rattle.header.specs.Write.{octetsOf, inWritingDomain, writeHeader}
+use Rattle.header_write.specs.Said.{saidLength}
+use Rattle.header.specs.Said.{readingHeard, Written, heardWritten, written}
 use Rattle.header.proofs.ReadBack.{changed-domain}
 use Rattle.header.proofs.Sizes.{never}
-use Rattle.header.proofs.Writing.{writing-domain, writable, blockAsked, write-asked}
+use Rattle.header.proofs.Writing.{writing-domain, blockAsked, write-asked}
 use Rattle.rfc3550.specs.Rfc3550.{Octets, Fixed}
 use Rattle.rfc3550.specs.Rfc3550 as rtp
-use Rattle.rfc3550.proofs.Octets.{below-left}
 use Rattle.rfc3550.specs.Rfc8285.{Form, one-byte, two-byte, profileOf, Item, padding, element, AllLawful, Content, laid, other, extensionIn, Plan, LawfulPart, Lawful, octets}
 use Rattle.header_rfc.specs.Says.{elementsAmong, padsAmong, wholeElement, elementsSaid, fieldsWith, fieldsSaid, Within, Plain, AppBits, Fits}
-use Rattle.header_rfc.specs.RoundTrip.{InRange, ReadsBack, readBack, Trailing, Writes, WrittenAs, WrittenAndRead, AsTyped}
-use Rattle.header_rfc.proofs.Written.{fixedFor, inPaper, pads-with}
-use Rattle.header_rfc.proofs.RoundTrip.{Ways, without, in-form, whole, ways-by, TakenIn, LawfulIn, BothWays, lawful-both, back, ways-kept, writer}
-use Rattle.header_rfc.proofs.Yields.{YieldedAs, range-with, as-yielded}
-use Rattle.header_rfc.proofs.Rewritten.{form-again, written-again}
+use Rattle.header_rfc.specs.Taken.{TakenElement}
+use Rattle.header_rfc.specs.RoundTrip.{InRange, ReadsBack, itemsFor, readBack, Trailing, Writes, WrittenAs, WrittenAndRead, CodeWrittenAndRead, AsTyped}
+use Rattle.header_rfc.proofs.Items.{OneTaken, one-taken, all-taken}
+use Rattle.header_rfc.proofs.Written.{fixedFor, inPaper, form-again}
+use Rattle.header_rfc.proofs.RoundTrip.{Ways, without, in-form, whole, ways-by, TakenElements, LawfulElements, back, ways-kept, writer}
+use Rattle.header_rfc.proofs.Ranges.{only-in-range, range-with}
+use Rattle.header_rfc.proofs.Yields.{YieldedAs, pads-fit, as-yielded}
+use Rattle.header_rfc.proofs.Rewritten.{written-again}
 use Rattle.header_rfc.proofs.Readers.{shortest, shortest-lawful}
 
 -- ---- 8, 9 and 10 are not given
 
-ways-allowed : (f : Fields) → Ways BothWays f → allWritable (formOf (f .profile)) (f .elements) ≡ true
+-- what is taken can be written
+taken-allowed : (form : Form) (es : List Element) → TakenElements form es → allWritable (inPaper form) es ≡ true
+taken-allowed form [] t = refl
+taken-allowed form (e ∷ es) t = ap₂ (λ (a b : Bool). a && b) (one form (e .id) (length (e .bytes)) (t .0)) (taken-allowed form es (t .1))
+  where
+    one : (g : Form) (id n : ℕ) → TakenElement g id n → fits (inPaper g) id n ≡ true
+    one one-byte id n m =
+        let o : OneTaken id n = one-taken id n m in
+        rw (le-leb id 15 (omega (arith, o .id-fits)), le-leb 1 n (o .enough), le-leb n 16 (o .fits))
+    one (two-byte appbits) id n m = le-leb n 255 (m .data-fits)
+
+ways-allowed : (f : Fields) → Ways TakenElements f → allWritable (formOf (f .profile)) (f .elements) ≡ true
 ways-allowed f (without off p e) = ap (allWritable (formOf (f .profile))) e
-ways-allowed f (in-form form plain on p g k) = ap (λ (h : forms.Form). allWritable h (f .elements)) g ∙ k .allowed
+ways-allowed f (in-form form plain on p g k) = ap (λ (h : forms.Form). allWritable h (f .elements)) g ∙ taken-allowed form (f .elements) k
 ways-allowed f (whole words on g e m a b) = ap₂ allWritable g e
 
-in-writing-domain : (h : Header) → inDomain h ≡ true → InRange (fieldsOf h) → Ways BothWays (fieldsOf h) → inWritingDomain h ≡ true
+in-writing-domain : (h : Header) → inDomain h ≡ true → h .version ≤ 3 → h .«payload_type» ≤ 127 → Ways TakenElements (fieldsOf h) → inWritingDomain h ≡ true
 unfolding fieldsOf
-in-writing-domain h d w s =
-    writing-domain h d (le-leb (h .version) 3 (w .version)) (le-leb (h .«payload_type») 127 (w .type)) (ways-allowed (fieldsOf h) s)
+in-writing-domain h d v t s = writing-domain h d (le-leb (h .version) 3 v) (le-leb (h .«payload_type») 127 t) (ways-allowed (fieldsOf h) s)
 
 -- what 9 and 10 let pass
 form-passes : (g : forms.Form) (on : Bool) (len count : ℕ) (x : List ℕ) → (g ≡ forms.other → ⊥) → blockAsked on g len count x ≡ says x
@@ -62,7 +78,7 @@ words-pass : (on : Bool) (len count : ℕ) (x : List ℕ) → len % 4 ≡ 0 → 
 words-pass true len count x m n = rw (eq-eqb (len % 4) 0 m, eq-eqb count 1 n)
 words-pass false len count x m n = refl
 
-not-judged : (f : Fields) (x : List ℕ) → Ways BothWays f →
+not-judged : (f : Fields) (x : List ℕ) → Ways TakenElements f →
     blockAsked (f .extension) (formOf (f .profile)) (payloadLength f) (length (f .elements)) x ≡ says x
 unfolding payloadLength
 not-judged f x (without off p e) = ap (λ (on : Bool). blockAsked on (formOf (f .profile)) (payloadLength f) (length (f .elements)) x) off
@@ -82,10 +98,9 @@ not-judged f x (whole words on g e m a b) =
 -- ---- the call writes
 
 module _ (h : Header) (room : ℕ) (fits : headerSize (fieldsOf h) ≤ room) where
-  ways-written : inDomain h ≡ true → InRange (fieldsOf h) → Ways BothWays (fieldsOf h) → writeHeader h room ≡ says (octetsOf (fieldsOf h))
+  ways-written : inWritingDomain h ≡ true → Ways TakenElements (fieldsOf h) → writeHeader h room ≡ says (octetsOf (fieldsOf h))
   unfolding fieldsOf
-  ways-written d w s =
-      write-asked h room (in-writing-domain h d w s) fits ∙ not-judged (fieldsOf h) (octetsOf (fieldsOf h)) s
+  ways-written d s = write-asked h room d fits ∙ not-judged (fieldsOf h) (octetsOf (fieldsOf h)) s
 
   -- in the one-byte and the two-byte profile everything in the writing domain is written, ids 0 and 15 too
   pub form-written : inWritingDomain h ≡ true → (formOf (h .«extension_profile») ≡ forms.other → ⊥) → writeHeader h room ≡ says (octetsOf (fieldsOf h))
@@ -93,31 +108,67 @@ module _ (h : Header) (room : ℕ) (fits : headerSize (fieldsOf h) ≤ room) whe
       write-asked h room d fits
       ∙ form-passes (formOf (h .«extension_profile»)) (h .extension) (payloadLength (fieldsOf h)) (length (fieldsOf h .elements)) (octetsOf (fieldsOf h)) g
 
-pub kept-both : (f : Fields) → ReadsBack f → Ways BothWays f
-kept-both f r = ways-by LawfulIn BothWays lawful-both f (ways-kept f r)
+pub kept-taken : (f : Fields) → ReadsBack f → Ways TakenElements f
+kept-taken f r = ways-by LawfulElements TakenElements (λ form es l. all-taken form (itemsFor es) l) f (ways-kept f r)
 
-pub kept-in-domain : (h : Header) → inDomain h ≡ true → InRange (fieldsOf h) → ReadsBack (fieldsOf h) → inWritingDomain h ≡ true
-kept-in-domain h d w r = in-writing-domain h d w (kept-both (fieldsOf h) r)
+pub kept-in-domain : (h : Header) → inDomain h ≡ true → h .version ≤ 3 → h .«payload_type» ≤ 127 → ReadsBack (fieldsOf h) → inWritingDomain h ≡ true
+kept-in-domain h d v t r = in-writing-domain h d v t (kept-taken (fieldsOf h) r)
 
 pub writes : Writes writeHeader
-writes h d w r room fits = ways-written h room fits d w (kept-both (fieldsOf h) r)
+writes h d r room fits = ways-written h room fits d (kept-taken (fieldsOf h) r)
 
-pub written-as : (h : Header) → inDomain h ≡ true → InRange (fieldsOf h) → ReadsBack (fieldsOf h) → (AppBits (fieldsOf h .profile) → ⊥) → (room : ℕ) →
+pub written-as : (h : Header) → AsTyped h → inWritingDomain h ≡ true → ReadsBack (fieldsOf h) → (AppBits (fieldsOf h .profile) → ⊥) → (room : ℕ) →
     headerSize (fieldsOf h) ≤ room → WrittenAs (fieldsOf h) (writeHeader h room)
-written-as h d w r bits room fits = writer (fieldsOf h) w r bits (writeHeader h room) (writes h d w r room fits)
+written-as h t d r bits room fits = writer (fieldsOf h) (only-in-range h t d) r bits (writeHeader h room) (writes h d r room fits)
 
 -- .. and what it wrote reads back
-pub octets-back : (f : Fields) → InRange f → Ways BothWays f → (payload : List ℕ) → Fits (octetsOf f ++ payload) →
+pub octets-back : (f : Fields) → InRange f → Ways TakenElements f → (payload : List ℕ) → Fits (octetsOf f ++ payload) →
     readHeader (octetsOf f ++ payload) ≡ says (record { fields = readBack f; place = length (octetsOf f) })
-octets-back f w s payload fits = back f w payload fits (ways-by BothWays TakenIn (λ form es k. k .taken) f s)
+octets-back f w s payload fits = back f w payload fits s
 
-read-back : (f : Fields) (answer : Said (List ℕ)) → InRange f → Ways BothWays f → answer ≡ says (octetsOf f) → WrittenAndRead f answer
+read-back : (f : Fields) (answer : Said (List ℕ)) → InRange f → Ways TakenElements f → answer ≡ says (octetsOf f) → WrittenAndRead f answer
 read-back f answer w s e = record { octets = octetsOf f; written = e; back = octets-back f w s }
 
-pub round-trip : (h : Header) → inDomain h ≡ true → InRange (fieldsOf h) → ReadsBack (fieldsOf h) → (room : ℕ) → headerSize (fieldsOf h) ≤ room →
+pub round-trip : (h : Header) → AsTyped h → inWritingDomain h ≡ true → ReadsBack (fieldsOf h) → (room : ℕ) → headerSize (fieldsOf h) ≤ room →
     WrittenAndRead (fieldsOf h) (writeHeader h room)
-round-trip h d w r room fits =
-    read-back (fieldsOf h) (writeHeader h room) w (kept-both (fieldsOf h) r) (writes h d w r room fits)
+round-trip h t d r room fits =
+    read-back (fieldsOf h) (writeHeader h room) (only-in-range h t d) (kept-taken (fieldsOf h) r) (writes h d r room fits)
+
+-- ---- the code
+
+bytes-said : (a : Length) (n : ℕ) → saidLength a ≡ says n → a ≡ len.Bytes n
+bytes-said (len.Bytes m) n e = let same : m ≡ n = cc in ap (λ (k : ℕ). len.Bytes k) same
+bytes-said (len.Refused k) n e = absurd (never (sym e))
+
+-- octets that were written are counted in the answer, and stand in front of the buffer
+pub left-by : (a : Length) (buf exit s : List ℕ) → heardWritten a exit ≡ written buf (says s) → (a ≡ len.Bytes (length s)) × (exit ≡ splice buf 0 s)
+left-by a buf exit s e = (bytes-said a (length s) (ap (λ (x : Written). x .answer) e), ap (λ (x : Written). x .buffer) e)
+
+pub front-left : (buf exit s : List ℕ) → exit ≡ splice buf 0 s → take (length s) exit ≡ s
+unfolding splice
+front-left buf exit s e = ap (take (length s)) e ∙ take-at s (drop (0 + length s) buf) (length s) refl
+
+pub code-writes : (h : Header) (buf exit : List ℕ) (a : Length) → heardWritten a exit ≡ written buf (writeHeader h (length buf)) →
+    inWritingDomain h ≡ true → ReadsBack (fieldsOf h) → headerSize (fieldsOf h) ≤ length buf →
+    (a ≡ len.Bytes (length (octetsOf (fieldsOf h)))) × (exit ≡ splice buf 0 (octetsOf (fieldsOf h)))
+code-writes h buf exit a contract d r fits =
+    left-by a buf exit (octetsOf (fieldsOf h)) (contract ∙ ap (written buf) (writes h d r (length buf) fits))
+
+pub code-round-trip : (h : Header) → AsTyped h → (buf exit : List ℕ) (a : Length) → heardWritten a exit ≡ written buf (writeHeader h (length buf)) →
+    inWritingDomain h ≡ true → ReadsBack (fieldsOf h) → headerSize (fieldsOf h) ≤ length buf → CodeWrittenAndRead h exit a
+code-round-trip h t buf exit a contract d r fits =
+    let octets : List ℕ = octetsOf (fieldsOf h) in
+    let left : (a ≡ len.Bytes (length octets)) × (exit ≡ splice buf 0 octets) = code-writes h buf exit a contract d r fits in
+    let front : take (length octets) exit ≡ octets = front-left buf exit octets (left .1) in
+    record {
+      count = length octets;
+      answer = left .0;
+      back = λ payload few u read.
+          read
+          ∙ ap (λ (s : List ℕ). readingHeard (readHeader (s ++ payload))) front
+          ∙ ap readingHeard
+          (octets-back (fieldsOf h) (only-in-range h t d) (kept-taken (fieldsOf h) r) payload (subst (λ (s : List ℕ). Fits (s ++ payload)) front few));
+    }
 
 -- ---- a record that was read
 
@@ -147,13 +198,13 @@ layOut-domain f w z =
 
 module _ (f : Fields) (y : YieldedAs f) where
   pub layOut-in-domain : inWritingDomain (layOut f) ≡ true
+  unfolding layOut
   layOut-in-domain =
-      in-writing-domain (layOut f) (layOut-domain f (y .range) (y .pads)) (rw fieldsOf-layOut (y .range)) (rw fieldsOf-layOut (y .way))
+      in-writing-domain (layOut f) (layOut-domain f (y .range) (y .pads)) (y .range .version) (y .range .type) (rw fieldsOf-layOut (y .way))
 
   pub layOut-written : (room : ℕ) → headerSize f ≤ room → writeHeader (layOut f) room ≡ says (octetsOf f)
   layOut-written room fits =
-      ways-written (layOut f) room (rw fieldsOf-layOut fits) (layOut-domain f (y .range) (y .pads)) (rw fieldsOf-layOut (y .range))
-      (rw fieldsOf-layOut (y .way))
+      ways-written (layOut f) room (rw fieldsOf-layOut fits) layOut-in-domain (rw fieldsOf-layOut (y .way))
       ∙ ap (λ (g : Fields). says (octetsOf g)) (fieldsOf-layOut f)
 
 pub reads-again : (s : List ℕ) → Octets s → (r : Reading) → readHeader s ≡ says r → (room : ℕ) → headerSize (r .fields) ≤ room →
@@ -164,33 +215,33 @@ reads-again s o r e room fits =
 
 -- ---- a plan whose padding stands behind the elements
 
-lawful-elements : (form : Form) (is : List Item) → AllLawful form is → LawfulIn form (elementsAmong is)
+lawful-elements : (form : Form) (is : List Item) → AllLawful form is → LawfulElements form (elementsAmong is)
 lawful-elements form [] l = tt
 lawful-elements form (padding ∷ is) l = lawful-elements form is (l .1)
 lawful-elements form (element id bytes ∷ is) l = (l .0, lawful-elements form is (l .1))
 
-pub plan-yielded : (p : Plan) → Lawful p → Plain (p .content) → Trailing (p .content) → Within (elementsSaid (p .content)) → YieldedAs (fieldsSaid p)
+pub plan-yielded : (p : Plan) → Lawful p → Plain (p .content) → Within (elementsSaid (p .content)) → YieldedAs (fieldsSaid p)
 unfolding fieldsWith
-plan-yielded p l plain t w = go (p .content) (l .content) (l .header .extension) plain t w
+plan-yielded p l plain w = go (p .content) (l .content) (l .header .extension) plain w
   where
     f : Fixed
     f = p .fixed
 
-    go : (c : Option Content) → LawfulPart c → rtp.LawfulPart (extensionIn c) → Plain c → Trailing c → Within (elementsSaid c) →
+    go : (c : Option Content) → LawfulPart c → rtp.LawfulPart (extensionIn c) → Plain c → Within (elementsSaid c) →
         YieldedAs (fieldsSaid (record { fixed = f; content = c }))
-    go none m k q u v =
+    go none m k q v =
         record {
           range = range-with f (l .header .fixed) false 0 [] 0 (omega arith) v;
           way = without refl refl refl;
           pads = omega arith;
         }
-    go (some (laid form is)) m k q u v =
+    go (some (laid form is)) m k q v =
         record {
           range = range-with f (l .header .fixed) true (profileOf form) (elementsAmong is) (padsAmong is) (k .profile) v;
-          way = in-form form q refl refl (form-again form q) (lawful-both form (elementsAmong is) (lawful-elements form is (m .1)));
-          pads = omega (arith, ap padsAmong (u .2) ∙ pads-with (u .0) (u .1), u .3);
+          way = in-form form q refl refl (form-again form q) (all-taken form (itemsFor (elementsAmong is)) (lawful-elements form is (m .1)));
+          pads = omega (arith, k .words, k .content, pads-fit form is);
         }
-    go (some (other profile words)) m k q u v =
+    go (some (other profile words)) m k q v =
         record {
           range = range-with f (l .header .fixed) true profile (wholeElement words ∷ []) 0 (k .profile) v;
           way = whole words refl (form-other (m .0) (λ e. m .1 (omega arith))) refl (omega (arith, k .content)) (m .0) (λ e. m .1 (omega arith));
@@ -200,29 +251,7 @@ plan-yielded p l plain t w = go (p .content) (l .content) (l .header .extension)
 pub same-octets : (p : Plan) → Lawful p → Plain (p .content) → Trailing (p .content) → Within (elementsSaid (p .content)) → (room : ℕ) →
     headerSize (fieldsSaid p) ≤ room → writeHeader (layOut (fieldsSaid p)) room ≡ says (octets p)
 same-octets p l plain t w room fits =
-    layOut-written (fieldsSaid p) (plan-yielded p l plain t w) room fits ∙ ap says (written-again p l plain t)
-
--- ---- the writing domain tells the ranges
-
-pub only-in-range : (h : Header) → AsTyped h → inWritingDomain h ≡ true → InRange (fieldsOf h)
-unfolding fieldsOf
-only-in-range h t e =
-    let w = writable h (record { csrc = t .sources; ids = t .ids; lens = t .lens; bytes = t .bytes }) e in
-    let n : length (take (h .«csrc_count») (h .csrc)) ≡ h .«csrc_count» = length-take-le (h .«csrc_count») (h .csrc) (w .sources) in
-    record {
-      version = w .version;
-      type = w .type;
-      number = t .number;
-      time = t .time;
-      source = t .source;
-      count = omega (arith, w .limits .sources);
-      csrcs = below-left 4294967296 (take (h .«csrc_count») (h .csrc)) (drop (h .«csrc_count») (h .csrc)) (rw take-append-drop (t .csrcs));
-      profile = t .profile;
-      within = record {
-        few = omega (arith, length-elementsOf (h .extensions) (w .packing), w .limits .elements);
-        small = omega (arith, length-dataOf (h .extensions) (w .packing), w .limits .bytes);
-      };
-    }
+    layOut-written (fieldsSaid p) (plan-yielded p l plain w) room fits ∙ ap says (written-again p l plain t)
 
 -- ---- writers that are shut out
 
@@ -230,8 +259,7 @@ only-in-range h t e =
 pub record WithExtension : Type 0 where
   pub header : Header
   pub on : header .extension ≡ true
-  pub domain : inDomain header ≡ true
-  pub range : InRange (fieldsOf header)
+  pub domain : inWritingDomain header ≡ true
   pub kept : ReadsBack (fieldsOf header)
 
 -- the shortest: one element of id 1 with one byte
@@ -241,8 +269,7 @@ one-element =
     record {
       header = layOut f;
       on = refl;
-      domain = layOut-domain f range (omega arith);
-      range = rw fieldsOf-layOut range;
+      domain = in-writing-domain (layOut f) (layOut-domain f range (omega arith)) (omega arith) (omega arith) (kept-taken (fieldsOf (layOut f)) (rw fieldsOf-layOut kept));
       kept = rw fieldsOf-layOut kept;
     }
   where
@@ -263,4 +290,4 @@ pub no-refusing-writer : (write : Header → ℕ → Said (List ℕ)) (why : Hea
 no-refusing-writer write why refuses w =
     let x : WithExtension = one-element in
     let room : ℕ = headerSize (fieldsOf (x .header)) in
-    never (sym (w (x .header) (x .domain) (x .range) (x .kept) room (omega arith)) ∙ refuses (x .header) room (x .on))
+    never (sym (w (x .header) (x .domain) (x .kept) room (omega arith)) ∙ refuses (x .header) room (x .on))

@@ -22,8 +22,8 @@ use Rattle.header.specs.Write as written
 use Rattle.rfc3550.specs.Rfc3550.{Fixed, LawfulFixed, bit, LawfulExtension}
 use Rattle.rfc3550.specs.Rfc3550 as rtp
 use Rattle.rfc3550.proofs.Places.{plain-octets}
-use Rattle.rfc3550.specs.Rfc8285.{Form, one-byte, two-byte, Item, padding, blockOctets, extensionWith}
-use Rattle.header_rfc.specs.Says.{elementsAmong, padsAmong, Within}
+use Rattle.rfc3550.specs.Rfc8285.{Form, one-byte, two-byte, profileOf, Item, padding, blockOctets, extensionWith}
+use Rattle.header_rfc.specs.Says.{elementsAmong, padsAmong, Within, PlainForm}
 use Rattle.header_rfc.specs.RoundTrip.{InRange, itemsWith}
 use Rattle.header_rfc.proofs.Fixed.{extended}
 
@@ -80,6 +80,11 @@ fixed-same f i =
 abbrev pub inPaper : Form → forms.Form
 inPaper one-byte = forms.one-byte
 inPaper (two-byte appbits) = forms.two-byte
+
+-- and as it knows its profile
+pub form-again : (form : Form) → PlainForm form → formOf (profileOf form) ≡ inPaper form
+form-again one-byte p = refl
+form-again (two-byte appbits) p = ap (λ (a : ℕ). formOf (0x1000 + a)) p
 
 -- elements with their heads
 abbrev pub packedLength : forms.Form → List Element → ℕ

@@ -1,3 +1,4 @@
 pub mod Says
-pub mod RoundTrip
 pub mod Taken
+pub mod Accepted
+pub mod RoundTrip

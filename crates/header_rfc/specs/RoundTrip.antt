@@ -3,21 +3,27 @@ use mathlib.Core.Path.{_≡_}
 use mathlib.Core.Bool.{Bool, true, false, cond}
 use mathlib.Core.List.{List, [], _∷_, _++_}
 use mathlib.Core.Option.{Option, none, some}
-use Prim.Native.Nat.{ℕ, _-_, _*_, _%_, _<_, _≤_}
-use lib.ListN.{length, replicate}
+use Prim.Native.Nat.{ℕ, _+_, _-_, _*_, _%_, _<_, _≤_}
+use lib.ListN.{length, take, replicate}
 use Rattle.error.specs.Said.{Said, says}
 use Rattle.wire.specs.Each.{Each}
 use Rattle.elements.specs.Elements.{Element}
 use Rattle.block.specs.Form.{Form, one-byte, two-byte, other, formOf, wordsFor}
 use Rattle.header.specs.declared.Header.{Header}
-use Rattle.header.specs.Fields.{Fields, fieldsOf, inDomain}
+use Rattle.header_write.specs.declared.Length.{Length}
+use Rattle.header_write.specs.declared.Length.the-variants as len
+use Rattle.header.specs.declared.Unmarshalled.{Unmarshalled}
+use Rattle.header.specs.Fields.{Fields, fieldsOf, layOut}
 use Rattle.header.specs.Read.{readHeader}
 use Rattle.header.specs.Size.{payloadLength, headerSize}
-use Rattle.header.specs.Write.{octetsOf}
+use Rattle.header.specs.Write.{octetsOf, inWritingDomain}
+use Rattle.header.specs.Said.{heard, readingHeard}
 use Rattle.rfc3550.specs.Rfc3550.{AllBelow}
 use Rattle.rfc3550.specs.Rfc8285.{Item, padding, element, Content, laid, Plan, Lawful, octets}
 use Rattle.rfc3550.specs.Rfc8285
 use Rattle.header_rfc.specs.Says.{Within, Fits, wholeElement, fieldsSaid}
+
+-- ---- the ranges of a record
 
 -- "A record to be written has version 0 to 3, payload type 0 to 127", "15 CSRCs; 32 extension elements holding 1,024 data bytes in
 -- all"; the other numbers are as wide as the record's types make them
@@ -31,6 +37,21 @@ pub record InRange (f : Fields) : Type 0 where
   pub csrcs : AllBelow 4294967296 (f .csrcs)
   pub profile : f .profile < 65536
   pub within : Within (f .elements)
+
+-- what the record's own types make sure of: numbers of 16 and 32 bits, arrays of 15, 32, 32 and 1,024 places. `typed` of src/lib.rt shows it of every
+-- record
+pub record AsTyped (h : Header) : Type 0 where
+  pub number : h .«sequence_number» < 65536
+  pub time : h .timestamp < 4294967296
+  pub source : h .ssrc < 4294967296
+  pub csrcs : AllBelow 4294967296 (h .csrc)
+  pub profile : h .«extension_profile» < 65536
+  pub sources : length (h .csrc) ≡ 15
+  pub ids : length (h .extensions .ids) ≡ 32
+  pub lens : length (h .extensions .lens) ≡ 32
+  pub bytes : length (h .extensions .bytes) ≡ 1024
+
+-- ---- the conditions of the round trip
 
 -- ids from 1 to `highest`, data of `least` to `most` bytes
 pub record Kept (highest least most : ℕ) (e : Element) : Type 0 where
@@ -83,10 +104,10 @@ readBack f =
 
 -- ---- what is asked of a writer
 
--- every record in the domain that meets the conditions of the round trip is written, wherever there is room for its size
+-- every record in the writing domain that meets the conditions of the round trip is written, wherever there is room for its size
 abbrev pub Writes : (Header → ℕ → Said (List ℕ)) → Type 0
 Writes write =
-    (h : Header) → inDomain h ≡ true → InRange (fieldsOf h) → ReadsBack (fieldsOf h) → (room : ℕ) → headerSize (fieldsOf h) ≤ room →
+    (h : Header) → inWritingDomain h ≡ true → ReadsBack (fieldsOf h) → (room : ℕ) → headerSize (fieldsOf h) ≤ room →
     write h room ≡ says (octetsOf (fieldsOf h))
 
 -- the answer is that the octets of a lawful plan were written, which says what reads back of f
@@ -102,17 +123,14 @@ pub record WrittenAndRead (f : Fields) (answer : Said (List ℕ)) : Type 0 where
   pub written : answer ≡ says octets
   pub back : (payload : List ℕ) → Fits (octets ++ payload) → readHeader (octets ++ payload) ≡ says (record { fields = readBack f; place = length octets })
 
--- what the record's types make sure of: numbers of 16 and 32 bits, arrays of 15, 32, 32 and 1,024 places
-pub record AsTyped (h : Header) : Type 0 where
-  pub number : h .«sequence_number» < 65536
-  pub time : h .timestamp < 4294967296
-  pub source : h .ssrc < 4294967296
-  pub csrcs : AllBelow 4294967296 (h .csrc)
-  pub profile : h .«extension_profile» < 65536
-  pub sources : length (h .csrc) ≡ 15
-  pub ids : length (h .extensions .ids) ≡ 32
-  pub lens : length (h .extensions .lens) ≡ 32
-  pub bytes : length (h .extensions .bytes) ≡ 1024
+-- the code's two calls: `marshal_to` of h answered a and left exit, and whatever `unmarshal` answers of what was written, with any payload behind it, is
+-- what reads back
+pub record CodeWrittenAndRead (h : Header) (exit : List ℕ) (a : Length) : Type 0 where
+  pub count : ℕ
+  pub answer : a ≡ len.Bytes count
+  pub back : (payload : List ℕ) → Fits (take count exit ++ payload) → (u : Unmarshalled) →
+      heard u ≡ readingHeard (readHeader (take count exit ++ payload)) →
+      heard u ≡ record { answer = says count; header = layOut (readBack (fieldsOf h)) }
 
 -- ---- the other way round
 
@@ -130,3 +148,9 @@ abbrev pub Trailing : Option Content → Type 0
 Trailing none = Unit
 Trailing (some (laid form items)) = (es : List Element) × (z : ℕ) × (items ≡ itemsWith es z) × (z < 4)
 Trailing (some (Rfc8285.other profile words)) = Unit
+
+-- ---- setting and deleting
+
+-- how far the elements, with their heads, and the padding are from whole words
+abbrev pub beyond : Fields → ℕ
+beyond f = (payloadLength f + f .pads) % 4

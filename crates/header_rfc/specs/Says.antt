@@ -1,16 +1,15 @@
--- What a header of RFC 3550 and RFC 8285 says, in the header's own fields, and what it is for a reader to be complete and sound.
+-- What a header of RFC 3550 and RFC 8285 says, in the header's own fields, and what it is for a reader to be complete.
 -- Assumes nothing.
 use mathlib.Core.Path.{_≡_}
-use mathlib.Core.Bool.{Bool, true}
+use mathlib.Core.Bool.{Bool}
 use mathlib.Core.List.{List, [], _∷_, _++_}
 use mathlib.Core.Logic.{_⊎_}
 use mathlib.Core.Option.{Option, none, some}
 use Prim.Native.Nat.{ℕ, suc, _<_, _≤_}
 use lib.ListN.{length}
 use Rattle.error.specs.Said.{Said, says, refuse}
-use Rattle.rfc3550.specs.Rfc3550.{Fixed, Extension, Octets, present}
-use Rattle.rfc3550.specs.Rfc3550 as rtp
-use Rattle.rfc3550.specs.Rfc8285.{Form, one-byte, two-byte, Item, padding, element, Content, laid, other, Plan, Lawful, octets, profileOf, Strays}
+use Rattle.rfc3550.specs.Rfc3550.{Fixed, present}
+use Rattle.rfc3550.specs.Rfc8285.{Form, one-byte, two-byte, Item, padding, element, Content, laid, other, Plan, Lawful, octets, profileOf}
 use Rattle.elements.specs.Elements.{Element, dataOf}
 use Rattle.header.specs.Fields.{Fields}
 use Rattle.header.specs.Read.{Reading}
@@ -69,6 +68,10 @@ fieldsWith f x profile es pads =
       pads = pads;
     }
 
+-- what is read of a header, from its parts
+abbrev pub readingAt : Fixed → Bool → ℕ → List Element → ℕ → ℕ → Reading
+readingAt f x profile es pads place = record { fields = fieldsWith f x profile es pads; place = place }
+
 -- the extension bit says whether there is an extension
 abbrev pub fieldsSaid : Plan → Fields
 fieldsSaid p =
@@ -118,33 +121,11 @@ pub record Complete (read : List ℕ → Said Reading) : Type 0 where
   pub over : (p : Plan) (payload : List ℕ) → Lawful p → Plain (p .content) → Fits (octets p ++ payload) →
       Over (elementsSaid (p .content)) → read (octets p ++ payload) ≡ refuse 7
 
--- r is what a well-formed header of version 2 in front of s says
+-- r is what a well-formed header in front of s says, whatever its version, in a form that is read as such
 pub record Conforming (s : List ℕ) (r : Reading) : Type 0 where
   pub plan : Plan
   pub lawful : Lawful plan
-  pub version : plan .fixed .version ≡ 2
+  pub plain : Plain (plan .content)
   pub payload : List ℕ
   pub same : octets plan ++ payload ≡ s
   pub said : r ≡ readingSaid plan
-
--- where an extension leaves RFC 8285: it strays from the form that its profile asks for, or its profile is one of the two-byte form that the
--- crate does not read as such
-abbrev pub Departs : Extension → Type 0
-Departs x = Strays x ⊎ AppBits (x .profile)
-
--- s has a lawful header of version 2, as RFC 3550 has it, in front, with r's fixed fields; but its extension leaves RFC 8285
-pub record Deviating (s : List ℕ) (r : Reading) : Type 0 where
-  pub fixed : Fixed
-  pub extension : Extension
-  pub lawful : rtp.Lawful (record { fixed = fixed; extension = some extension })
-  pub version : fixed .version ≡ 2
-  pub payload : List ℕ
-  pub same : rtp.octets (record { fixed = fixed; extension = some extension }) ++ payload ≡ s
-  pub elements : List Element
-  pub pads : ℕ
-  pub said : r .fields ≡ fieldsWith fixed true (extension .profile) elements pads
-  pub why : Departs extension
-
--- whatever is accepted with version 2 is well-formed with those fields, or strays
-abbrev pub Sound : (List ℕ → Said Reading) → Type 0
-Sound read = (s : List ℕ) (r : Reading) → Octets s → read s ≡ says r → r .fields .version ≡ 2 → Conforming s r ⊎ Deviating s r

@@ -1,12 +1,11 @@
 -- The calls write: where the header's call writes, the packet's does, and what `marshal_to` left in front of the buffer is what was written; so what is
 -- shown of the octets is shown of the calls. Assumes nothing.
-use mathlib.Core.Path.{_≡_, refl, sym, ap, _∙_}
+use mathlib.Core.Path.{_≡_, sym, ap, _∙_}
 use mathlib.Core.Bool.{true}
 use mathlib.Core.List.{List, []}
 use Prim.Native.Nat.{ℕ, _+_, _≤_}
 use native.Mathlib.Omega.{arith}
-use lib.ListN.{length, take, drop}
-use lib.Seq.{take-at}
+use lib.ListN.{length, take}
 use borrow.Author.Tests.{le-leb}
 use Rattle.error.specs.Refusal.{Refusal}
 use Rattle.error.specs.Said.{Said, says, refused}
@@ -15,16 +14,16 @@ use Rattle.wire.proofs.Part.{length-part}
 use Rattle.header.specs.declared.Header.{Header}
 use Rattle.header_write.specs.declared.Length.{Length}
 use Rattle.header_write.specs.declared.Length.the-variants as len
-use Rattle.header.specs.Fields.{Fields, fieldsOf, layOut, inDomain}
+use Rattle.header.specs.Fields.{Fields, fieldsOf, layOut}
 use Rattle.header.specs.Read.{readHeader}
 use Rattle.header.specs.Write.{octetsOf, inWritingDomain, writeHeader}
-use Rattle.header_write.specs.Said.{saidLength}
-use Rattle.header.specs.Said.{Written, heardWritten, written}
+use Rattle.header.specs.Said.{heardWritten, written}
 use Rattle.header.proofs.Sizes.{never}
 use Rattle.rfc3550.specs.Rfc3550.{Octets}
 use Rattle.rfc3550.specs.Packet.{Packet, LawfulPacket, packetOctets}
 use Rattle.header_rfc.specs.Says.{elementsSaid, fieldsSaid, Within, Plain, AppBits}
-use Rattle.header_rfc.specs.RoundTrip.{InRange, ReadsBack, Trailing}
+use Rattle.header_rfc.specs.RoundTrip.{AsTyped, ReadsBack, Trailing}
+use Rattle.header_rfc.proofs.Ranges.{only-in-range}
 use Rattle.header_rfc.proofs.Sound.{fits-accepted}
 use Rattle.header_rfc.proofs.Yields.{YieldedAs, as-yielded}
 use Rattle.header_rfc.proofs.Writers as header
@@ -48,22 +47,20 @@ module _ (h : Header) (payload : List ℕ) (room : ℕ) (short : length payload 
   as-header e = header-says h payload room d (le-leb (length payload) 65535 short) fits (octetsOf (fieldsOf h)) e .1
 
 pub writes : Writes writePacket
-writes h payload d w r short room fits =
-    let allowed : inWritingDomain h ≡ true = header.kept-in-domain h d w r in
-    as-header h payload room short fits allowed
-    (header.writes h d w r room (header-fits h payload room allowed (le-leb (length payload) 65535 short) fits))
+writes h payload d r short room fits =
+    as-header h payload room short fits d (header.writes h d r room (header-fits h payload room d (le-leb (length payload) 65535 short) fits))
 
-pub written-as : (h : Header) (payload : List ℕ) → inDomain h ≡ true → InRange (fieldsOf h) → ReadsBack (fieldsOf h) →
+pub written-as : (h : Header) (payload : List ℕ) → AsTyped h → inWritingDomain h ≡ true → ReadsBack (fieldsOf h) →
     (AppBits (fieldsOf h .profile) → ⊥) → length payload ≤ 65535 → (room : ℕ) → packetSize (fieldsOf h) payload ≤ room →
     WrittenAs (fieldsOf h) payload (writePacket h payload room)
-written-as h payload d w r bits short room fits =
-    writer (fieldsOf h) payload w r bits (writePacket h payload room) (writes h payload d w r short room fits)
+written-as h payload t d r bits short room fits =
+    writer (fieldsOf h) payload (only-in-range h t d) r bits (writePacket h payload room) (writes h payload d r short room fits)
 
 -- "A whole packet reads back so too"
-pub round-trip : (h : Header) (payload : List ℕ) → inDomain h ≡ true → InRange (fieldsOf h) → ReadsBack (fieldsOf h) → length payload ≤ 65535 →
+pub round-trip : (h : Header) (payload : List ℕ) → AsTyped h → inWritingDomain h ≡ true → ReadsBack (fieldsOf h) → length payload ≤ 65535 →
     (room : ℕ) → packetSize (fieldsOf h) payload ≤ room → WrittenAndRead (fieldsOf h) payload (writePacket h payload room)
-round-trip h payload d w r short room fits =
-    back (fieldsOf h) payload w (header.kept-both (fieldsOf h) r) (writePacket h payload room) (writes h payload d w r short room fits)
+round-trip h payload t d r short room fits =
+    back (fieldsOf h) payload (only-in-range h t d) (header.kept-taken (fieldsOf h) r) (writePacket h payload room) (writes h payload d r short room fits)
 
 -- ---- a record that was read
 
@@ -96,39 +93,30 @@ pub same-octets : (p : Packet) → LawfulPacket p → Plain (p .header .content)
     Within (elementsSaid (p .header .content)) → length (p .payload) ≤ 65535 → (room : ℕ) → packetSize (fieldsSaid (p .header)) (p .payload) ≤ room →
     writePacket (layOut (fieldsSaid (p .header))) (p .payload) room ≡ says (packetOctets p)
 same-octets p l plain t fill w short room fits =
-    layOut-written (fieldsSaid (p .header)) (p .payload) (header.plan-yielded (p .header) (l .header) plain t w) short room fits
+    layOut-written (fieldsSaid (p .header)) (p .payload) (header.plan-yielded (p .header) (l .header) plain w) short room fits
     ∙ ap says (written-again p l plain t fill)
 
 -- ---- the code
 
-bytes-said : (a : Length) (n : ℕ) → saidLength a ≡ says n → a ≡ len.Bytes n
-bytes-said (len.Bytes m) n e = let same : m ≡ n = cc in ap (λ (k : ℕ). len.Bytes k) same
-bytes-said (len.Refused k) n e = absurd (never (sym e))
+pub code-writes : (h : Header) (payload buf exit : List ℕ) (a : Length) → heardWritten a exit ≡ written buf (writePacket h payload (length buf)) →
+    inWritingDomain h ≡ true → ReadsBack (fieldsOf h) → length payload ≤ 65535 → packetSize (fieldsOf h) payload ≤ length buf →
+    (a ≡ len.Bytes (length (paper.packetOctets (fieldsOf h) payload))) × (exit ≡ splice buf 0 (paper.packetOctets (fieldsOf h) payload))
+code-writes h payload buf exit a contract d r short fits =
+    header.left-by a buf exit (paper.packetOctets (fieldsOf h) payload) (contract ∙ ap (written buf) (writes h payload d r short (length buf) fits))
 
--- octets that were written are counted in the answer, and stand in front of the buffer
-left-by : (a : Length) (buf exit s : List ℕ) → heardWritten a exit ≡ written buf (says s) → (a ≡ len.Bytes (length s)) × (exit ≡ splice buf 0 s)
-left-by a buf exit s e = (bytes-said a (length s) (ap (λ (x : Written). x .answer) e), ap (λ (x : Written). x .buffer) e)
-
-module _ (h : Header) (payload buf exit : List ℕ) (a : Length) (contract : heardWritten a exit ≡ written buf (writePacket h payload (length buf)))
-    (d : inDomain h ≡ true) (w : InRange (fieldsOf h)) (r : ReadsBack (fieldsOf h)) (short : length payload ≤ 65535)
-    (fits : packetSize (fieldsOf h) payload ≤ length buf) where
-  pub code-writes : (a ≡ len.Bytes (length (paper.packetOctets (fieldsOf h) payload))) × (exit ≡ splice buf 0 (paper.packetOctets (fieldsOf h) payload))
-  code-writes =
-      left-by a buf exit (paper.packetOctets (fieldsOf h) payload) (contract ∙ ap (written buf) (writes h payload d w r short (length buf) fits))
-
-  pub code-round-trip : CodeWrittenAndRead h payload exit a
-  unfolding splice
-  code-round-trip =
-      let whole : WrittenAndRead (fieldsOf h) payload (writePacket h payload (length buf)) = round-trip h payload d w r short (length buf) fits in
-      let octets : List ℕ = whole .octets in
-      let left : (a ≡ len.Bytes (length octets)) × (exit ≡ splice buf 0 octets) = left-by a buf exit octets (contract ∙ ap (written buf) (whole .written)) in
-      let front : take (length octets) exit ≡ octets =
-      ap (take (length octets)) (left .1) ∙ take-at octets (drop (0 + length octets) buf) (length octets) refl in
-      record {
-        count = length octets;
-        answer = left .0;
-        back = λ few u read. read ∙ ap (λ (s : List ℕ). readingHeard (readPacket s)) front ∙ ap readingHeard (whole .back few);
-      }
+pub code-round-trip : (h : Header) → AsTyped h → (payload buf exit : List ℕ) (a : Length) →
+    heardWritten a exit ≡ written buf (writePacket h payload (length buf)) → inWritingDomain h ≡ true → ReadsBack (fieldsOf h) →
+    length payload ≤ 65535 → packetSize (fieldsOf h) payload ≤ length buf → CodeWrittenAndRead h payload exit a
+code-round-trip h t payload buf exit a contract d r short fits =
+    let whole : WrittenAndRead (fieldsOf h) payload (writePacket h payload (length buf)) = round-trip h payload t d r short (length buf) fits in
+    let octets : List ℕ = whole .octets in
+    let left : (a ≡ len.Bytes (length octets)) × (exit ≡ splice buf 0 octets) = header.left-by a buf exit octets (contract ∙ ap (written buf) (whole .written)) in
+    let front : take (length octets) exit ≡ octets = header.front-left buf exit octets (left .1) in
+    record {
+      count = length octets;
+      answer = left .0;
+      back = λ few u read. read ∙ ap (λ (s : List ℕ). readingHeard (readPacket s)) front ∙ ap readingHeard (whole .back few);
+    }
 
 -- ---- writers that are shut out
 
@@ -138,4 +126,4 @@ pub no-refusing-writer : (write : Header → List ℕ → ℕ → Said (List ℕ
 no-refusing-writer write why refuses w =
     let x : header.WithExtension = header.one-element in
     let room : ℕ = packetSize (fieldsOf (x .header)) [] in
-    never (sym (w (x .header) [] (x .domain) (x .range) (x .kept) (omega arith) room (omega arith)) ∙ refuses (x .header) [] room (x .on))
+    never (sym (w (x .header) [] (x .domain) (x .kept) (omega arith) room (omega arith)) ∙ refuses (x .header) [] room (x .on))

@@ -4,25 +4,25 @@ use mathlib.Core.Path.{_≡_, refl, sym, ap, _∙_, subst}
 use mathlib.Core.Bool.{Bool, true, false}
 use mathlib.Core.List.{List, [], _∷_, _++_}
 use mathlib.Core.Option.{Option, none, some}
-use Prim.Native.Nat.{ℕ, _+_, _<_, _≤_}
+use Prim.Native.Nat.{ℕ, _+_, _≤_}
 use native.Mathlib.Omega.{arith}
 use lib.ListN.{length, take, length-append}
 use lib.Seq.{take-at, take-length, drop-at}
 use Rattle.error.specs.Said.{says, refuse}
 use Rattle.elements.specs.Elements.{Element}
 use Rattle.header.specs.declared.Header.{Header}
-use Rattle.header.specs.Fields.{fieldsOf, inDomain}
-use Rattle.header.specs.Write.{octetsOf}
-use Rattle.rfc3550.specs.Rfc3550.{Fixed, LawfulFixed, LawfulExtension, present}
+use Rattle.header.specs.Fields.{fieldsOf}
+use Rattle.header.specs.Write.{octetsOf, inWritingDomain}
+use Rattle.rfc3550.specs.Rfc3550.{Fixed, present}
 use Rattle.rfc3550.specs.Rfc3550 as rtp
-use Rattle.rfc3550.specs.Rfc8285.{one-byte, Item, AllLawful, reserved, extensionWith, Plan, Lawful, octets}
-use Rattle.rfc3550.specs.Packet.{Padding, LawfulPadding, paddingOctets, Packet, LawfulPacket, LawfulEnd, endOctets, packetOctets, lastOctet, Short}
+use Rattle.rfc3550.specs.Rfc8285.{profileOf, Plan, Lawful, octets}
+use Rattle.rfc3550.specs.Packet.{Padding, LawfulPadding, paddingOctets, Packet, LawfulPacket, LawfulEnd, endOctets, packetOctets, Padded, lastOctet, Short}
 use Rattle.rfc3550.proofs.Blocks.{unambiguous-elements}
 use Rattle.rfc3550.proofs.Packets.{count-last, length-padding, padded-counted}
 use Rattle.header_rfc.specs.Says.{elementsAmong, padsAmong, elementsSaid, wholeElement, fieldsSaid, fieldsWith, Within, Plain, AppBits, Fits}
-use Rattle.header_rfc.specs.Taken.{strayed, ReadAs}
-use Rattle.header_rfc.specs.RoundTrip.{InRange, ReadsBack}
-use Rattle.header_rfc.proofs.Fixed.{extended}
+use Rattle.header_rfc.specs.Taken.{fifteen, headerWith, Taken, LawfulTaken, packetTaken}
+use Rattle.header_rfc.specs.Accepted.{ReadAs}
+use Rattle.header_rfc.specs.RoundTrip.{ReadsBack}
 use Rattle.header_rfc.proofs.Complete as header
 use Rattle.header_rfc.proofs.Deviations as header-strays
 use Rattle.packet.specs.Read.{readPacket}
@@ -73,11 +73,11 @@ only-padding p q l k plain bit fits w = (
 )
 
 -- and an empty payload with the padding bit is written so
-pub empty-written : (h : Header) → inDomain h ≡ true → InRange (fieldsOf h) → ReadsBack (fieldsOf h) → h .padding ≡ true → (room : ℕ) →
+pub empty-written : (h : Header) → inWritingDomain h ≡ true → ReadsBack (fieldsOf h) → h .padding ≡ true → (room : ℕ) →
     written.packetSize (fieldsOf h) [] ≤ room → written.writePacket h [] room ≡ says (octetsOf (fieldsOf h) ++ (0 ∷ 0 ∷ 0 ∷ 4 ∷ []))
 unfolding fieldsOf written.packetOctets written.payloadOctets
-empty-written h d w r bit room fits =
-    writes h [] d w r (omega arith) room fits
+empty-written h d r bit room fits =
+    writes h [] d r (omega arith) room fits
     ∙ ap (λ (b : Bool). says (octetsOf (fieldsOf h) ++ written.paddingOctets (written.paddingLength b 0))) bit
 
 -- ---- headers that stray: `ReadAs` is what the header's theorems say of each way, with the octets from the payload's place on
@@ -121,26 +121,24 @@ module _ (s : List ℕ) (f : Fixed) (profile : ℕ) (es : List Element) (pads : 
   stray-short rest on short r = read-short s rest (r .place) (r .rest) (fieldsWith f true profile es pads) (r .read) on short
 
 -- RFC 8285 4.2, id 15, and RFC 3550 5.1: the rest of the block is payload, and the padding may stand in it
-pub reserved-padded : (f : Fixed) (is : List Item) (len : ℕ) (rest payload body : List ℕ) (p : Padding) → rest ++ payload ≡ body ++ paddingOctets p →
-    f .padding ≡ true → AllLawful one-byte is → len < 16 → rtp.Lawful (strayed f one-byte is (reserved len rest)) →
-    Fits (rtp.octets (strayed f one-byte is (reserved len rest)) ++ payload) → Within (elementsAmong is) →
-    PacketReadAs (rtp.octets (strayed f one-byte is (reserved len rest)) ++ payload) f 0xBEDE (elementsAmong is) (padsAmong is) body
-reserved-padded f is len rest payload body p same on t h l fits w =
-    stray-padded (rtp.octets (strayed f one-byte is (reserved len rest)) ++ payload) f 0xBEDE (elementsAmong is) (padsAmong is) body p on
-    (subst (ReadAs (rtp.octets (strayed f one-byte is (reserved len rest)) ++ payload) f 0xBEDE (elementsAmong is) (padsAmong is)) same
-    (header-strays.reserved-read f is len rest payload t h l fits w))
+pub reserved-padded : (t : Taken) → LawfulTaken t → (len : ℕ) (rest after : List ℕ) → t .ending ≡ fifteen len rest → t .fixed .padding ≡ true →
+    Fits (packetTaken t after) → Within (elementsAmong (t .items)) → (p : Padded (rest ++ after)) →
+    PacketReadAs (packetTaken t after) (t .fixed) (profileOf (t .form)) (elementsAmong (t .items)) (padsAmong (t .items)) (p .payload)
+reserved-padded t l len rest after q on fits w p =
+    stray-padded (packetTaken t after) (t .fixed) (profileOf (t .form)) (elementsAmong (t .items)) (padsAmong (t .items)) (p .payload) (p .padding) on
+    (subst (ReadAs (packetTaken t after) (t .fixed) (profileOf (t .form)) (elementsAmong (t .items)) (padsAmong (t .items))) (sym (p .same))
+    (header-strays.reserved-read t l after fits len rest q w))
 
 -- RFC 8285 4.3, application bits not 0: the elements are told otherwise, and the payload is that of the packet
-pub appbits-packet : (f : Fixed) → LawfulFixed f → (profile : ℕ) → AppBits profile → (words payload : List ℕ) (e : Option Padding) →
-    f .padding ≡ present e → LawfulExtension (extensionWith profile words) →
-    Fits (rtp.octets (extended f (extensionWith profile words)) ++ (payload ++ endOctets e)) → Within (wholeElement words ∷ []) →
-    PacketReadAs (rtp.octets (extended f (extensionWith profile words)) ++ (payload ++ endOctets e)) f profile (wholeElement words ∷ []) 0 payload
+pub appbits-packet : (f : Fixed) (profile : ℕ) → AppBits profile → (words payload : List ℕ) (e : Option Padding) → f .padding ≡ present e →
+    rtp.Lawful (headerWith f profile words) → Fits (rtp.octets (headerWith f profile words) ++ (payload ++ endOctets e)) → Within (wholeElement words ∷ []) →
+    PacketReadAs (rtp.octets (headerWith f profile words) ++ (payload ++ endOctets e)) f profile (wholeElement words ∷ []) 0 payload
 unfolding fieldsWith
-appbits-packet f l profile a words payload e bit k fits w =
-    let front : List ℕ = rtp.octets (extended f (extensionWith profile words)) in
+appbits-packet f profile a words payload e bit l fits w =
+    let front : List ℕ = rtp.octets (headerWith f profile words) in
     record {
       place = length front;
       read = read-end front payload e (fieldsWith f true profile (wholeElement words ∷ []) 0) bit
-          (header-strays.appbits-read f l profile a words (payload ++ endOctets e) k fits w);
+          (header-strays.appbits-read f profile a words (payload ++ endOctets e) l fits w);
       bytes = part-end front payload (endOctets e);
     }

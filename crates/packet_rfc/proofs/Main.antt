@@ -22,18 +22,21 @@ use Rattle.wire.specs.Part.{splice}
 use Rattle.header.specs.declared.Header.{Header}
 use Rattle.header_write.specs.declared.Length.{Length}
 use Rattle.header_write.specs.declared.Length.the-variants as len
-use Rattle.header.specs.Fields.{Fields, fieldsOf, layOut, inDomain}
+use Rattle.header.specs.Fields.{Fields, fieldsOf, layOut}
+use Rattle.header.specs.Write.{inWritingDomain}
+use Rattle.header.specs.Read.{readHeader}
 use Rattle.header.specs.Said as answers
 use Rattle.rfc3550.specs.Rfc3550.{Octets}
-use Rattle.rfc3550.specs.Packet.{Packet, LawfulPacket, packetOctets, Padded, Uncounted, Short}
+use Rattle.rfc3550.specs.Packet.{Packet, LawfulPacket, packetOctets, IsRtpPacket, Padded, Uncounted, Short}
 use Rattle.rfc3550.proofs.Packets as packets
 use Rattle.header_rfc.specs.Says.{elementsSaid, fieldsSaid, Within, Plain, AppBits, Fits}
-use Rattle.header_rfc.specs.RoundTrip.{InRange, ReadsBack, Trailing}
+use Rattle.header_rfc.specs.RoundTrip.{AsTyped, ReadsBack, Trailing}
+use Rattle.packet.specs.declared.PacketRead.the-variants as read
 use Rattle.packet.specs.declared.Unmarshalled.{Unmarshalled}
 use Rattle.packet.specs.Read.{Payload, PacketReading, readPacket}
 use Rattle.packet.specs.Write as written
 use Rattle.packet.specs.Said.{heard, readingHeard}
-use Rattle.packet_rfc.specs.Says.{readingSaid, payloadIn, Complete, Sound, CutInPadding}
+use Rattle.packet_rfc.specs.Says.{readingSaid, payloadIn, Complete, Conforming, ZeroCount, Straying, Told, Sound, CodeTold, CutInPadding}
 use Rattle.packet_rfc.specs.RoundTrip.{Chosen, FillingEnd, WrittenAs, Writes, WrittenAndRead, CodeWrittenAndRead, ReadsAgain}
 use Rattle.packet_rfc.proofs.Complete as complete
 use Rattle.packet_rfc.proofs.Readers as readers
@@ -82,11 +85,39 @@ pub NO-KEEPER : (read : List ℕ → Said PacketReading) →
     ((s : List ℕ) (r : PacketReading) → read s ≡ says r → r .payload .place + r .payload .len ≡ length s) → Complete read → ⊥
 NO-KEEPER = readers.no-keeper
 
--- SOUND. Whatever is accepted with version 2 is a packet of the RFC with those fields and that payload; or it is a lawful header with the P bit before
--- octets of which the last is 0, and all those octets are the payload; or its header strays, as the header's SOUND says, with the place and the reason,
--- and the payload is measured by the same rule from wherever the reading of the header ended.
+-- SOUND. Whatever is accepted, of whatever version, is a well-formed packet and says what its plan says; or it is a lawful header with the P bit before
+-- octets of which the last is 0, and all those octets are the payload; or its header leaves RFC 8285, with fields, elements and count of padding as the
+-- header's SOUND tells them, and the payload is measured by the same rule in the octets that the header leaves to it ..
 pub SOUND : Sound readPacket
 SOUND = sound.sound
+
+-- .. and so is whatever `unmarshal` accepts under its contract ..
+pub CODE-SOUND : (u : Unmarshalled) (s : List ℕ) → Octets s → heard u ≡ readingHeard (readPacket s) → (place len : ℕ) → u .read ≡ read.Payload place len →
+    CodeTold s u place len
+CODE-SOUND = sound.code-sound
+
+-- .. one of the three alone ..
+pub WELL-FORMED-ALONE : (s : List ℕ) (r t : PacketReading) → Conforming s r → ZeroCount s t ⊎ Straying s t → ⊥
+WELL-FORMED-ALONE = sound.well-formed-alone
+
+pub ZERO-ALONE : (s : List ℕ) (r t : PacketReading) → ZeroCount s r → Straying s t → ⊥
+ZERO-ALONE = sound.zero-alone
+
+-- .. what is told so is determined by the octets alone ..
+pub TOLD-ONCE : (s : List ℕ) (r t : PacketReading) → Told s r → Told s t → r ≡ t
+TOLD-ONCE = sound.told-once
+
+-- .. and it is what is read, within the limits ..
+pub EXACT : (s : List ℕ) (r : PacketReading) → Fits s → Within (r .fields .elements) → Told s r → readPacket s ≡ says r
+EXACT = sound.exact
+
+-- .. where whatever is read stands.
+pub LIMITS : (s : List ℕ) (r : PacketReading) → Octets s → readPacket s ≡ says r → Fits s × Within (r .fields .elements)
+LIMITS = sound.limits
+
+-- A well-formed packet is a packet of the RFC exactly where its version is 2, which the reader leaves to its caller.
+pub VERSION-2 : (s : List ℕ) (r : PacketReading) → Conforming s r → (r .fields .version ≡ 2 → IsRtpPacket s) × (IsRtpPacket s → r .fields .version ≡ 2)
+VERSION-2 = sound.of-version-2
 
 -- 4 is given where a header with the P bit was read, and behind it are no octets, or fewer than the last of them counts ..
 pub SHORT : (s : List ℕ) → CutInPadding s → readPacket s ≡ refuse 4
@@ -99,6 +130,13 @@ ONLY-SHORT = refusals.only-short
 -- .. so that no packet of the RFC gets it, within the limits or not.
 pub NEVER-SHORT : (p : Packet) → LawfulPacket p → readPacket (packetOctets p) ≡ refuse 4 → ⊥
 NEVER-SHORT = refusals.never-short
+
+-- Every other number is the header's, so that 1, 2, 3 and 7 are given where the header's theorems say, and nowhere else.
+pub HEADER-REFUSED : (s : List ℕ) (w : Refusal) → readHeader s ≡ refused w → readPacket s ≡ refused w
+HEADER-REFUSED = refusals.header-refused
+
+pub ONLY-HEADER-REFUSED : (s : List ℕ) (n : ℕ) → (n ≡ 4 → ⊥) → readPacket s ≡ refuse n → readHeader s ≡ refuse n
+ONLY-HEADER-REFUSED = refusals.only-header-refused
 
 -- ---- the octets alone, without reader and writer
 
@@ -122,7 +160,7 @@ UNCOUNTED-ROOM = packets.uncounted-room
 
 -- ---- writing
 
--- WRITES. Every record in the domain that meets the paper's conditions for the round trip is written with any payload of the domain, wherever there is
+-- WRITES. Every record in the writing domain that meets the paper's conditions for the round trip is written with any payload of the domain, wherever there is
 -- room for both and the padding, and as the octets that the paper has for them.
 pub WRITES : Writes written.writePacket
 WRITES = calls.writes
@@ -134,7 +172,7 @@ NO-REFUSING-WRITER = calls.no-refusing-writer
 
 -- WRITER. What is written so is the octets of a lawful packet, which says the record and has the payload. (A profile 0x1001 to 0x100F is RFC 8285's
 -- two-byte form; the crate writes any words there.)
-pub WRITER : (h : Header) (payload : List ℕ) → inDomain h ≡ true → InRange (fieldsOf h) → ReadsBack (fieldsOf h) → (AppBits (fieldsOf h .profile) → ⊥) →
+pub WRITER : (h : Header) (payload : List ℕ) → AsTyped h → inWritingDomain h ≡ true → ReadsBack (fieldsOf h) → (AppBits (fieldsOf h .profile) → ⊥) →
     length payload ≤ 65535 → (room : ℕ) → written.packetSize (fieldsOf h) payload ≤ room → WrittenAs (fieldsOf h) payload (written.writePacket h payload room)
 WRITER = calls.written-as
 
@@ -144,21 +182,21 @@ WRITER-PADDING = round-trip.padding-chosen
 
 -- ROUND TRIP. The call writes, and "A whole packet reads back so too, where at most 65,535 bytes were written": the fields as in the header's round trip,
 -- the payload at its place with its length, and the bytes there.
-pub ROUND-TRIP : (h : Header) (payload : List ℕ) → inDomain h ≡ true → InRange (fieldsOf h) → ReadsBack (fieldsOf h) → length payload ≤ 65535 →
+pub ROUND-TRIP : (h : Header) (payload : List ℕ) → AsTyped h → inWritingDomain h ≡ true → ReadsBack (fieldsOf h) → length payload ≤ 65535 →
     (room : ℕ) → written.packetSize (fieldsOf h) payload ≤ room → WrittenAndRead (fieldsOf h) payload (written.writePacket h payload room)
 ROUND-TRIP = calls.round-trip
 
 -- The same of the code: under these conditions `marshal_to` answers how many bytes it wrote, whatever the buffer held ..
 pub CODE-WRITES : (h : Header) (payload buf exit : List ℕ) (a : Length) →
     answers.heardWritten a exit ≡ answers.written buf (written.writePacket h payload (length buf)) →
-    inDomain h ≡ true → InRange (fieldsOf h) → ReadsBack (fieldsOf h) → length payload ≤ 65535 → written.packetSize (fieldsOf h) payload ≤ length buf →
+    inWritingDomain h ≡ true → ReadsBack (fieldsOf h) → length payload ≤ 65535 → written.packetSize (fieldsOf h) payload ≤ length buf →
     (a ≡ len.Bytes (length (written.packetOctets (fieldsOf h) payload))) × (exit ≡ splice buf 0 (written.packetOctets (fieldsOf h) payload))
 CODE-WRITES = calls.code-writes
 
 -- .. and whatever `unmarshal` answers of these bytes is what reads back.
-pub CODE-ROUND-TRIP : (h : Header) (payload buf exit : List ℕ) (a : Length) →
+pub CODE-ROUND-TRIP : (h : Header) → AsTyped h → (payload buf exit : List ℕ) (a : Length) →
     answers.heardWritten a exit ≡ answers.written buf (written.writePacket h payload (length buf)) →
-    inDomain h ≡ true → InRange (fieldsOf h) → ReadsBack (fieldsOf h) → length payload ≤ 65535 → written.packetSize (fieldsOf h) payload ≤ length buf →
+    inWritingDomain h ≡ true → ReadsBack (fieldsOf h) → length payload ≤ 65535 → written.packetSize (fieldsOf h) payload ≤ length buf →
     CodeWrittenAndRead h payload exit a
 CODE-ROUND-TRIP = calls.code-round-trip
 
@@ -180,7 +218,7 @@ SAME-OCTETS = calls.same-octets
 -- RFC 3550 5.1, a padding count of 0              nothing is stripped: Deviations.zero-kept; no packet of the RFC: .zero-no-packet
 -- RFC 3550 5.1, padding of 1 to 255 octets        read whatever they are: COMPLETE; written 1 to 4, zeros and the count: WRITER-PADDING
 -- RFC 3550 A.1, a count that leaves no payload    taken, the payload is empty: Deviations.only-padding; written for an empty payload: .empty-written
--- RFC 3550 5.3.1, a header that strays            what is left of the packet behind what was read of it is judged by the same rule:
+-- RFC 3550 5.3.1, a header that strays            the octets that it leaves to the payload are judged by the same rule: EXACT and SHORT; by parts
 --                                                 Deviations.stray-plain, .stray-padded, .stray-zero, .stray-short
 -- RFC 8285 4.2, id 15, with the P bit             the padding may stand in the rest of the block: Deviations.reserved-padded
 -- RFC 8285 4.3, application bits not 0            the payload is that of the packet: Deviations.appbits-packet

@@ -1,52 +1,91 @@
 -- 4 is given exactly where a header with the P bit was read, and behind it are no octets, or fewer than the last of them counts: no header is
--- refused by 4, and any other octets behind one are accepted. Assumes nothing.
+-- refused by 4, and any other octets behind one are accepted. Every other number is the header's. Assumes nothing.
 use mathlib.Core.Path.{_≡_, refl, sym, ap, _∙_, subst}
 use mathlib.Core.Bool.{Bool, true, false, cond}
 use mathlib.Core.List.{List, [], _∷_, _++_}
-use mathlib.Core.Logic.{_⊎_, inl, inr}
 use mathlib.Core.Option.{Option, none, some}
-use Prim.Native.Nat.{ℕ, _+_, _-_, _*_, _/_}
+use Prim.Native.Nat.{ℕ, zero, suc, _+_, _-_, _*_, _/_}
 use native.Mathlib.Nat.{lt-of-not-le}
 use native.Mathlib.Decide.{decLe, ℕ-discrete}
 use native.Mathlib.Omega.{arith}
-use lib.Dec.{ltb}
-use lib.ListN.{length, drop, getD}
+use lib.Dec.{ltb, eqb}
+use lib.ListN.{length, take, drop, getD}
 use lib.Seq.{drop-at}
+use Rattle.error.specs.Refusal.{Refusal}
 use Rattle.error.specs.Said.{Said, says, refused, refuse}
 use Rattle.wire.specs.Net.{u16At}
-use Rattle.block_read.specs.Read.{Block, blockAt, readBlock}
+use Rattle.wire.specs.Turns.{Turn, more, done, after, run}
+use Rattle.elements.specs.Elements.{Element, roomFor}
+use Rattle.block_read.specs.Read.{Block, blockAt, itemsBy, taken, turn, readBlock, wholeBlock}
+use Rattle.block_read.specs.Read as paper
 use Rattle.block.specs.Form.{formOf}
-use Rattle.block.proofs.Form.{form-other}
+use Rattle.block.specs.Form as forms
 use Rattle.header.specs.Read.{Reading, bit, countOf, fixedLength, readingOf, readExtension, readFixed, readHeader}
 use Rattle.rfc3550.specs.Rfc3550.{Fixed, present}
-use Rattle.rfc3550.specs.Rfc8285.{one-byte, two-byte, Item, blockOctets, Content, laid, other, Plan, Lawful, octets}
+use Rattle.rfc3550.specs.Rfc8285.{one-byte, two-byte, blockOctets, Content, laid, other, Plan, Lawful, octets}
 use Rattle.rfc3550.specs.Packet.{Padding, Packet, LawfulPacket, LawfulEnd, endOctets, packetOctets, lastOctet, Short, nothing-there, over-counted}
 use Rattle.rfc3550.proofs.Packets.{padded-room}
-use Rattle.header_rfc.specs.Says.{elementsSaid, wholeElement, fieldsWith, Within, Over, Plain, AppBits}
+use Rattle.header_rfc.specs.Says.{fieldsWith, Plain}
 use Rattle.header_rfc.specs.Says as header
-use Rattle.header_rfc.proofs.Fixed as header-fixed
-use Rattle.header_rfc.proofs.Complete as header-read
-use Rattle.header_rfc.proofs.Deviations.{appbits-read}
-use Rattle.header_rfc.proofs.Refusals.{numberIn, Block37, in-block}
-use Rattle.header_rfc.proofs.Sound.{not-refused, same-answer, fits-accepted, within-or-over}
-use Rattle.packet.specs.Read.{behind, readPacket}
+use Rattle.header_rfc.proofs.Refusals.{numberIn}
+use Rattle.header_rfc.proofs.Plans.{Way, words-way, plan-way}
+use Rattle.header_rfc.proofs.Sound.{not-refused, way-read}
+use Rattle.packet.specs.Read.{PacketReading, behind, readPacket}
 use Rattle.packet_rfc.specs.Says.{CutInPadding}
 use Rattle.packet_rfc.proofs.Behind.{readingAt, read-all, read-counted, read-short}
 
 -- ---- no header is refused by 4
 
-abbrev NotFour : Said Reading → Type 0
+abbrev NotFour : {A : Type 0} → Said A → Type 0
 NotFour x = numberIn x ≡ 4 → ⊥
 
-either : (t : Bool) (x y : Said Reading) → NotFour x → NotFour y → NotFour (cond t x y)
+either : {A : Type 0} (t : Bool) (x y : Said A) → NotFour x → NotFour y → NotFour (cond t x y)
 either true x y a b = a
 either false x y a b = b
 
-block-not-four : (s : List ℕ) (cc profile : ℕ) (b : Said Block) → Block37 b → NotFour (readingOf s cc profile b)
-block-not-four s cc profile (says b) k e = omega arith
-block-not-four s cc profile (refused r) (inl z) e = omega arith
-block-not-four s cc profile (refused r) (inr (inl z)) e = omega arith
-block-not-four s cc profile (refused r) (inr (inr z)) e = omega arith
+-- a turn that ends a block does not end it so
+abbrev EndsElse : Turn Block (Said Block) → Type 0
+EndsElse (more b) = Unit
+EndsElse (done x) = NotFour x
+
+turn-ends : (item : List ℕ → paper.Item) (b : Block) → EndsElse (turn item b)
+unfolding turn taken
+turn-ends item b = test (eqb (b .left) 0) (item (b .rest))
+  where
+    room : (t : Bool) (c : Block) → EndsElse (cond t (more c) (done (refuse 7)))
+    room true c = tt
+    room false c = λ e. omega arith
+
+    goes : (i : paper.Item) → EndsElse (taken b i)
+    goes paper.pad = tt
+    goes paper.stop = λ e. omega arith
+    goes paper.past = λ e. omega arith
+    goes (paper.element head id n) = room (roomFor (b .elements) n) (paper.with-element (record { id = id; bytes = take n (drop head (b .rest)) }) (paper.skip (head + n) b))
+
+    test : (t : Bool) (i : paper.Item) → EndsElse (cond t (done (says b)) (taken b i))
+    test true i = λ e. omega arith
+    test false i = goes i
+
+items-not-four : (item : List ℕ → paper.Item) (fuel : ℕ) (b : Block) → NotFour (run (turn item) (refuse 3) fuel b)
+unfolding run
+items-not-four item zero b = λ e. omega arith
+items-not-four item (suc fuel) b = go (turn item b) (turn-ends item b) (λ c. items-not-four item fuel c)
+  where
+    go : (t : Turn Block (Said Block)) → EndsElse t → ((c : Block) → NotFour (run (turn item) (refuse 3) fuel c)) → NotFour (after t (run (turn item) (refuse 3) fuel))
+    go (more c) h next = next c
+    go (done x) h next = h
+
+block-not-four : (form : forms.Form) (b : Block) → NotFour (readBlock form b)
+unfolding wholeBlock
+block-not-four forms.one-byte b = items-not-four (itemsBy false) (b .left + 1) b
+block-not-four forms.two-byte b = items-not-four (itemsBy true) (b .left + 1) b
+block-not-four forms.other b =
+    either (roomFor (b .elements) (b .left))
+    (says (paper.with-element (record { id = 0; bytes = take (b .left) (b .rest) }) (paper.skip (b .left) b))) (refuse 7) (λ e. omega arith) (λ e. omega arith)
+
+reading-not-four : (s : List ℕ) (cc profile : ℕ) (b : Said Block) → NotFour b → NotFour (readingOf s cc profile b)
+reading-not-four s cc profile (says b) k e = omega arith
+reading-not-four s cc profile (refused r) k e = k e
 
 extension-not-four : (s : List ℕ) (cc at : ℕ) → NotFour (readExtension s cc at)
 unfolding readExtension
@@ -57,7 +96,7 @@ extension-not-four s cc at =
     let inside : Said Reading = cond (ltb (length s) end) (refuse 2) (readingOf s cc profile block) in
     either (ltb (length s) (at + 4)) (refuse 2) inside (λ e. omega arith)
     (either (ltb (length s) end) (refuse 2) (readingOf s cc profile block) (λ e. omega arith)
-    (block-not-four s cc profile block (in-block (formOf profile) (blockAt s (at + 4) (4 * u16At s (at + 2))))))
+    (reading-not-four s cc profile block (block-not-four (formOf profile) (blockAt s (at + 4) (4 * u16At s (at + 2))))))
 
 fixed-not-four : (s : List ℕ) (cc : ℕ) → NotFour (readFixed s cc)
 unfolding readFixed
@@ -66,7 +105,7 @@ fixed-not-four s cc =
     let plain : Said Reading = readingOf s cc 0 (says (blockAt s at 0)) in
     either (ltb (length s) at) (refuse 1) (cond (bit (getD s 0 0 / 16)) (readExtension s cc at) plain) (λ e. omega arith)
     (either (bit (getD s 0 0 / 16)) (readExtension s cc at) plain (extension-not-four s cc at)
-    (block-not-four s cc 0 (says (blockAt s at 0)) (inl refl)))
+    (reading-not-four s cc 0 (says (blockAt s at 0)) (λ e. omega arith)))
 
 header-not-four : (s : List ℕ) → NotFour (readHeader s)
 unfolding readHeader
@@ -80,34 +119,64 @@ pub short : (s : List ℕ) → CutInPadding s → readPacket s ≡ refuse 4
 short s c =
     read-short s (drop (c .reading .place) s) (c .reading .place) refl (c .reading .fields) (c .read) (c .bit) (c .short)
 
+-- where a header was read, the packet is read or gets 4
+data Behind (s : List ℕ) : Type 0 where
+  is-short : CutInPadding s → Behind s
+  is-read : (r : PacketReading) → readPacket s ≡ says r → Behind s
+
+behind-header : (s : List ℕ) (h : Reading) → readHeader s ≡ says h → Behind s
+behind-header s h is = by-bit (h .fields .padding) refl
+  where
+    rest : List ℕ
+    rest = drop (h .place) s
+
+    by-bit : (b : Bool) → h .fields .padding ≡ b → Behind s
+    by-bit false off = is-read (readingAt (h .fields) (h .place) (length rest)) (read-all s rest (h .place) refl (h .fields) is off)
+    by-bit true on =
+        elim (ℕ-discrete (length rest) 0) [
+          | yes z ↦ is-short (record { reading = h; read = is; bit = on; short = nothing-there z })
+          | no z ↦
+              elim (decLe (lastOctet rest) (length rest)) [
+                | yes fits ↦
+                    is-read (readingAt (h .fields) (h .place) (length rest - lastOctet rest))
+                    (read-counted s rest (h .place) refl (h .fields) is on (omega arith) fits)
+                | no over ↦ is-short (record { reading = h; read = is; bit = on; short = over-counted (lt-of-not-le over) })
+              ]
+        ]
+
 pub only-short : (s : List ℕ) → readPacket s ≡ refuse 4 → CutInPadding s
 unfolding readPacket
 only-short s e = go (readHeader s) refl
   where
-    by-bit : (h : Reading) → readHeader s ≡ says h → (b : Bool) → h .fields .padding ≡ b → CutInPadding s
-    by-bit h is false off =
-        absurd
-        (not-refused (readPacket s) 4 (readingAt (h .fields) (h .place) (length (drop (h .place) s))) e
-        (read-all s (drop (h .place) s) (h .place) refl (h .fields) is off))
-    by-bit h is true on =
-        let rest : List ℕ = drop (h .place) s in
-        elim (ℕ-discrete (length rest) 0) [
-          | yes z ↦ record { reading = h; read = is; bit = on; short = nothing-there z }
-          | no z ↦
-              elim (decLe (lastOctet rest) (length rest)) [
-                | yes fits ↦
-                    absurd
-                    (not-refused (readPacket s) 4 (readingAt (h .fields) (h .place) (length rest - lastOctet rest)) e
-                    (read-counted s rest (h .place) refl (h .fields) is on (omega arith) fits))
-                | no over ↦ record { reading = h; read = is; bit = on; short = over-counted (lt-of-not-le over) }
-              ]
-        ]
+    told : Behind s → CutInPadding s
+    told (is-short c) = c
+    told (is-read r q) = absurd (not-refused (readPacket s) 4 r e q)
 
     go : (x : Said Reading) → readHeader s ≡ x → CutInPadding s
-    go (says h) is = by-bit h is (h .fields .padding) refl
+    go (says h) is = told (behind-header s h is)
     go (refused w) is =
         let number : w .number ≡ 4 = ap numberIn (sym (ap (behind s) is) ∙ e) in
         absurd (header-not-four s (ap numberIn is ∙ number))
+
+-- ---- every other number is the header's
+
+pub header-refused : (s : List ℕ) (w : Refusal) → readHeader s ≡ refused w → readPacket s ≡ refused w
+unfolding readPacket
+header-refused s w e = ap (behind s) e
+
+pub only-header-refused : (s : List ℕ) (n : ℕ) → (n ≡ 4 → ⊥) → readPacket s ≡ refuse n → readHeader s ≡ refuse n
+only-header-refused s n h e = go (readHeader s) refl
+  where
+    told : Behind s → ⊥
+    told (is-short c) = h (ap numberIn (sym e ∙ short s c))
+    told (is-read r q) = not-refused (readPacket s) n r e q
+
+    go : (x : Said Reading) → readHeader s ≡ x → readHeader s ≡ refuse n
+    go (says r) is = absurd (told (behind-header s r is))
+    go (refused w) is =
+        let same : _≡_ {A = Said PacketReading} (refused w) (refuse n) = sym (header-refused s w is) ∙ e in
+        let why : w ≡ record { number = n; carried = [] } = cc in
+        is ∙ ap refused why
 
 -- ---- no packet of the RFC is refused by 4, whatever its version, its elements and its length
 
@@ -116,56 +185,22 @@ module _ (f : Fixed) (body : List ℕ) (r : Reading) where
   abbrev Told : Option Content → Type 0
   Told c = (r .place ≡ length (octets (record { fixed = f; content = c }))) × (r .fields .padding ≡ f .padding)
 
-  plain-told : (c : Option Content) → Lawful (record { fixed = f; content = c }) → Plain c →
+  -- the way that its octets go tells it
+  by-way : (c : Option Content) (x : Bool) (profile : ℕ) (es : List Element) (pads : ℕ) →
+      Way (octets (record { fixed = f; content = c }) ++ body) (header.readingAt f x profile es pads (length (octets (record { fixed = f; content = c })))) →
       readHeader (octets (record { fixed = f; content = c }) ++ body) ≡ says r → Told c
   unfolding fieldsWith
-  plain-told c l plain e = go (within-or-over (elementsSaid c))
-    where
-      p : Plan
-      p = record { fixed = f; content = c }
+  by-way c x profile es pads w e =
+      let p : Plan = record { fixed = f; content = c } in
+      let said : r ≡ header.readingAt f x profile es pads (length (octets p)) =
+      way-read (octets p ++ body) (w .course) (header.readingAt f x profile es pads (length (octets p))) r (w .said) e in
+      (ap (λ (t : Reading). t .place) said, ap (λ (t : Reading). t .fields .padding) said)
 
-      go : Within (elementsSaid c) ⊎ Over (elementsSaid c) → Told c
-      go (inl w) =
-          let said : r ≡ header.readingSaid p =
-          same-answer (readHeader (octets p ++ body)) r (header.readingSaid p) e
-          (header-read.complete .within p body l plain (fits-accepted (octets p ++ body) r e) w) in
-          (ap (λ (t : Reading). t .place) said, ap (λ (t : Reading). t .fields .padding) said)
-      go (inr o) =
-          absurd
-          (not-refused (readHeader (octets p ++ body)) 7 r
-          (header-read.complete .over p body l plain (fits-accepted (octets p ++ body) r e) o) e)
-
-  -- a profile 0x1001 to 0x100F
-  bits-told : (appbits : ℕ) (is : List Item) → (appbits ≡ 0 → ⊥) → Lawful (record { fixed = f; content = some (laid (two-byte appbits) is) }) →
-      readHeader (octets (record { fixed = f; content = some (laid (two-byte appbits) is) }) ++ body) ≡ says r →
-      Told (some (laid (two-byte appbits) is))
-  unfolding fieldsWith
-  bits-told appbits is some-bits l e = go (within-or-over (wholeElement words ∷ []))
-    where
-      words : List ℕ
-      words = blockOctets (two-byte appbits) is
-
-      s : List ℕ
-      s = octets (record { fixed = f; content = some (laid (two-byte appbits) is) }) ++ body
-
-      place : ℕ
-      place = length (octets (record { fixed = f; content = some (laid (two-byte appbits) is) }))
-
-      bits : AppBits (0x1000 + appbits)
-      bits = record { from = omega arith; to = omega (arith, l .content .0) }
-
-      go : Within (wholeElement words ∷ []) ⊎ Over (wholeElement words ∷ []) → Told (some (laid (two-byte appbits) is))
-      go (inl w) =
-          let said : r ≡ header-fixed.readingAt f true (0x1000 + appbits) (wholeElement words ∷ []) 0 place =
-          same-answer (readHeader s) r (header-fixed.readingAt f true (0x1000 + appbits) (wholeElement words ∷ []) 0 place) e
-          (appbits-read f (l .header .fixed) (0x1000 + appbits) bits words body (l .header .extension) (fits-accepted s r e) w) in
-          (ap (λ (t : Reading). t .place) said, ap (λ (t : Reading). t .fields .padding) said)
-      go (inr o) =
-          absurd
-          (not-refused (readHeader s) 7 r
-          (header-read.other-over f (l .header .fixed) body (0x1000 + appbits) words
-          (form-other {p = 0x1000 + appbits} (λ z. omega (arith, l .content .0)) (λ z. some-bits (omega arith)))
-          (l .header .extension) (fits-accepted s r e) o) e)
+  plain-told : (c : Option Content) → Lawful (record { fixed = f; content = c }) → Plain c →
+      readHeader (octets (record { fixed = f; content = c }) ++ body) ≡ says r → Told c
+  plain-told c l plain e =
+      by-way c (present c) (header.profileSaid c) (header.elementsSaid c) (header.padsSaid c)
+      (plan-way (octets (record { fixed = f; content = c }) ++ body) f c body l plain refl) e
 
   told : (c : Option Content) → Lawful (record { fixed = f; content = c }) →
       readHeader (octets (record { fixed = f; content = c }) ++ body) ≡ says r → Told c
@@ -174,9 +209,13 @@ module _ (f : Fixed) (body : List ℕ) (r : Reading) where
   told (some (laid (two-byte appbits) is)) l e =
       elim (ℕ-discrete appbits 0) [
         | yes z ↦ plain-told (some (laid (two-byte appbits) is)) l z e
-        | no z ↦ bits-told appbits is z l e
+        | no z ↦
+            by-way (some (laid (two-byte appbits) is)) true (0x1000 + appbits) (header.wholeElement (blockOctets (two-byte appbits) is) ∷ []) 0
+            (words-way (octets (record { fixed = f; content = some (laid (two-byte appbits) is) }) ++ body) f (0x1000 + appbits)
+            (blockOctets (two-byte appbits) is) body (λ q. omega (arith, l .content .0)) (λ q. z (omega arith)) (l .header) refl)
+            e
       ]
-  told (some (other profile words)) l e = plain-told (some (other profile words)) l tt e
+  told (some (other profile content)) l e = plain-told (some (other profile content)) l tt e
 
 pub never-short : (p : Packet) → LawfulPacket p → readPacket (packetOctets p) ≡ refuse 4 → ⊥
 unfolding packetOctets

@@ -17,7 +17,7 @@ use Rattle.rfc3550.specs.Packet.{Padding, countIn, paddingOctets, Packet, Lawfu
 use Rattle.header_rfc.specs.Says.{fieldsSaid, fieldsWith, Plain, AppBits, Fits}
 use Rattle.header_rfc.specs.RoundTrip.{InRange, ReadsBack, readBack, Trailing}
 use Rattle.header_rfc.specs.RoundTrip as header
-use Rattle.header_rfc.proofs.RoundTrip.{Ways, BothWays}
+use Rattle.header_rfc.proofs.RoundTrip.{Ways, TakenElements}
 use Rattle.header_rfc.proofs.RoundTrip as header-written
 use Rattle.header_rfc.proofs.Rewritten as header-rewritten
 use Rattle.header_rfc.proofs.Writers.{octets-back}
@@ -107,7 +107,7 @@ module _ (f : Fields) (payload : List ℕ) where
       }
 
   -- where these octets were written, they read back
-  pub back : InRange f → Ways BothWays f → (answer : Said (List ℕ)) → answer ≡ says (written.packetOctets f payload) → WrittenAndRead f payload answer
+  pub back : InRange f → Ways TakenElements f → (answer : Said (List ℕ)) → answer ≡ says (written.packetOctets f payload) → WrittenAndRead f payload answer
   back w s answer e =
       record {
         octets = written.packetOctets f payload;

@@ -9,11 +9,11 @@ use Rattle.error.specs.Said.{Said, says}
 use Rattle.header.specs.declared.Header.{Header}
 use Rattle.header_write.specs.declared.Length.{Length}
 use Rattle.header_write.specs.declared.Length.the-variants as len
-use Rattle.header.specs.Fields.{Fields, fieldsOf, layOut, inDomain}
-use Rattle.header.specs.Write.{octetsOf}
+use Rattle.header.specs.Fields.{Fields, fieldsOf, layOut}
+use Rattle.header.specs.Write.{octetsOf, inWritingDomain}
 use Rattle.rfc3550.specs.Packet.{Padding, countIn, LawfulPadding, paddingOctets, Packet, LawfulPacket, packetOctets}
 use Rattle.header_rfc.specs.Says.{fieldsSaid, Fits}
-use Rattle.header_rfc.specs.RoundTrip.{InRange, ReadsBack, readBack}
+use Rattle.header_rfc.specs.RoundTrip.{ReadsBack, readBack}
 use Rattle.packet.specs.declared.Unmarshalled.{Unmarshalled}
 use Rattle.packet.specs.Read.{PacketReading, readPacket}
 use Rattle.packet.specs.Write as written
@@ -47,11 +47,11 @@ FillingEnd n (some p) = Filling n p
 abbrev pub packetBack : Fields → List ℕ → PacketReading
 packetBack f payload = record { fields = readBack f; payload = record { place = length (octetsOf f); len = length payload } }
 
--- every record in the domain that meets the conditions of the round trip is written with any payload of the domain, wherever there is room for both
--- and the padding
+-- every record in the writing domain that meets the conditions of the round trip is written with any payload of the domain, wherever there is room for
+-- both and the padding
 abbrev pub Writes : (Header → List ℕ → ℕ → Said (List ℕ)) → Type 0
 Writes write =
-    (h : Header) (payload : List ℕ) → inDomain h ≡ true → InRange (fieldsOf h) → ReadsBack (fieldsOf h) → length payload ≤ 65535 → (room : ℕ) →
+    (h : Header) (payload : List ℕ) → inWritingDomain h ≡ true → ReadsBack (fieldsOf h) → length payload ≤ 65535 → (room : ℕ) →
     written.packetSize (fieldsOf h) payload ≤ room → write h payload room ≡ says (written.packetOctets (fieldsOf h) payload)
 
 -- the answer is that the octets of a lawful packet were written, which says what reads back of f, and has that payload

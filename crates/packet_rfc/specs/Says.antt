@@ -9,11 +9,14 @@ use lib.ListN.{length, drop}
 use Rattle.error.specs.Said.{Said, says, refuse}
 use Rattle.wire.specs.Part.{part}
 use Rattle.elements.specs.Elements.{Element}
+use Rattle.header.specs.Fields.{layOut}
 use Rattle.header.specs.Read.{Reading, readHeader}
 use Rattle.rfc3550.specs.Rfc3550.{Octets, Fixed}
 use Rattle.rfc3550.specs.Rfc8285.{Plan, Lawful, octets}
 use Rattle.rfc3550.specs.Packet.{Packet, LawfulPacket, packetOctets, Padded, Uncounted, Short}
-use Rattle.header_rfc.specs.Says.{elementsSaid, fieldsSaid, fieldsWith, Within, Over, Plain, Fits, Deviating}
+use Rattle.header_rfc.specs.Says.{elementsSaid, fieldsSaid, fieldsWith, Within, Over, Plain, Fits}
+use Rattle.header_rfc.specs.Accepted.{Deviating, payloadLeft}
+use Rattle.packet.specs.declared.Unmarshalled.{Unmarshalled}
 use Rattle.packet.specs.Read.{PacketReading, readPacket}
 
 -- ---- what a plan says
@@ -43,19 +46,19 @@ pub record Complete (read : List ℕ → Said PacketReading) : Type 0 where
   pub over : (p : Packet) → LawfulPacket p → Plain (p .header .content) → Fits (packetOctets p) → Over (elementsSaid (p .header .content)) →
       read (packetOctets p) ≡ refuse 7
 
--- s is a packet of the RFC, of version 2, and r is what it says
+-- s is a well-formed packet, whatever its version, its header in a form that is read as such, and r is what it says
 pub record Conforming (s : List ℕ) (r : PacketReading) : Type 0 where
   pub plan : Packet
   pub lawful : LawfulPacket plan
-  pub version : plan .header .fixed .version ≡ 2
+  pub plain : Plain (plan .header .content)
   pub same : packetOctets plan ≡ s
   pub said : r ≡ readingSaid plan
 
--- s is a lawful header of version 2 with the P bit, and octets of which the last is 0: r has the header's fields, and all those octets as payload
+-- s is a lawful header with the P bit, and octets of which the last is 0: r has the header's fields, and all those octets as payload
 pub record ZeroCount (s : List ℕ) (r : PacketReading) : Type 0 where
   pub plan : Plan
   pub lawful : Lawful plan
-  pub version : plan .fixed .version ≡ 2
+  pub plain : Plain (plan .content)
   pub bit : plan .fixed .padding ≡ true
   pub before : List ℕ
   pub same : octets plan ++ (before ++ (0 ∷ [])) ≡ s
@@ -70,15 +73,25 @@ pub data Measured (padding : Bool) (rest : List ℕ) (len : ℕ) : Type 0 where
   -- .. or all, where the count is 0
   uncounted : padding ≡ true → Uncounted rest → len ≡ length rest → Measured padding rest len
 
--- the header strays; the payload is measured from the place where the reading of the header ended, wherever that is
+-- the header leaves RFC 8285, and r's fields are those that are told of it; the payload is measured in the octets that it leaves to it
 pub record Straying (s : List ℕ) (r : PacketReading) : Type 0 where
   pub header : Deviating s (headerOf r)
-  pub payload : Measured (r .fields .padding) (drop (r .payload .place) s) (r .payload .len)
+  pub payload : Measured (r .fields .padding) (payloadLeft header) (r .payload .len)
 
--- whatever is accepted with version 2 is a packet of the RFC with those fields and that payload, has a padding count of 0, or strays
+-- a well-formed packet that says r, one with a padding count of 0, or one whose header leaves RFC 8285
+abbrev pub Told : List ℕ → PacketReading → Type 0
+Told s r = Conforming s r ⊎ (ZeroCount s r ⊎ Straying s r)
+
+-- whatever is accepted is told so
 abbrev pub Sound : (List ℕ → Said PacketReading) → Type 0
-Sound read = (s : List ℕ) (r : PacketReading) → Octets s → read s ≡ says r → r .fields .version ≡ 2 →
-    Conforming s r ⊎ (ZeroCount s r ⊎ Straying s r)
+Sound read = (s : List ℕ) (r : PacketReading) → Octets s → read s ≡ says r → Told s r
+
+-- the code accepted s, with `len` bytes of payload at `place`, and its record is laid out from what is told
+pub record CodeTold (s : List ℕ) (u : Unmarshalled) (place len : ℕ) : Type 0 where
+  pub reading : PacketReading
+  pub told : Told s reading
+  pub payload : reading .payload ≡ record { place = place; len = len }
+  pub header : u .header ≡ layOut (reading .fields)
 
 -- ---- 4
 

@@ -1,7 +1,7 @@
 -- Blocks of octets alone, without a reader: the octets in front tell the item in front. So a block has one list of lawful items at most,
 -- a block that strays has none, and every block has one or strays. Assumes nothing.
 use mathlib.Core.Path.{_≡_, refl, sym, ap, ap₂, _∙_, subst}
-use mathlib.Core.List.{List, [], _∷_, _++_, append-assoc}
+use mathlib.Core.List.{List, [], _∷_, _++_, append-assoc, append-nil}
 use mathlib.Core.Logic.{_⊎_, inl, inr}
 use mathlib.Core.Option.{Option, none, some}
 use Prim.Native.Nat.{ℕ, zero, suc, _+_, _-_, _*_, _/_, _%_, _<_, _≤_}
@@ -10,6 +10,7 @@ use native.Mathlib.Decide.{decLe, ℕ-discrete}
 use native.Mathlib.Omega.{arith}
 use lib.ListN.{length, take, drop, getD, length-append, length-drop, take-append-drop}
 use lib.Seq.{length-take-le}
+use Rattle.wire.specs.Each.{Each}
 use Rattle.rfc3550.specs.Rfc3550.{Octets, Extension, LawfulExtension}
 use Rattle.rfc3550.specs.Rfc3550 as rtp
 use Rattle.rfc3550.specs.Rfc8285.{Form, one-byte, two-byte, LawfulForm, profileOf, Item, padding, element, LawfulElement, LawfulItem, AllLawful, headOctets, itemOctets, blockOctets, Stray, reserved, zero-id, leaves, alone, LawfulStray, strayOctets, LaidOut, StraysIn, Content, laid, other, LawfulContent, extensionOf, extensionWith, Conforms, Strays, Plan, Lawful, LawfulPart, extensionIn, octets, planOf}
@@ -17,32 +18,54 @@ use Rattle.rfc3550.proofs.Octets.{below-drop}
 use Rattle.rfc3550.proofs.Unambiguous.{append-inj, unambiguous}
 
 -- the octet in front
-front : {a b : ℕ} {s t : List ℕ} → a ∷ s ≡ b ∷ t → a ≡ b
+pub front : {a b : ℕ} {s t : List ℕ} → a ∷ s ≡ b ∷ t → a ≡ b
 front e = ap (λ (l : List ℕ). getD l 0 0) e
 
-behind : {a b : ℕ} {s t : List ℕ} → a ∷ s ≡ b ∷ t → s ≡ t
+pub behind : {a b : ℕ} {s t : List ℕ} → a ∷ s ≡ b ∷ t → s ≡ t
 behind e = ap (drop 1) e
 
 -- ---- heads
 
-head-some : (form : Form) (id n : ℕ) → LawfulElement form id n → (s t : List ℕ) → 0 ∷ s ≡ headOctets form id n ++ t → ⊥
-head-some one-byte id n l s t e = omega (arith, l .not-padding, front e)
-head-some (two-byte appbits) id n l s t e = omega (arith, l .not-padding, front e)
+-- an element whose octets tell it, lawful or not: its head does not begin with the octet of padding, and its length fits the field
+abbrev pub Telling : Form → ℕ → ℕ → Type 0
+Telling one-byte id n = (1 ≤ n) × (n ≤ 16) × (2 ≤ id * 16 + n)
+Telling (two-byte appbits) id n = 1 ≤ id
+
+abbrev pub TellingItem : Form → Item → Type 0
+TellingItem form padding = Unit
+TellingItem form (element id bytes) = Telling form id (length bytes)
+
+pub lawful-telling : (form : Form) (id n : ℕ) → LawfulElement form id n → Telling form id n
+lawful-telling one-byte id n l = (l .enough, l .data-fits, omega (arith, l .not-padding, l .enough))
+lawful-telling (two-byte appbits) id n l = l .not-padding
+
+lawful-item : (form : Form) (i : Item) → LawfulItem form i → TellingItem form i
+lawful-item form padding l = tt
+lawful-item form (element id bytes) l = lawful-telling form id (length bytes) l
+
+pub head-some : (form : Form) (id n : ℕ) → Telling form id n → (s t : List ℕ) → 0 ∷ s ≡ headOctets form id n ++ t → ⊥
+head-some one-byte id n l s t e = omega (arith, l .0, l .2, front e)
+head-some (two-byte appbits) id n l s t e = omega (arith, front e)
 
 -- a head tells id, length and what follows it
-heads-told : (form : Form) (id n id′ n′ : ℕ) → LawfulElement form id n → LawfulElement form id′ n′ → (s t : List ℕ) →
+pub heads-told : (form : Form) (id n id′ n′ : ℕ) → Telling form id n → Telling form id′ n′ → (s t : List ℕ) →
     headOctets form id n ++ s ≡ headOctets form id′ n′ ++ t → (id ≡ id′) × (n ≡ n′) × (s ≡ t)
 heads-told one-byte id n id′ n′ l m s t e = (
-  omega (arith, front e, l .data-fits, m .data-fits, l .enough, m .enough),
-  omega (arith, front e, l .data-fits, m .data-fits, l .enough, m .enough),
+  omega (arith, front e, l .0, l .1, m .0, m .1),
+  omega (arith, front e, l .0, l .1, m .0, m .1),
   behind e,
 )
 heads-told (two-byte appbits) id n id′ n′ l m s t e = (front e, front (behind e), behind (behind e))
 
 -- ---- items
 
+pub blocks-append : (form : Form) (is js : List Item) → blockOctets form (is ++ js) ≡ blockOctets form is ++ blockOctets form js
+blocks-append form [] js = refl
+blocks-append form (i ∷ is) js =
+    ap (λ (s : List ℕ). itemOctets form i ++ s) (blocks-append form is js) ∙ sym (append-assoc (itemOctets form i) (blockOctets form is) (blockOctets form js))
+
 -- the octets in front tell the item in front
-item-told : (form : Form) (i j : Item) → LawfulItem form i → LawfulItem form j → (s t : List ℕ) →
+item-told : (form : Form) (i j : Item) → TellingItem form i → TellingItem form j → (s t : List ℕ) →
     itemOctets form i ++ s ≡ itemOctets form j ++ t → (i ≡ j) × (s ≡ t)
 item-told form padding padding l m s t e = (refl, behind e)
 item-told form padding (element id bytes) l m s t e =
@@ -61,31 +84,51 @@ item-length form padding = omega arith
 item-length one-byte (element id bytes) = omega arith
 item-length (two-byte appbits) (element id bytes) = omega arith
 
-none-empty : (form : Form) (i : Item) (s : List ℕ) → itemOctets form i ++ s ≡ [] → ⊥
+-- no item of a kind begins these octets
+abbrev pub NoneBegins : Form → (Item → Type 0) → List ℕ → Type 0
+NoneBegins form P a = (i : Item) → P i → (s : List ℕ) → itemOctets form i ++ s ≡ a → ⊥
+
+pub none-empty : (form : Form) (i : Item) (s : List ℕ) → itemOctets form i ++ s ≡ [] → ⊥
 none-empty form i s e = omega (arith, item-length form i, length-append (itemOctets form i) s, ap length e)
+
+-- items of a kind and then octets that none of that kind begins: the octets tell both
+pub apart-told : (form : Form) (P : Item → Type 0) → ((i : Item) → P i → TellingItem form i) → (is js : List Item) (a b : List ℕ) →
+    Each P is → Each P js → NoneBegins form P a → NoneBegins form P b →
+    blockOctets form is ++ a ≡ blockOctets form js ++ b → (is ≡ js) × (a ≡ b)
+apart-told form P t [] [] a b l m u v e = (refl, e)
+apart-told form P t [] (j ∷ js) a b l m u v e =
+    absurd (u j (m .0) (blockOctets form js ++ b) (sym (e ∙ append-assoc (itemOctets form j) (blockOctets form js) b)))
+apart-told form P t (i ∷ is) [] a b l m u v e =
+    absurd (v i (l .0) (blockOctets form is ++ a) (sym (append-assoc (itemOctets form i) (blockOctets form is) a) ∙ e))
+apart-told form P t (i ∷ is) (j ∷ js) a b l m u v e =
+    let first : (i ≡ j) × (blockOctets form is ++ a ≡ blockOctets form js ++ b) =
+    item-told form i j (t i (l .0)) (t j (m .0)) (blockOctets form is ++ a) (blockOctets form js ++ b)
+    (sym (append-assoc (itemOctets form i) (blockOctets form is) a) ∙ e ∙ append-assoc (itemOctets form j) (blockOctets form js) b) in
+    let rest : (is ≡ js) × (a ≡ b) = apart-told form P t is js a b (l .1) (m .1) u v (first .1) in
+    (ap₂ (λ (x : Item) (xs : List Item). x ∷ xs) (first .0) (rest .0), rest .1)
 
 -- two lists of lawful items with the same octets are the same list
 pub items-told : (form : Form) (is js : List Item) → AllLawful form is → AllLawful form js → blockOctets form is ≡ blockOctets form js → is ≡ js
-items-told form [] [] l m e = refl
-items-told form [] (j ∷ js) l m e = absurd (none-empty form j (blockOctets form js) (sym e))
-items-told form (i ∷ is) [] l m e = absurd (none-empty form i (blockOctets form is) e)
-items-told form (i ∷ is) (j ∷ js) l m e =
-    let told : (i ≡ j) × (blockOctets form is ≡ blockOctets form js) =
-    item-told form i j (l .0) (m .0) (blockOctets form is) (blockOctets form js) e in
-    ap₂ (λ (x : Item) (xs : List Item). x ∷ xs) (told .0) (items-told form is js (l .1) (m .1) (told .1))
+items-told form is js l m e =
+    apart-told form (LawfulItem form) (lawful-item form) is js [] [] l m (λ i k s q. none-empty form i s q) (λ i k s q. none-empty form i s q)
+    (ap (λ (s : List ℕ). s ++ []) e) .0
 
--- ---- a block that strays is not laid out
-
-leaves-none : (form : Form) (id n : ℕ) (part : List ℕ) → LawfulElement form id n → length part < n → (i : Item) → LawfulItem form i →
-    (s : List ℕ) → itemOctets form i ++ s ≡ headOctets form id n ++ part → ⊥
-leaves-none form id n part m h padding l s e = head-some form id n m s part e
-leaves-none form id n part m h (element id′ bytes) l s e =
+-- no item that is told begins an element of which the block holds a part alone
+pub leaving-none : (form : Form) (id n : ℕ) (part : List ℕ) → Telling form id n → length part < n → NoneBegins form (TellingItem form) (headOctets form id n ++ part)
+leaving-none form id n part m h padding l s e = head-some form id n m s part e
+leaving-none form id n part m h (element id′ bytes) l s e =
     let told : (id′ ≡ id) × (length bytes ≡ n) × (bytes ++ s ≡ part) =
     heads-told form id′ (length bytes) id n l m (bytes ++ s) part (sym (append-assoc (headOctets form id′ (length bytes)) bytes s) ∙ e) in
     omega (arith, told .1, length-append bytes s, ap length (told .2))
 
+-- ---- a block that strays is not laid out
+
+leaves-none : (form : Form) (id n : ℕ) (part : List ℕ) → LawfulElement form id n → length part < n →
+    NoneBegins form (LawfulItem form) (headOctets form id n ++ part)
+leaves-none form id n part m h i l s e = leaving-none form id n part (lawful-telling form id n m) h i (lawful-item form i l) s e
+
 -- no lawful item stands where a block strays
-stray-none : (form : Form) (r : Stray) → LawfulStray form r → (i : Item) → LawfulItem form i → (s : List ℕ) → itemOctets form i ++ s ≡ strayOctets form r → ⊥
+stray-none : (form : Form) (r : Stray) → LawfulStray form r → NoneBegins form (LawfulItem form) (strayOctets form r)
 stray-none one-byte (reserved len rest) w padding l s e = omega (arith, front e)
 stray-none one-byte (reserved len rest) w (element id bytes) l s e = omega (arith, front e, l .id-fits, l .data-fits, l .enough)
 stray-none one-byte (zero-id len rest) w padding l s e = omega (arith, front e, w .0)
@@ -108,20 +151,13 @@ stray-some form (zero-id len rest) e = omega (arith, ap length e)
 stray-some form (leaves id n part) e = omega (arith, ap length e, head-length form id n, length-append (headOctets form id n) part)
 stray-some form (alone id) e = omega (arith, ap length e)
 
-apart : (form : Form) (is js : List Item) (r : Stray) → AllLawful form is → AllLawful form js → LawfulStray form r →
-    blockOctets form is ≡ blockOctets form js ++ strayOctets form r → ⊥
-apart form [] [] r l m w e = stray-some form r (sym e)
-apart form (i ∷ is) [] r l m w e = stray-none form r w i (l .0) (blockOctets form is) e
-apart form [] (j ∷ js) r l m w e =
-    none-empty form j (blockOctets form js ++ strayOctets form r)
-    (sym (append-assoc (itemOctets form j) (blockOctets form js) (strayOctets form r)) ∙ sym e)
-apart form (i ∷ is) (j ∷ js) r l m w e =
-    apart form is js r (l .1) (m .1) w
-    (item-told form i j (l .0) (m .0) (blockOctets form is) (blockOctets form js ++ strayOctets form r)
-    (e ∙ append-assoc (itemOctets form j) (blockOctets form js) (strayOctets form r)) .1)
-
 pub never-both : (form : Form) (s : List ℕ) → LaidOut form s → StraysIn form s → ⊥
-never-both form s o t = apart form (o .items) (t .items) (t .stray) (o .lawful) (t .lawful) (t .why) (o .same ∙ sym (t .same))
+never-both form s o t =
+    stray-some form (t .stray)
+    (sym
+    (apart-told form (LawfulItem form) (lawful-item form) (o .items) (t .items) [] (strayOctets form (t .stray)) (o .lawful) (t .lawful)
+    (λ i k r q. none-empty form i r q) (stray-none form (t .stray) (t .why))
+    (append-nil (blockOctets form (o .items)) ∙ o .same ∙ sym (t .same)) .1))
 
 -- ---- every block is laid out or strays
 
@@ -216,7 +252,7 @@ laid-or-strays form s o = split form (length s + 1) s (omega arith) o
 -- ---- extensions
 
 -- the profile tells the form
-form-told : (g h : Form) → LawfulForm g → LawfulForm h → profileOf g ≡ profileOf h → g ≡ h
+pub form-told : (g h : Form) → LawfulForm g → LawfulForm h → profileOf g ≡ profileOf h → g ≡ h
 form-told one-byte one-byte l m e = refl
 form-told one-byte (two-byte b) l m e = absurd (omega arith)
 form-told (two-byte a) one-byte l m e = absurd (omega arith)
@@ -227,7 +263,7 @@ no-form one-byte l profile words m e = m .0 e
 no-form (two-byte appbits) l profile words m e = m .1 (omega arith)
 
 -- a lawful extension is told by profile and content
-whole : (x : Extension) → LawfulExtension x → (profile : ℕ) (s : List ℕ) → profile ≡ x .profile → s ≡ x .content → extensionWith profile s ≡ x
+pub whole : (x : Extension) → LawfulExtension x → (profile : ℕ) (s : List ℕ) → profile ≡ x .profile → s ≡ x .content → extensionWith profile s ≡ x
 whole x l profile s p e =
     let words : length s / 4 ≡ x .words = omega (arith, ap length e, l .content) in
     λ i. record { profile = p i; words = words i; content = e i }

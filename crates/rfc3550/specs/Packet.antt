@@ -59,6 +59,13 @@ endOctets (some p) = paddingOctets p
 unfoldable pub packetOctets : Packet → List ℕ
 packetOctets p = octets (p .header) ++ (p .payload ++ endOctets (p .padding))
 
+-- s is a packet of RTP as the RFC defines it: the version is two
+pub record IsRtpPacket (s : List ℕ) : Type 0 where
+  pub plan : Packet
+  pub lawful : LawfulPacket plan
+  pub version : plan .header .fixed .version ≡ 2
+  pub same : packetOctets plan ≡ s
+
 -- ---- the octets behind a header with the P bit
 
 -- s is a payload with lawful padding behind it
