@@ -6,6 +6,8 @@ mod size;
 
 pub use padding::grow;
 pub use padding::resize;
+pub use size::first_head;
+pub use size::first_profile;
 pub use size::payload_len;
 pub use size::per_element;
 

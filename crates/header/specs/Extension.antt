@@ -10,7 +10,7 @@ use Rattle.wire.specs.Part.{part}
 use Rattle.elements.specs.declared.Extensions.{Extensions}
 use Rattle.elements.specs.Elements.{Element, dataOf, layElements}
 use Rattle.elements.specs.Named.{Found, absent, at, find, replace, remove, append}
-use Rattle.block.specs.Form.{Form, one-byte, two-byte, other, formOf, perElement}
+use Rattle.block.specs.Form.{Form, one-byte, two-byte, other, formOf, perElement, firstProfile, firstHead}
 use Rattle.block.specs.Padding.{grown, shrunk, resized}
 use Rattle.header.specs.declared.Header.{Header}
 use Rattle.header.specs.Fields.{fieldsOf, inDomain}
@@ -64,14 +64,6 @@ setFound h es id bytes (at place len) =
 unfoldable pub setLater : Header → List Element → ℕ → List ℕ → Said Header
 setLater h es id bytes =
     idRefusal (formOf (h .«extension_profile»)) id (length bytes) (setFound h es id bytes (find id 0 es))
-
--- "The first set picks 0xBEDE for 0 to 16 bytes, 0x1000 for 17 to 255, else keeps the profile; it does not check the id." Where it
--- keeps the profile, 000 counts no bytes for the element's head.
-abbrev pub firstProfile : ℕ → ℕ → ℕ
-firstProfile profile len = cond (leb len 16) 0xBEDE (cond (leb len 255) 0x1000 profile)
-
-abbrev pub firstHead : ℕ → ℕ
-firstHead len = cond (leb len 16) 1 (cond (leb len 255) 2 0)
 
 unfoldable pub setFirst : Header → List Element → ℕ → List ℕ → Said Header
 setFirst h es id bytes =

@@ -20,6 +20,8 @@ use crate::IdCount;
 use crate::Ids;
 use block::EXTENSION_PROFILE_ONE_BYTE;
 use block::EXTENSION_PROFILE_TWO_BYTE;
+use block::first_head;
+use block::first_profile;
 use block::grow;
 use block::per_element;
 use block::resize;
@@ -137,7 +139,7 @@ impl Header {
         self.put(run, profile, padding, id, payload)
     }
 
-    // "The first set picks 0xBEDE for 0 to 16 bytes, 0x1000 for 17 to 255, else keeps the profile; it does not check the id."
+    // A first set appends; "it does not check the id."
     fn set_first(self, id: u8, payload: &[u8]) -> Changed
         requires { ⌜ inDomain self ≡ true ⌝ }
         ensures { λ r. ⌜ heardChange r ≡ changeHeard self (setFirst self (elementsOf (self .extensions)) id (now (payload .entry))) ⌝ }
@@ -148,27 +150,10 @@ impl Header {
             at: total(self.extensions.count, &self.extensions.lens),
             len: 0,
         };
-        let padding = self.extensions_padding;
         let len = payload.len();
-        if len <= 16 {
-            return self.put(
-                end,
-                EXTENSION_PROFILE_ONE_BYTE,
-                grow(padding, len + 1),
-                id,
-                payload,
-            );
-        }
-        if len <= 255 {
-            return self.put(
-                end,
-                EXTENSION_PROFILE_TWO_BYTE,
-                grow(padding, len + 2),
-                id,
-                payload,
-            );
-        }
-        self.put(end, self.extension_profile, grow(padding, len), id, payload)
+        let profile = first_profile(self.extension_profile, len);
+        let padding = grow(self.extensions_padding, len + first_head(len));
+        self.put(end, profile, padding, id, payload)
     }
 
     pub fn set_extension(self, id: u8, payload: &[u8]) -> Changed

@@ -20,7 +20,7 @@ use Rattle.error.specs.Refusal.{Refusal}
 use Rattle.error.specs.Said.{Said, says, refused, refuse}
 use Rattle.wire.specs.Part.{splice}
 use Rattle.elements.specs.Elements.{dataOf}
-use Rattle.block.specs.Form.{formOf, lengthFor}
+use Rattle.block.specs.Form.{formOf, lengthFor, firstProfile}
 use Rattle.block.specs.Form as forms
 use Rattle.header.specs.declared.Header.{Header}
 use Rattle.header.specs.declared.HeaderRead.the-variants as read
@@ -31,7 +31,7 @@ use Rattle.header.specs.Fields.{Fields, fieldsOf, layOut, inDomain}
 use Rattle.header.specs.Read.{Reading, readHeader}
 use Rattle.header.specs.Size.{headerSize}
 use Rattle.header.specs.Write.{octetsOf, inWritingDomain, writeHeader}
-use Rattle.header.specs.Extension.{setExtension, delExtension, firstProfile}
+use Rattle.header.specs.Extension.{setExtension, delExtension}
 use Rattle.header.specs.Said.{heard, readingHeard, heardWritten, written}
 use Rattle.rfc3550.specs.Rfc3550.{Octets, Extension, LawfulExtension, Begins, IsRtp, CutShort}
 use Rattle.rfc3550.specs.Rfc3550 as rtp

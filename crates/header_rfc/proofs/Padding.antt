@@ -16,12 +16,12 @@ use Rattle.elements.specs.Elements.{Element, dataOf}
 use Rattle.elements.specs.Named.{find, Absent, First, replace, remove, append}
 use Rattle.elements.proofs.Elements.{dataOf-append, elementsOf-layElements}
 use Rattle.elements.proofs.Changes.{either, find-first, find-absent, replace-first, remove-first}
-use Rattle.block.specs.Form.{Form, one-byte, two-byte, other, formOf, perElement, lengthFor}
+use Rattle.block.specs.Form.{Form, one-byte, two-byte, other, formOf, perElement, lengthFor, firstProfile, firstHead}
 use Rattle.block.specs.Padding.{grown, shrunk, resized}
 use Rattle.header.specs.declared.Header.{Header}
 use Rattle.header.specs.Fields.{fieldsOf, inDomain}
 use Rattle.header.specs.Size.{payloadLength}
-use Rattle.header.specs.Extension.{changed, change, idRefusal, setFound, setLater, firstProfile, firstHead, setFirst, setExtension, delFound, delExtension}
+use Rattle.header.specs.Extension.{changed, change, idRefusal, setFound, setLater, setFirst, setExtension, delFound, delExtension}
 use Rattle.header_rfc.specs.RoundTrip.{beyond}
 
 -- ---- the arithmetic

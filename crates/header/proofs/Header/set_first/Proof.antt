@@ -1,17 +1,20 @@
 -- The element is put at the list's end, with the profile and the padding that its length picks.
 use mathlib.Core.Path.{_≡_, sym, ap, ap₂, subst, _∙_}
 use mathlib.Core.List.{[], _∷_}
-use Prim.Native.Nat.{_≤_}
+use Prim.Native.Nat.{ℕ, _+_, _≤_}
+use lib.ListN.{length}
 use borrow.Author.Needs.{needs}
 use Rattle.elements.specs.declared.Run.{Run}
 use Rattle.elements.specs.Elements.{elementsOf}
 use Rattle.elements.specs.Named.{append}
 use Rattle.elements.specs.Runs.{Holds, replacedAt, element}
 use Rattle.elements.proofs.Changes.{endOf, at-end, stands-end}
-use Rattle.header.specs.Extension.{change}
+use Rattle.block.specs.Form.{firstHead}
+use Rattle.block.specs.Padding.{grown}
+use Rattle.header.specs.Extension.{change, setFirst}
 use Rattle.header.specs.Said.{changeHeard}
 use Rattle.header.proofs.Sizes.{Arrays, limits-of}
-use Rattle.header.proofs.Changes.{holds-in, end-in, first-one, first-two, first-other}
+use Rattle.header.proofs.Changes.{holds-in, end-in}
 use Rattle.header.proofs.Header.set_first.Statement.{statement}
 use Rattle.header.proofs.Header.set_first.Tie as tie
 
@@ -46,46 +49,25 @@ zeros : (c : tie.After-total) → entry c .args .t1 .«extensions_padding» ≤ 
 zeros c = limits-of (entry c .args .t1) (entry c .pre) .zeros
 
 returns : tie.Need-returns
+unfolding setFirst
 returns c =
-    let done = c .before .before .before in
+    let done = c .before .before .before .before in
     let a = entry done .args in
+    let es = append (a .id) (a .payload .now) (elementsOf (a .t1 .extensions)) in
+    let head : ℕ → ℕ = λ n. grown (a .t1 .«extensions_padding») (length (a .payload .now) + n) in
     c .put .ensures
     ∙ ap (changeHeard (a .t1))
-    (ap₂ (change (a .t1) 0xBEDE) (appended done) (c .before .grow .ensures)
-    ∙ sym (first-one (a .t1) (elementsOf (a .t1 .extensions)) (a .id) (a .payload .now) (c .before .before .if1 .taken)))
-
-returns-2 : tie.Need-returns-2
-returns-2 c =
-    let done = c .before .before .before .before in
-    let a = entry done .args in
-    c .put2 .ensures
-    ∙ ap (changeHeard (a .t1))
-    (ap₂ (change (a .t1) 0x1000) (appended done) (c .before .grow2 .ensures)
-    ∙ sym (first-two (a .t1) (elementsOf (a .t1 .extensions)) (a .id) (a .payload .now)
-    (c .before .before .before .if1 .left) (c .before .before .if2 .taken)))
-
-returns-3 : tie.Need-returns-3
-returns-3 c =
-    let done = c .before .before .before .before in
-    let a = entry done .args in
-    c .put3 .ensures
-    ∙ ap (changeHeard (a .t1))
-    (ap₂ (change (a .t1) (a .t1 .«extension_profile»)) (appended done) (c .before .grow3 .ensures)
-    ∙ sym (first-other (a .t1) (elementsOf (a .t1 .extensions)) (a .id) (a .payload .now) (c .before .before .if2 .left)))
+    (ap₂ (change (a .t1) (c .before .before .before .first-profile .result)) (appended done) (c .before .grow .ensures ∙ ap head (c .before .before .first-head .ensures .0))
+    ∙ ap (λ (profile : ℕ). change (a .t1) profile es (head (firstHead (length (a .payload .now))))) (c .before .before .before .first-profile .ensures))
 
 pub set-first-spec : {M : Type 1} → statement M
 set-first-spec =
     tie.close
     (tie.spec
     (λ c κs. limits-of (c .before .before .before .args .t1) (c .before .before .before .pre) .elements)
-    (λ c. search needs)
-    (λ c κs. zeros (c .before))
-    (λ c κs. holds (c .before .before))
-    returns
+    (λ c κs. search needs)
+    (λ c κs. search needs)
     (λ c. search needs)
     (λ c κs. zeros (c .before .before))
     (λ c κs. holds (c .before .before .before))
-    returns-2
-    (λ c κs. zeros (c .before .before))
-    (λ c κs. holds (c .before .before .before))
-    returns-3)
+    returns)
