@@ -36,7 +36,7 @@ fragments-carry : (mtu : ℕ) (u : List ℕ) → 3 ≤ mtu → mtu < length u �
 fragments-carry mtu [] g h = absurd (omega arith)
 fragments-carry mtu (b ∷ s) g h = ap (λ (u : List ℕ). u ∷ []) (unit-rebuilt (mtu - 2) b s (omega arith) (omega arith))
 
-unit-carries : (mtu : ℕ) (u : List ℕ) → unitsIn (unitFor mtu u) ≡ cond (leb (length u) mtu || leb 3 mtu) (u ∷ []) []
+pub unit-carries : (mtu : ℕ) (u : List ℕ) → unitsIn (unitFor mtu u) ≡ cond (leb (length u) mtu || leb 3 mtu) (u ∷ []) []
 unit-carries mtu u = go (decLe (length u) mtu) (decLe 3 mtu)
   where
     said : (a b : Bool) → leb (length u) mtu ≡ a → leb 3 mtu ≡ b → cond (a || b) (u ∷ []) [] ≡ cond (leb (length u) mtu || leb 3 mtu) (u ∷ []) []
