@@ -215,14 +215,16 @@ module _ (weight : List ℕ → ℕ) where
       )
 
 -- all that waited or came: sent, left out, or waiting still
-accounted : (mtu : ℕ) (v : Saved) (c : Course) → Right v c →
-    Same (setsOf v ++ unitsOf c) (sent mtu v c ++ (leftOut mtu v c ++ setsOf (waitingAfter v c)))
-accounted mtu v c r weight =
+pub accounted : (mtu : ℕ) (v : Saved) (us : List (List ℕ)) (r : Coursed v us) →
+    Same (setsOf v ++ us) (sent mtu v (r .course) ++ (leftOut mtu v (r .course) ++ setsOf (waitingAfter v (r .course))))
+accounted mtu v us r weight =
+    let c : Course = r .course in
     let dropped : List (List ℕ) = thoseThat (λ (u : List ℕ). isDropped (fateOf u)) (unitsOf c) in
     let over : List (List ℕ) = thoseThat (cannotGo mtu) (unitsOf c) in
-    omega (
+    ap (λ (l : List (List ℕ)). total weight (setsOf v ++ l)) (r .whole)
+    ∙ omega (
       arith,
-      course-balanced weight mtu v c r,
+      course-balanced weight mtu v c (r .right),
       total-append weight (setsOf v) (unitsOf c),
       total-append weight (sent mtu v c) (leftOut mtu v c ++ setsOf (waitingAfter v c)),
       total-append weight (leftOut mtu v c) (setsOf (waitingAfter v c)),
@@ -235,7 +237,6 @@ accounted mtu v c r weight =
 pub each-once : (mtu : ℕ) (v : Saved) (us : List (List ℕ)) (r : Coursed v us) →
     Same (setsOf v ++ us) (carriedIn (groupsOf mtu v us) ++ (leftOut mtu v (r .course) ++ setsOf (keepAll v us)))
 each-once mtu v us r weight =
-    ap (λ (l : List (List ℕ)). total weight (setsOf v ++ l)) (r .whole)
-    ∙ accounted mtu v (r .course) (r .right) weight
+    accounted mtu v us r weight
     ∙ sym (ap₂ (λ (l : List (List ℕ)) (w : Saved). total weight (l ++ (leftOut mtu v (r .course) ++ setsOf w)))
     (sent-by-course mtu v us r) (waits-by-course v us r))

@@ -17,14 +17,14 @@ use Rattle.h264_put.specs.declared.fate.Fate.the-variants.{Empty, Dropped, Sps,
 use Rattle.h264_put.specs.Groups.{Saved, nothingSaved, bothSaved, Group, pair, plain, fateOf, fateOfType, keep, keepBy, keepAll, stapA, pairFor, fragmentsOf, unitFor, groupsBy, groupsFor, groupsOf, packetsOf}
 use Rattle.h264_put.specs.Step.{isSaved}
 use Rattle.h264.specs.Conformance.{Octets, SavedOctets, nal, nalsOf, nalsOfAll, Regular, carries, carriedIn}
-use Rattle.h264.specs.Course.{Coursed}
-use Rattle.h264.specs.AnySender.{PlainBy, Plainly, SavedPlainly, Goes, SendsFrames, ours}
+use Rattle.h264.specs.Course.{Coursed, setsOf, sent, leftOut, total, Same}
+use Rattle.h264.specs.AnySender.{Answered, PlainBy, Plainly, SavedPlainly, Goes, SendsFrames, ours}
 use Rattle.h264.proofs.Fits.{fits}
 use Rattle.h264.proofs.Conforms.{packetized}
 use Rattle.h264.proofs.OneUnit.{cleared-same}
 use Rattle.h264.proofs.Frames.{units-written}
 use Rattle.h264.proofs.Courses.{waits-by-course}
-use Rattle.h264.proofs.Accounts.{sent-by-course}
+use Rattle.h264.proofs.Accounts.{sent-by-course, accounted}
 
 -- ---- plain units in groups
 
@@ -158,3 +158,10 @@ pub sends-frames : SendsFrames ours
 sends-frames mtu v end c cs least most apart p q r =
     subst (λ (us : List (List ℕ)). Goes mtu v (r .course) (record { packets = packetsOf (groupsOf mtu v us); saved = keepAll v us }))
     (sym (units-written mtu end c cs least apart)) (goes mtu v (unitsWritten end (c ∷ cs)) most p q r)
+
+-- of any such sender: each unit is once among those that its packets carry, those left out and those that it saves
+pub answer-accounted : (mtu : ℕ) (v : Saved) (us : List (List ℕ)) (r : Coursed v us) (a : Answered) → Goes mtu v (r .course) a →
+    Same (setsOf v ++ us) (sent mtu v (r .course) ++ (leftOut mtu v (r .course) ++ setsOf (a .saved)))
+answer-accounted mtu v us r a g weight =
+    accounted mtu v us r weight
+    ∙ sym (ap (λ (w : Saved). total weight (sent mtu v (r .course) ++ (leftOut mtu v (r .course) ++ setsOf w))) (g .waits))

@@ -16,8 +16,8 @@ use Rattle.h264.specs.declared.send.H264Payloader.{H264Payloader}
 use Rattle.h264.specs.Payload.{left, payloadOf}
 use Rattle.h264.specs.Frames.{groupsFrom, unitsOfFrames}
 use Rattle.h264.specs.Conformance.{Octets, SavedOctets, nal, nalsOfAll, Regular, Sendable, unitsIn, carriedIn, goesOut, thoseThat, startBit, endBit}
-use Rattle.h264.specs.Course.{latest, NoPair, Coursed, waitingAfter, groupsIn, setsOf, leftOut, Same}
-use Rattle.h264.specs.AnySender.{Sender, SendsFrames, ours, Silent, KeepsEarlierSps, KeepsEarlierPps}
+use Rattle.h264.specs.Course.{latest, NoPair, Coursed, waitingAfter, groupsIn, setsOf, sent, leftOut, Same}
+use Rattle.h264.specs.AnySender.{Answered, Sender, Goes, SendsFrames, ours, Silent, KeepsEarlierSps, KeepsEarlierPps}
 use Rattle.h264.proofs.Fits as F
 use Rattle.h264.proofs.Frames as A
 use Rattle.h264.proofs.LeftOut as L
@@ -52,7 +52,12 @@ unit-by-rfc6184 = U.unit-packetized
 pub frame-by-rfc6184 : SendsFrames ours
 frame-by-rfc6184 = N.sends-frames
 
--- A sender that emits nothing does not so, nor one that keeps the earlier of two sets of a kind.
+-- Where an answer goes by the course, each unit that waited or came is once among those that the packets carry, those left out and those saved.
+pub answer-accounted : (mtu : ℕ) (v : Saved) (us : List (List ℕ)) (r : Coursed v us) (a : Answered) → Goes mtu v (r .course) a →
+    Same (setsOf v ++ us) (sent mtu v (r .course) ++ (leftOut mtu v (r .course) ++ setsOf (a .saved)))
+answer-accounted = N.answer-accounted
+
+-- A sender that emits nothing does not send so, nor one that keeps the earlier of two sets of a kind.
 pub no-silent-sender : (send : Sender) → Silent send → SendsFrames send → ⊥
 no-silent-sender = W.no-silent-sender
 

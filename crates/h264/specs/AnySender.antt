@@ -1,4 +1,5 @@
--- What is asked of any H.264 sender: that a frame as an encoder writes it goes out as its course says, by RFC 6184. Assumes nothing.
+-- What the paper asks of any H.264 sender: that a frame as an encoder writes it goes out as the course of its units says, by RFC 6184.
+-- Assumes nothing.
 use mathlib.Core.Path.{_≡_}
 use mathlib.Core.List.{List, [], _∷_, map}
 use Prim.Native.Nat.{ℕ, _<_, _≤_}
