@@ -13,7 +13,7 @@ use Rattle.annexb.proofs.Bools.{and-both}
 use Rattle.h264_put.specs.declared.fate.Fate.{Fate}
 use Rattle.h264_put.specs.declared.fate.Fate.the-variants.{Empty, Dropped, Sps, Pps, Coded}
 use Rattle.h264_put.specs.Groups.{Saved, nothingSaved, bothSaved, Group, plain, fateOf, pairFor, fragmentsOf, unitFor, keepAll, groupsOf}
-use Rattle.h264_put.proofs.Measures.{pair-over, pair-sent}
+use Rattle.h264_put.proofs.Sizes.{pair-over, pair-sent}
 use Rattle.h264.specs.Conformance.{unitsIn, carries, carriedIn, isCoded, goesOut, thoseThat}
 use Rattle.h264.specs.Course.{isSps, isPps, latest, Course, quiet, due, unitsOf, Right, Coursed, waitingAfter, alone, groupsIn, some, setsOf, pairFits, sent, isDropped, cannotGo, earlier, earlierSets, replaced, pairsOver, leftOut, total, Same}
 use Rattle.h264.proofs.LeftOut.{unit-carries}

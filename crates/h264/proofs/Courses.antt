@@ -11,8 +11,7 @@ use Rattle.annexb.proofs.Bools.{and-both, or-false-left, or-false-right}
 use Rattle.h264_put.specs.declared.fate.Fate.{Fate}
 use Rattle.h264_put.specs.declared.fate.Fate.the-variants.{Empty, Dropped, Sps, Pps, Coded}
 use Rattle.h264_put.specs.Groups.{Saved, nothingSaved, bothSaved, Group, fateOf, keep, keepBy, keepAll, pairFor, unitFor, groupsBy, groupsFor, groupsOf}
-use Rattle.h264_put.proofs.Measures.{pair-none}
-use Rattle.h264_put.proofs.Sizes.{unit-dropped}
+use Rattle.h264_put.proofs.Sizes.{pair-none, unit-dropped}
 use Rattle.h264.specs.Conformance.{isCoded, goesOut, thoseThat}
 use Rattle.h264.specs.Course.{isSps, isPps, latest, NoPair, Course, quiet, due, unitsOf, Right, Coursed, waitingAfter, alone, groupsIn}
 

@@ -14,8 +14,7 @@ use Rattle.h264_put.specs.declared.fate.Fate.{Fate}
 use Rattle.h264_put.specs.declared.fate.Fate.the-variants.{Empty, Dropped, Sps, Pps, Coded}
 use Rattle.h264_put.specs.Groups.{Saved, Group, pair, plain, fragments, bothSaved, fateOf, keep, stapA, pairFor, fragmentsOf, unitFor, groupsBy, groupsFor, groupsOf}
 use Rattle.h264.specs.Conformance.{rebuilt, unitsIn, isCoded, goesOut, thoseThat}
-use Rattle.h264_put.proofs.Measures.{pair-sent}
-use Rattle.h264_put.proofs.Sizes.{unit-alone, unit-dropped, unit-divided}
+use Rattle.h264_put.proofs.Sizes.{pair-sent, unit-alone, unit-dropped, unit-divided}
 use Rattle.h264.proofs.Parts.{unit-rebuilt}
 
 units-append : (a b : List Group) → unitsIn (a ++ b) ≡ unitsIn a ++ unitsIn b

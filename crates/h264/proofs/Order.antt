@@ -9,7 +9,7 @@ use lib.ListN.{length}
 use Rattle.h264_put.specs.declared.fate.Fate.{Fate}
 use Rattle.h264_put.specs.declared.fate.Fate.the-variants.{Sps, Pps, Coded}
 use Rattle.h264_put.specs.Groups.{Saved, nothingSaved, bothSaved, Group, fateOf, keep, keepBy, keepAll, unitFor, groupsBy, groupsFor, groupsOf}
-use Rattle.h264_put.proofs.Measures.{pair-none}
+use Rattle.h264_put.proofs.Sizes.{pair-none}
 use Rattle.annexb.specs.Units.{unitsAt}
 use Rattle.h264.specs.Frames.{groupsFrom, unitsOfFrames}
 use Rattle.h264.proofs.Courses.{groups-append}

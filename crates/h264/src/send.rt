@@ -16,12 +16,12 @@ ghost use Rattle.h264.specs.Step.{Tidy, Ready, Done};
 use annexb::first_unit;
 use annexb::unit_at;
 use error::Error;
+use h264_measure::Measure;
+use h264_measure::measure_frame;
 use h264_put::Fate;
-use h264_put::Measure;
 use h264_put::Place;
 use h264_put::both;
 use h264_put::fate_of;
-use h264_put::measure_frame;
 use h264_put::put_pair;
 use h264_put::put_unit;
 
