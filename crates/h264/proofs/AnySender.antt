@@ -1,106 +1,167 @@
--- What is asked of any sender ours has: where no set waits, a frame of units that are neither dropped nor saved goes out as its units do, one
--- behind the other. A sender that emits nothing has it not, since every sending has a payload. Assumes nothing.
+-- What is asked of any sender ours has: of plain units every group keeps RFC 6184's rules and carries its units as they are, and the groups go by
+-- the course. Assumes nothing.
 use mathlib.Core.Path.{_≡_, refl, sym, ap, ap₂, subst, _∙_}
-use mathlib.Core.List.{List, [], _∷_, _++_, map, append-assoc}
-use mathlib.Core.Bool.{Bool, true, _||_, or-true}
-use Prim.Native.Nat.{ℕ, _+_, _≤_}
+use mathlib.Core.List.{List, [], _∷_, _++_, map, map-append}
+use mathlib.Core.Bool.{Bool, true, false, cond, _&&_, _||_, true≢false}
+use Prim.Native.Nat.{ℕ, _-_, _%_, _≤_, _<_}
 use native.Mathlib.Omega.{arith}
-use lib.Dec.{leb, lit<, lit≤}
-use lib.ListN.{length, getD, length-append}
-use borrow.Author.Tests.{le-leb}
-use Rattle.rfc6184.specs.Sending.{Each, Nal, Sending, single, stapA, fuA, payloadsOf, unitsOf, payloadsOfAll, unitsOfAll, Lawful, Packetization}
-use Rattle.rfc6184.proofs.Each.{each-append}
-use Rattle.annexb.specs.Units.{unitsAt}
-use Rattle.annexb.specs.AnnexB.{Prefixed, written, Apart, unitsWritten}
+use lib.Dec.{eqb, leb, ltb}
+use lib.ListN.{length}
+use borrow.Author.Tests.{ltb-true, eqb-true}
+use Rattle.annexb.proofs.Bools.{and-both}
+use Rattle.rfc6184.specs.Sending.{Each, Nal, UnitType, Packetization}
+use Rattle.rfc6184.proofs.Each.{each-append, each-by}
+use Rattle.annexb.specs.AnnexB.{unitsWritten}
 use Rattle.h264_put.specs.declared.fate.Fate.{Fate}
-use Rattle.h264_put.specs.declared.fate.Fate.the-variants.{Coded}
-use Rattle.h264_put.specs.Groups.{Saved, nothingSaved, Group, fateOf, keep, keepBy, pairFor, unitFor, groupsBy, groupsFor, groupsOf, packetsOf}
-use Rattle.h264_put.proofs.UnitFates.{coded-some}
-use Rattle.h264_put.proofs.Sizes.{packets-append}
-use Rattle.h264.specs.Conformance.{nal, Plainly, SendsFrames, packetsSent}
+use Rattle.h264_put.specs.declared.fate.Fate.the-variants.{Empty, Dropped, Sps, Pps, Coded}
+use Rattle.h264_put.specs.Groups.{Saved, nothingSaved, bothSaved, Group, pair, plain, fateOf, fateOfType, keep, keepBy, keepAll, stapA, pairFor, fragmentsOf, unitFor, groupsBy, groupsFor, groupsOf, packetsOf}
+use Rattle.h264_put.specs.Step.{isSaved}
+use Rattle.h264.specs.Conformance.{Octets, SavedOctets, nal, nalsOf, nalsOfAll, Regular, carries, carriedIn}
+use Rattle.h264.specs.Course.{Coursed, setsOf, sent, leftOut, total, Same}
+use Rattle.h264.specs.AnySender.{Answered, PlainBy, Plainly, SavedPlainly, Goes, SendsFrames, ours}
 use Rattle.h264.proofs.Fits.{fits}
-use Rattle.h264.proofs.OneUnit.{unit-packetized}
+use Rattle.h264.proofs.Conforms.{packetized}
+use Rattle.h264.proofs.OneUnit.{cleared-same}
 use Rattle.h264.proofs.Frames.{units-written}
+use Rattle.h264.proofs.Courses.{waits-by-course}
+use Rattle.h264.proofs.Accounts.{sent-by-course, accounted}
 
--- ---- two packetizations, one behind the other
+-- ---- plain units in groups
 
-payloads-append : (ss ts : List Sending) → payloadsOfAll (ss ++ ts) ≡ payloadsOfAll ss ++ payloadsOfAll ts
-payloads-append [] ts = refl
-payloads-append (s ∷ ss) ts =
-    ap (λ (l : List (List ℕ)). payloadsOf s ++ l) (payloads-append ss ts) ∙ sym (append-assoc (payloadsOf s) (payloadsOfAll ss) (payloadsOfAll ts))
+-- a group that keeps the rules, and in which F is as its units have it
+record Fair (g : Group) : Type 0 where
+  regular : Regular g
+  whole : nalsOf g ≡ map nal (carries g)
 
-carried-append : (ss ts : List Sending) → unitsOfAll (ss ++ ts) ≡ unitsOfAll ss ++ unitsOfAll ts
-carried-append [] ts = refl
-carried-append (s ∷ ss) ts =
-    ap (λ (l : List Nal). unitsOf s ++ l) (carried-append ss ts) ∙ sym (append-assoc (unitsOf s) (unitsOfAll ss) (unitsOfAll ts))
+-- a set's type is 7 or 8
+set-type : (t : ℕ) → isSaved (fateOfType t) ≡ true → UnitType t
+set-type t = go (eqb t 9 || eqb t 12) (eqb t 7) (eqb t 8) refl refl
+  where
+    go : (a p q : Bool) → eqb t 7 ≡ p → eqb t 8 ≡ q → isSaved (cond a Dropped (cond p Sps (cond q Pps Coded))) ≡ true → UnitType t
+    go true p q e d h = absurd (true≢false (sym h))
+    go false true q e d h = let s : t ≡ 7 = eqb-true t 7 e in record { low = omega arith; high = omega arith }
+    go false false true e d h = let s : t ≡ 8 = eqb-true t 8 d in record { low = omega arith; high = omega arith }
+    go false false false e d h = absurd (true≢false (sym h))
 
-behind : {ps qs : List (List ℕ)} {us vs : List Nal} → Packetization ps us → Packetization qs vs → Packetization (ps ++ qs) (us ++ vs)
-behind a b =
-    record {
-      sendings = a .sendings ++ b .sendings;
-      lawful = each-append Lawful (a .sendings) (b .sendings) (a .lawful) (b .lawful);
-      payloads = ap₂ (λ (x y : List (List ℕ)). x ++ y) (a .payloads) (b .payloads) ∙ sym (payloads-append (a .sendings) (b .sendings));
-      units = ap₂ (λ (x y : List Nal). x ++ y) (a .units) (b .units) ∙ sym (carried-append (a .sendings) (b .sendings));
-    }
+saved-type : (u : List ℕ) → isSaved (fateOf u) ≡ true → UnitType (nal u .type)
+saved-type [] h = absurd (true≢false (sym h))
+saved-type (b ∷ s) h = set-type (b % 32) h
+
+-- the rules, of a unit whose fate is told
+rules-of : (k : Fate) (u : List ℕ) → fateOf u ≡ k → Plainly u → PlainBy k (nal u)
+rules-of k u e p = subst (λ (x : Fate). PlainBy x (nal u)) e (p .rules)
+
+fair-pair : (mtu : ℕ) (v : Saved) → SavedPlainly v → Each Fair (pairFor mtu v)
+unfolding pairFor
+fair-pair mtu v p = go (bothSaved v && leb (length (stapA (v .sps) (v .pps))) mtu) refl
+  where
+    go : (t : Bool) → (bothSaved v && leb (length (stapA (v .sps) (v .pps))) mtu) ≡ t → Each Fair (cond t (pair (v .sps) (v .pps) ∷ []) [])
+    go false e = tt
+    go true e =
+        let two = and-both (ltb 0 (length (v .sps))) (ltb 0 (length (v .pps))) (and-both (bothSaved v) (leb (length (stapA (v .sps) (v .pps))) mtu) e .0) in
+        let sps = p .sps (ltb-true 0 (length (v .sps)) (two .0)) in
+        let pps = p .pps (ltb-true 0 (length (v .pps)) (two .1)) in
+        let a = rules-of Sps (v .sps) (sps .0) (sps .1) in
+        let b = rules-of Pps (v .pps) (pps .0) (pps .1) in (
+          record {
+            regular = (
+              a .0,
+              b .0,
+              omega (arith, a .1, b .1),
+              saved-type (v .sps) (ap isSaved (sps .0)),
+              saved-type (v .pps) (ap isSaved (pps .0)),
+            );
+            whole = refl;
+          },
+          tt,
+        )
+
+fair-unit : (mtu : ℕ) (u : List ℕ) → PlainBy Coded (nal u) → Each Fair (unitFor mtu u)
+unfolding unitFor
+fair-unit mtu u p = go (leb (length u) mtu) (ltb mtu 3) u p
+  where
+    go : (a b : Bool) (x : List ℕ) → PlainBy Coded (nal x) → Each Fair (cond a (plain u ∷ []) (cond b [] (fragmentsOf (mtu - 2) x)))
+    go true b x q = (record { regular = p .1; whole = refl }, tt)
+    go false true x q = tt
+    go false false [] q = tt
+    go false false (b ∷ s) q = (
+      record {
+        regular = q .1;
+        whole = ap (λ (n : Nal). n ∷ []) (cleared-same (nal (b ∷ _)) (q .0));
+      },
+      tt,
+    )
+
+-- what is saved stays plain
+plain-kept : (v : Saved) (u : List ℕ) → SavedPlainly v → Plainly u → SavedPlainly (keep v u)
+unfolding keep
+plain-kept v u p q = go (fateOf u) refl
+  where
+    forgot : (b : Bool) → SavedPlainly (cond b nothingSaved v)
+    forgot true = record { sps = λ h. absurd (omega arith); pps = λ h. absurd (omega arith) }
+    forgot false = p
+
+    go : (k : Fate) → fateOf u ≡ k → SavedPlainly (keepBy k v u)
+    go Empty e = p
+    go Dropped e = p
+    go Sps e = record { sps = λ h. (e, q); pps = p .pps }
+    go Pps e = record { sps = p .sps; pps = λ h. (e, q) }
+    go Coded e = forgot (bothSaved v)
+
+fair-groups : (mtu : ℕ) (v : Saved) (us : List (List ℕ)) → SavedPlainly v → Each Plainly us → Each Fair (groupsOf mtu v us)
+unfolding groupsFor
+fair-groups mtu v [] p q = tt
+fair-groups mtu v (u ∷ us) p q =
+    each-append Fair (groupsBy (fateOf u) mtu v u) (groupsOf mtu (keep v u) us) (go (fateOf u) (q .0 .rules))
+    (fair-groups mtu (keep v u) us (plain-kept v u p (q .0)) (q .1))
+  where
+    go : (k : Fate) → PlainBy k (nal u) → Each Fair (groupsBy k mtu v u)
+    go Empty r = tt
+    go Dropped r = tt
+    go Sps r = tt
+    go Pps r = tt
+    go Coded r = each-append Fair (pairFor mtu v) (unitFor mtu u) (fair-pair mtu v p) (fair-unit mtu u r)
+
+all-whole : (gs : List Group) → Each Fair gs → nalsOfAll gs ≡ map nal (carriedIn gs)
+all-whole [] w = refl
+all-whole (g ∷ gs) w =
+    ap₂ (λ (a b : List Nal). a ++ b) (w .0 .whole) (all-whole gs (w .1)) ∙ sym (map-append nal (carries g) (carriedIn gs))
 
 -- ---- our sender
 
-alone : (mtu : ℕ) (u : List ℕ) → fateOf u ≡ Coded → groupsFor mtu nothingSaved u ≡ unitFor mtu u
-unfolding groupsFor pairFor
-alone mtu u k = ap (λ (x : Fate). groupsBy x mtu nothingSaved u) k
+octets-waiting : (s : List ℕ) → (0 < length s → Octets s) → Octets s
+octets-waiting [] h = tt
+octets-waiting (b ∷ s) h = h (omega arith)
 
-none-kept : (u : List ℕ) → fateOf u ≡ Coded → keep nothingSaved u ≡ nothingSaved
-unfolding keep
-none-kept u k = ap (λ (x : Fate). keepBy x nothingSaved u) k
-
-module _ (mtu : ℕ) (least : 3 ≤ mtu) (most : mtu ≤ 65535) where
-  units-sent : (us : List (List ℕ)) → Each Plainly us → Packetization (packetsOf (groupsOf mtu nothingSaved us)) (map nal us)
-  units-sent [] h = record { sendings = []; lawful = tt; payloads = refl; units = refl }
-  units-sent (u ∷ us) h =
-      let same : packetsOf (groupsOf mtu nothingSaved (u ∷ us)) ≡ packetsOf (unitFor mtu u) ++ packetsOf (groupsOf mtu nothingSaved us) =
-      ap₂ (λ (gs : List Group) (v : Saved). packetsOf (gs ++ groupsOf mtu v us)) (alone mtu u (h .0 .coded)) (none-kept u (h .0 .coded))
-      ∙ packets-append (unitFor mtu u) (groupsOf mtu nothingSaved us) in
-      let cut : (leb (length u) mtu || leb 3 mtu) ≡ true =
-      ap (λ (b : Bool). leb (length u) mtu || b) (le-leb 3 mtu least) ∙ or-true (leb (length u) mtu) in
-      subst (λ (ps : List (List ℕ)). Packetization ps (map nal (u ∷ us))) (sym same)
-      (behind (unit-packetized mtu most u (coded-some u (h .0 .coded)) (h .0 .octets) (h .0 .type) (h .0 .f) cut) (units-sent us (h .1)))
-
-pub sends-frames : SendsFrames packetsSent
-sends-frames mtu end c cs least most apart h = (
-  subst (λ (us : List (List ℕ)). Packetization (packetsOf (groupsOf mtu nothingSaved us)) (map nal (unitsWritten end (c ∷ cs))))
-      (sym (units-written mtu end c cs (omega arith) apart)) (units-sent mtu least most (unitsWritten end (c ∷ cs)) h),
-  fits mtu nothingSaved (unitsAt mtu (written end (c ∷ cs))),
-)
-
--- ---- a sender that emits nothing
-
--- one unit, of one byte
-abbrev slice : List ℕ
-slice = 0x65 ∷ []
-
-slice-apart : Apart slice
-slice-apart =
+saved-octets : (v : Saved) → SavedPlainly v → SavedOctets v
+saved-octets v p =
     record {
-      no-code = λ a b e. let l = ap length e ∙ length-append a (0 ∷ 0 ∷ 1 ∷ b) in omega arith;
-      no-zero = no-zero;
+      sps = octets-waiting (v .sps) (λ h. p .sps h .1 .octets);
+      pps = octets-waiting (v .pps) (λ h. p .pps h .1 .octets);
     }
-  where
-    no-zero : (a : List ℕ) → slice ≡ a ++ (0 ∷ []) → ⊥
-    no-zero [] e = let z = ap (λ (l : List ℕ). getD l 0 0) e in omega arith
-    no-zero (x ∷ a) e = let l = ap length e ∙ length-append (x ∷ a) (0 ∷ []) in omega arith
 
-slice-plainly : Plainly slice
-slice-plainly =
-    record { octets = (lit< tt, tt); coded = refl; type = record { low = lit≤ tt; high = lit≤ tt }; f = refl }
+goes : (mtu : ℕ) (v : Saved) (us : List (List ℕ)) → mtu ≤ 65535 → SavedPlainly v → Each Plainly us → (r : Coursed v us) →
+    Goes mtu v (r .course) (record { packets = packetsOf (groupsOf mtu v us); saved = keepAll v us })
+goes mtu v us most p q r =
+    let gs : List Group = groupsOf mtu v us in
+    let fair : Each Fair gs = fair-groups mtu v us p q in
+    record {
+      carried =
+          subst (Packetization (packetsOf gs)) (all-whole gs fair ∙ ap (map nal) (sent-by-course mtu v us r))
+          (packetized mtu v us most (saved-octets v p) (each-by Octets Plainly (λ u h. h .octets) us q)
+          (each-by Regular Fair (λ g h. h .regular) gs fair));
+      fits = fits mtu v us;
+      waits = waits-by-course v us r;
+    }
 
-pub no-silent-sender : (send : Saved → ℕ → List ℕ → List (List ℕ)) →
-    ((v : Saved) (mtu : ℕ) (frame : List ℕ) → send v mtu frame ≡ []) → SendsFrames send → ⊥
-no-silent-sender send silent s =
-    let p = s 3 0 (record { more = 0; unit = slice }) [] (lit≤ tt) (lit≤ tt) (slice-apart, tt) (slice-plainly, tt) .0 in
-    no-sending (p .sendings) (sym (p .payloads) ∙ silent nothingSaved 3 _) (p .units)
-  where
-    no-sending : (ss : List Sending) → payloadsOfAll ss ≡ [] → nal slice ∷ [] ≡ unitsOfAll ss → ⊥
-    no-sending [] e u = let z = ap length u in omega arith
-    no-sending (single n ∷ ss) e u = let z = ap length e in omega arith
-    no-sending (stapA f nri us ∷ ss) e u = let z = ap length e in omega arith
-    no-sending (fuA g ∷ ss) e u = let z = ap length e in omega arith
+pub sends-frames : SendsFrames ours
+sends-frames mtu v end c cs least most apart p q r =
+    subst (λ (us : List (List ℕ)). Goes mtu v (r .course) (record { packets = packetsOf (groupsOf mtu v us); saved = keepAll v us }))
+    (sym (units-written mtu end c cs least apart)) (goes mtu v (unitsWritten end (c ∷ cs)) most p q r)
+
+-- of any such sender: each unit is once among those that its packets carry, those left out and those that it saves
+pub answer-accounted : (mtu : ℕ) (v : Saved) (us : List (List ℕ)) (r : Coursed v us) (a : Answered) → Goes mtu v (r .course) a →
+    Same (setsOf v ++ us) (sent mtu v (r .course) ++ (leftOut mtu v (r .course) ++ setsOf (a .saved)))
+answer-accounted mtu v us r a g weight =
+    accounted mtu v us r weight
+    ∙ sym (ap (λ (w : Saved). total weight (sent mtu v (r .course) ++ (leftOut mtu v (r .course) ++ setsOf w))) (g .waits))

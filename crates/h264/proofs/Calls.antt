@@ -11,14 +11,14 @@ use borrow.Author.Tests.{ltb-false, le-ltb}
 use Rattle.error.specs.Said.{says}
 use Rattle.wire.specs.Packets.{Sink, Room, joined, putAll}
 use Rattle.wire.proofs.Packets.{putAll-whole, joined-append}
-use Rattle.h264_put.specs.declared.measure.Measure.{Measure}
+use Rattle.h264_measure.specs.declared.Measure.{Measure}
 use Rattle.h264.specs.declared.send.H264Payloader.{H264Payloader}
 use Rattle.annexb.specs.Units.{units, noUnits, unitsAt}
 use Rattle.h264_put.specs.Groups.{Saved, keep, keepAll, groupsFor, groupsOf, packetsOf}
 use Rattle.h264.specs.Payload.{layOut, savedIn, outside, overLimit, tooSmall, Left, refusedWith, emptySink, sentAs, leftBy, payloadOf}
 use Rattle.h264_put.specs.Step.{tooLong}
 use Rattle.h264.specs.Step.{Tidy, Done}
-use Rattle.h264_put.specs.Step.{Lengths, measured, measuredAll, nothingYet}
+use Rattle.h264_measure.specs.Measured.{Lengths, measured, measuredAll, nothingYet}
 use Rattle.annexb.proofs.Bools.{or-false-left, or-false-right}
 use Rattle.h264_put.proofs.Sizes.{packets-append}
 use Rattle.h264.proofs.State.{Short, saved-laid, tidy-laid}

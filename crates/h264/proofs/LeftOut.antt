@@ -14,8 +14,7 @@ use Rattle.h264_put.specs.declared.fate.Fate.{Fate}
 use Rattle.h264_put.specs.declared.fate.Fate.the-variants.{Empty, Dropped, Sps, Pps, Coded}
 use Rattle.h264_put.specs.Groups.{Saved, Group, pair, plain, fragments, bothSaved, fateOf, keep, stapA, pairFor, fragmentsOf, unitFor, groupsBy, groupsFor, groupsOf}
 use Rattle.h264.specs.Conformance.{rebuilt, unitsIn, isCoded, goesOut, thoseThat}
-use Rattle.h264_put.proofs.Measures.{pair-sent}
-use Rattle.h264_put.proofs.Sizes.{unit-alone, unit-dropped, unit-divided}
+use Rattle.h264_put.proofs.Sizes.{pair-sent, unit-alone, unit-dropped, unit-divided}
 use Rattle.h264.proofs.Parts.{unit-rebuilt}
 
 units-append : (a b : List Group) → unitsIn (a ++ b) ≡ unitsIn a ++ unitsIn b
@@ -36,7 +35,7 @@ fragments-carry : (mtu : ℕ) (u : List ℕ) → 3 ≤ mtu → mtu < length u �
 fragments-carry mtu [] g h = absurd (omega arith)
 fragments-carry mtu (b ∷ s) g h = ap (λ (u : List ℕ). u ∷ []) (unit-rebuilt (mtu - 2) b s (omega arith) (omega arith))
 
-unit-carries : (mtu : ℕ) (u : List ℕ) → unitsIn (unitFor mtu u) ≡ cond (leb (length u) mtu || leb 3 mtu) (u ∷ []) []
+pub unit-carries : (mtu : ℕ) (u : List ℕ) → unitsIn (unitFor mtu u) ≡ cond (leb (length u) mtu || leb 3 mtu) (u ∷ []) []
 unit-carries mtu u = go (decLe (length u) mtu) (decLe 3 mtu)
   where
     said : (a b : Bool) → leb (length u) mtu ≡ a → leb 3 mtu ≡ b → cond (a || b) (u ∷ []) [] ≡ cond (leb (length u) mtu || leb 3 mtu) (u ∷ []) []

@@ -10,6 +10,11 @@ pub mod OneUnit
 pub mod FrameUnits
 pub mod StartEnd
 pub mod Only
+pub mod Courses
+pub mod Accounts
+pub mod Order
 pub mod Frames
 pub mod AnySender
+pub mod WrongSenders
 pub mod Sender
+pub mod Rows

@@ -17,6 +17,9 @@ use Rattle.h264.proofs.Parts.{unit-rebuilt}
 use Rattle.h264.proofs.Fits.{unit-sendable}
 use Rattle.h264.proofs.Conforms.{unit-headed, all-laid, all-units, all-lawful}
 
+pub cleared-same : (n : Nal) → n .f ≡ 0 → cleared n ≡ n
+cleared-same n f = ap (λ (x : ℕ). record { f = x; nri = n .nri; type = n .type; payload = n .payload }) (sym f)
+
 module _ (mtu : ℕ) (small : mtu ≤ 65535) (u : List ℕ) (some : 0 < length u) (o : Octets u) (t : UnitType (nal u .type)) where
   sent-as : (n : Nal) → Each Regular (unitFor mtu u) → nalsOfAll (unitFor mtu u) ≡ n ∷ [] → Packetization (packetsOf (unitFor mtu u)) (n ∷ [])
   sent-as n r e =
@@ -51,12 +54,9 @@ module _ (mtu : ℕ) (small : mtu ≤ 65535) (u : List ℕ) (some : 0 < length u
   pub unit-packetized : nal u .f ≡ 0 → (leb (length u) mtu || leb 3 mtu) ≡ true → Packetization (packetsOf (unitFor mtu u)) (nal u ∷ [])
   unit-packetized f e = go (decLe (length u) mtu) (decLe 3 mtu)
     where
-      same : cleared (nal u) ≡ nal u
-      same = ap (λ (x : ℕ). record { f = x; nri = nal u .nri; type = nal u .type; payload = nal u .payload }) (sym f)
-
       go : Dec (length u ≤ mtu) → Dec (3 ≤ mtu) → Packetization (packetsOf (unitFor mtu u)) (nal u ∷ [])
       go (yes h) d = alone-packetized h
       go (no h) (yes g) =
-          subst (λ (n : Nal). Packetization (packetsOf (unitFor mtu u)) (n ∷ [])) same (divided-packetized g (omega arith))
+          subst (λ (n : Nal). Packetization (packetsOf (unitFor mtu u)) (n ∷ [])) (cleared-same (nal u) f) (divided-packetized g (omega arith))
       go (no h) (no g) =
           absurd (true≢false (sym e ∙ ap₂ (λ (x y : Bool). x || y) (lt-leb (length u) mtu (omega arith)) (lt-leb 3 mtu (omega arith))))

@@ -1,24 +1,33 @@
 -- What is proved of the sender, sentence by sentence; each cites one theorem. `payload`'s contract says that the packets written are
 -- `packetsOf (groupsOf mtu saved units)`, so what is said here of those is said of every call. Assumes nothing.
 use mathlib.Core.Path.{_≡_}
-use mathlib.Core.List.{List, [], _∷_}
+use mathlib.Core.List.{List, [], _∷_, _++_}
 use mathlib.Core.Bool.{true, _||_}
 use Prim.Native.Nat.{ℕ, _+_, _≤_, _<_}
 use lib.Dec.{leb}
 use lib.ListN.{length}
 use Rattle.error.specs.Only.{Determined}
 use Rattle.rfc6184.specs.Sending.{Each, UnitType, Packetization}
-use Rattle.h264.specs.declared.send.H264Payloader.{H264Payloader}
 use Rattle.annexb.specs.Units.{unitsAt}
-use Rattle.h264_put.specs.Groups.{Saved, fragments, unitFor, groupsOf, packetsOfGroup, packetsOf}
-use Rattle.h264.specs.Payload.{left, payloadOf}
 use Rattle.annexb.specs.AnnexB.{Prefixed, written, Apart, unitsWritten}
-use Rattle.h264.specs.Conformance.{Octets, SavedOctets, nal, nalsOfAll, Regular, Sendable, unitsIn, goesOut, thoseThat, startBit, endBit, SendsFrames, packetsSent}
+use Rattle.h264_put.specs.declared.fate.Fate.the-variants.{Sps, Pps, Coded}
+use Rattle.h264_put.specs.Groups.{Saved, bothSaved, pair, fragments, fateOf, keepAll, unitFor, groupsFor, groupsOf, packetsOfGroup, packetsOf}
+use Rattle.h264.specs.declared.send.H264Payloader.{H264Payloader}
+use Rattle.h264.specs.Payload.{left, payloadOf}
+use Rattle.h264.specs.Frames.{groupsFrom, unitsOfFrames}
+use Rattle.h264.specs.Conformance.{Octets, SavedOctets, nal, nalsOfAll, Regular, Sendable, unitsIn, carriedIn, goesOut, thoseThat, startBit, endBit}
+use Rattle.h264.specs.Course.{latest, NoPair, Coursed, waitingAfter, groupsIn, setsOf, sent, leftOut, Same}
+use Rattle.h264.specs.AnySender.{Answered, Sender, Goes, SendsFrames, ours, Silent, KeepsEarlierSps, KeepsEarlierPps}
 use Rattle.h264.proofs.Fits as F
 use Rattle.h264.proofs.Frames as A
+use Rattle.h264.proofs.LeftOut as L
+use Rattle.h264.proofs.Courses as K
+use Rattle.h264.proofs.Accounts as B
+use Rattle.h264.proofs.Order as R
 use Rattle.h264.proofs.Conforms as C
 use Rattle.h264.proofs.OneUnit as U
 use Rattle.h264.proofs.AnySender as N
+use Rattle.h264.proofs.WrongSenders as W
 use Rattle.h264.proofs.StartEnd as S
 use Rattle.h264.proofs.Only as O
 
@@ -36,19 +45,87 @@ pub unit-by-rfc6184 : (mtu : ℕ) → mtu ≤ 65535 → (u : List ℕ) → 0 < l
     (leb (length u) mtu || leb 3 mtu) ≡ true → Packetization (packetsOf (unitFor mtu u)) (nal u ∷ [])
 unit-by-rfc6184 = U.unit-packetized
 
--- A frame of such units, as an encoder writes it, is sent as a packetization of exactly these units. A sender that emits nothing does not so.
-pub frame-by-rfc6184 : SendsFrames packetsSent
+-- ---- what is asked of any sender
+
+-- A frame of plain units, as an encoder writes it, goes out by the course of its units: as a packetization of exactly those that are to be sent, in
+-- that order, and the sets that wait in the end are kept.
+pub frame-by-rfc6184 : SendsFrames ours
 frame-by-rfc6184 = N.sends-frames
 
-pub no-silent-sender : (send : Saved → ℕ → List ℕ → List (List ℕ)) →
-    ((v : Saved) (mtu : ℕ) (frame : List ℕ) → send v mtu frame ≡ []) → SendsFrames send → ⊥
-no-silent-sender = N.no-silent-sender
+-- Where an answer goes by the course, each unit that waited or came is once among those that the packets carry, those left out and those saved.
+pub answer-accounted : (mtu : ℕ) (v : Saved) (us : List (List ℕ)) (r : Coursed v us) (a : Answered) → Goes mtu v (r .course) a →
+    Same (setsOf v ++ us) (sent mtu v (r .course) ++ (leftOut mtu v (r .course) ++ setsOf (a .saved)))
+answer-accounted = N.answer-accounted
 
--- Nothing but empty units, types 9 and 12, saved sets and what cannot fit is left out of a frame as an encoder writes it.
-pub nothing-else-left-out : (mtu : ℕ) (v : Saved) (end : ℕ) (c : Prefixed) (cs : List Prefixed) → 0 < mtu →
+-- A sender that emits nothing does not send so, nor one that keeps the earlier of two sets of a kind.
+pub no-silent-sender : (send : Sender) → Silent send → SendsFrames send → ⊥
+no-silent-sender = W.no-silent-sender
+
+pub no-earlier-sps : (send : Sender) → KeepsEarlierSps send → SendsFrames send → ⊥
+no-earlier-sps = W.no-earlier-sps
+
+pub no-earlier-pps : (send : Sender) → KeepsEarlierPps send → SendsFrames send → ⊥
+no-earlier-pps = W.no-earlier-pps
+
+-- ---- which units go out, whatever their bytes
+
+-- The units of a frame as an encoder writes it are those that it wrote.
+pub units-of-frame : (mtu end : ℕ) (c : Prefixed) (cs : List Prefixed) → 0 < mtu → Each (λ (x : Prefixed). Apart (x .unit)) (c ∷ cs) →
+    unitsAt mtu (written end (c ∷ cs)) ≡ unitsWritten end (c ∷ cs)
+units-of-frame = A.units-written
+
+-- Every list of units has a course: it is cut behind each coded unit at which a pair is due.
+pub every-list-has-a-course : (v : Saved) (us : List (List ℕ)) → Coursed v us
+every-list-has-a-course = K.has-course
+
+-- Of each kind the latest set is kept, until a coded unit has both before it; then both are forgotten, whether they fit or not.
+pub latest-kept : (v : Saved) (us : List (List ℕ)) → NoPair v us → keepAll v us ≡ latest v us
+latest-kept = K.latest-kept
+
+pub waits-by-course : (v : Saved) (us : List (List ℕ)) (r : Coursed v us) → keepAll v us ≡ waitingAfter v (r .course)
+waits-by-course = K.waits-by-course
+
+-- A pair goes out exactly there, the sequence parameter set first, if it fits the mtu; all else that goes out are the coded units, in their order.
+pub groups-by-course : (v : Saved) (us : List (List ℕ)) (r : Coursed v us) (mtu : ℕ) → groupsOf mtu v us ≡ groupsIn mtu v (r .course)
+groups-by-course = K.groups-by-course
+
+pub pair-first : (mtu : ℕ) (v : Saved) (u : List ℕ) → fateOf u ≡ Coded → bothSaved v ≡ true → 5 + length (v .sps) + length (v .pps) ≤ mtu →
+    groupsFor mtu v u ≡ pair (v .sps) (v .pps) ∷ unitFor mtu u
+pair-first = L.pair-first
+
+-- Nothing is left out of what waited and came but empty units, types 9 and 12, what cannot fit, sets that were replaced by a later one, pairs that do
+-- not fit, and sets that still wait: each unit is once among these and those sent.
+pub nothing-else-left-out : (mtu : ℕ) (v : Saved) (us : List (List ℕ)) (r : Coursed v us) →
+    Same (setsOf v ++ us) (carriedIn (groupsOf mtu v us) ++ (leftOut mtu v (r .course) ++ setsOf (keepAll v us)))
+nothing-else-left-out = B.each-once
+
+-- Of a frame as an encoder writes it the coded units go out in their order, but for those that cannot fit.
+pub coded-in-order : (mtu : ℕ) (v : Saved) (end : ℕ) (c : Prefixed) (cs : List Prefixed) → 0 < mtu →
     Each (λ (x : Prefixed). Apart (x .unit)) (c ∷ cs) →
     unitsIn (groupsOf mtu v (unitsAt mtu (written end (c ∷ cs)))) ≡ thoseThat (goesOut mtu) (unitsWritten end (c ∷ cs))
-nothing-else-left-out = A.frame-sent
+coded-in-order = A.frame-sent
+
+-- ---- where the order and the time of sets are not those in which they came
+
+-- A set that waits alone goes out as if it had come behind a coded unit that came behind it.
+pub sps-passed : (mtu : ℕ) (v : Saved) (set u : List ℕ) (us : List (List ℕ)) → fateOf set ≡ Sps → fateOf u ≡ Coded → v .pps ≡ [] →
+    groupsOf mtu v (set ∷ u ∷ us) ≡ groupsOf mtu v (u ∷ set ∷ us)
+sps-passed = R.sps-passed
+
+pub pps-passed : (mtu : ℕ) (v : Saved) (set u : List ℕ) (us : List (List ℕ)) → fateOf set ≡ Pps → fateOf u ≡ Coded → v .sps ≡ [] →
+    groupsOf mtu v (set ∷ u ∷ us) ≡ groupsOf mtu v (u ∷ set ∷ us)
+pps-passed = R.pps-passed
+
+-- Which of the two sets came first makes no difference.
+pub either-order : (mtu : ℕ) (v : Saved) (sps pps : List ℕ) (us : List (List ℕ)) → fateOf sps ≡ Sps → fateOf pps ≡ Pps →
+    groupsOf mtu v (pps ∷ sps ∷ us) ≡ groupsOf mtu v (sps ∷ pps ∷ us)
+either-order = R.either-order
+
+-- Nor does the frame in which a unit came.
+pub borders-unseen : (mtu : ℕ) (v : Saved) (frames : List (List ℕ)) → groupsFrom mtu v frames ≡ groupsOf mtu v (unitsOfFrames mtu frames)
+borders-unseen = R.borders-unseen
+
+-- ---- each group
 
 -- Every group is one that can be sent: a unit's parts are full but the last, none is empty, and together they are its body.
 pub every-group-sendable : (mtu : ℕ) (v : Saved) (us : List (List ℕ)) → Each (Sendable mtu) (groupsOf mtu v us)

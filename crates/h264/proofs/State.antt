@@ -17,7 +17,7 @@ use Rattle.h264_put.specs.Groups.{Saved, Group, pair, nothingSaved, bothSaved, 
 use Rattle.h264.specs.Payload.{setOut, layOut, savedIn}
 use Rattle.h264.specs.Step.{Tidy}
 use Rattle.h264_put.proofs.Sinks.{length-stapA}
-use Rattle.h264_put.proofs.Measures.{pair-none, pair-over, pair-sent}
+use Rattle.h264_put.proofs.Sizes.{pair-none, pair-over, pair-sent}
 
 -- a set copied into zeros
 pub set-copied : (s b : List ℕ) → length s ≤ 1024 → b ≡ splice (replicate 1024 0) 0 s → _≡_ {A = ParameterSet} (record { bytes = b; len = length s }) (setOut s)

@@ -46,15 +46,17 @@ module _ (h : H264Payloader) (mtu : ℕ) (u : List ℕ) (s : Sink) (r : Ready h 
   pub short-pps : fateOf u ≡ Pps → length u ≤ 1024
   short-pps e = short-by Pps e refl
 
-  pub done-sps : fateOf u ≡ Sps → (set : ParameterSet) → set ≡ setOut u → Done (keep (savedIn h) u) (groupsFor mtu (savedIn h) u) s (record { sps = set; pps = h .pps }) s
-  done-sps e set q =
-      done-by Sps e (record { sps = set; pps = h .pps }) s
-      (ap₂ (λ (a b : ParameterSet). record { sps = a; pps = b }) q (ap (λ (x : H264Payloader). x .pps) (r .tidy .laid))) refl
+  pub done-sps : fateOf u ≡ Sps → (h′ : H264Payloader) → (h′ .sps ≡ setOut u) × (h′ .pps ≡ h .pps) →
+      Done (keep (savedIn h) u) (groupsFor mtu (savedIn h) u) s h′ s
+  done-sps e h′ q =
+      done-by Sps e h′ s
+      (ap₂ (λ (a b : ParameterSet). record { sps = a; pps = b }) (q .0) (q .1 ∙ ap (λ (x : H264Payloader). x .pps) (r .tidy .laid))) refl
 
-  pub done-pps : fateOf u ≡ Pps → (set : ParameterSet) → set ≡ setOut u → Done (keep (savedIn h) u) (groupsFor mtu (savedIn h) u) s (record { sps = h .sps; pps = set }) s
-  done-pps e set q =
-      done-by Pps e (record { sps = h .sps; pps = set }) s
-      (ap₂ (λ (a b : ParameterSet). record { sps = a; pps = b }) (ap (λ (x : H264Payloader). x .sps) (r .tidy .laid)) q) refl
+  pub done-pps : fateOf u ≡ Pps → (h′ : H264Payloader) → (h′ .sps ≡ h .sps) × (h′ .pps ≡ setOut u) →
+      Done (keep (savedIn h) u) (groupsFor mtu (savedIn h) u) s h′ s
+  done-pps e h′ q =
+      done-by Pps e h′ s
+      (ap₂ (λ (a b : ParameterSet). record { sps = a; pps = b }) (q .0 ∙ ap (λ (x : H264Payloader). x .sps) (r .tidy .laid)) (q .1)) refl
 
   -- the pair, then the unit
   module _ (e : fateOf u ≡ Coded) where

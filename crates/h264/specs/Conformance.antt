@@ -7,12 +7,10 @@ use Prim.Native.Nat.{ℕ, _+_, _-_, _/_, _%_, _<_, _≤_, max}
 use lib.Dec.{leb}
 use lib.ListN.{length, getD}
 use Rattle.wire.specs.Packets.{joined}
-use Rattle.rfc6184.specs.Sending.{Each, Nal, nalOf, Part, Fragmented, Sending, single, stapA, fuA, payloadsOfAll, unitsOfAll, FormedSending, UnitType, Packetization}
-use Rattle.annexb.specs.Units.{unitsAt}
-use Rattle.annexb.specs.AnnexB.{Prefixed, written, Apart, unitsWritten}
+use Rattle.rfc6184.specs.Sending.{Each, Nal, nalOf, Part, Fragmented, Sending, single, stapA, fuA, payloadsOfAll, unitsOfAll, FormedSending, UnitType}
 use Rattle.h264_put.specs.declared.fate.Fate.{Fate}
 use Rattle.h264_put.specs.declared.fate.Fate.the-variants.{Empty, Dropped, Sps, Pps, Coded}
-use Rattle.h264_put.specs.Groups.{Saved, nothingSaved, Group, pair, plain, fragments, fateOf, groupsOf, packetsOf}
+use Rattle.h264_put.specs.Groups.{Saved, Group, pair, plain, fragments, fateOf}
 
 -- bytes are octets
 abbrev pub Octets : List ℕ → Type 0
@@ -101,6 +99,16 @@ unitsIn (pair sps pps ∷ gs) = unitsIn gs
 unitsIn (plain u ∷ gs) = u ∷ unitsIn gs
 unitsIn (fragments head first middle last ∷ gs) = rebuilt head first middle last ∷ unitsIn gs
 
+-- all units that groups carry, in the order of sending
+abbrev pub carries : Group → List (List ℕ)
+carries (pair sps pps) = sps ∷ pps ∷ []
+carries (plain u) = u ∷ []
+carries (fragments head first middle last) = rebuilt head first middle last ∷ []
+
+abbrev pub carriedIn : List Group → List (List ℕ)
+carriedIn [] = []
+carriedIn (g ∷ gs) = carries g ++ carriedIn gs
+
 abbrev pub isCoded : Fate → Bool
 isCoded Empty = false
 isCoded Dropped = false
@@ -122,25 +130,3 @@ startBit p = getD p 1 0 / 128 % 2
 
 abbrev pub endBit : List ℕ → ℕ
 endBit p = getD p 1 0 / 64 % 2
-
--- ---- what is asked of any sender
-
--- a unit that goes out under any mtu from 3 on, and with which RFC 6184's rules are kept: neither dropped nor saved, of a type 1 to 23, F clear
-pub record Plainly (u : List ℕ) : Type 0 where
-  pub octets : Octets u
-  pub coded : fateOf u ≡ Coded
-  pub type : UnitType (nal u .type)
-  pub f : nal u .f ≡ 0
-
--- a frame of such units, as an encoder writes it, is sent as a packetization of exactly these units, where no set waits; and every
--- packet fits the mtu
-abbrev pub SendsFrames : (Saved → ℕ → List ℕ → List (List ℕ)) → Type 0
-SendsFrames send =
-    (mtu end : ℕ) (c : Prefixed) (cs : List Prefixed) → 3 ≤ mtu → mtu ≤ 65535 → Each (λ (x : Prefixed). Apart (x .unit)) (c ∷ cs) →
-    Each Plainly (unitsWritten end (c ∷ cs)) →
-    Packetization (send nothingSaved mtu (written end (c ∷ cs))) (map nal (unitsWritten end (c ∷ cs)))
-    × Each (λ (p : List ℕ). length p ≤ mtu) (send nothingSaved mtu (written end (c ∷ cs)))
-
--- our sender: the packets of a frame, where v is saved
-abbrev pub packetsSent : Saved → ℕ → List ℕ → List (List ℕ)
-packetsSent v mtu frame = packetsOf (groupsOf mtu v (unitsAt mtu frame))

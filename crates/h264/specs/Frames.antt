@@ -16,6 +16,11 @@ groupsFrom mtu v (frame ∷ frames) =
 abbrev pub groupsSent : ℕ → List (List ℕ) → List Group
 groupsSent mtu frames = groupsFrom mtu nothingSaved frames
 
+-- the units of frames, one frame behind the other
+abbrev pub unitsOfFrames : ℕ → List (List ℕ) → List (List ℕ)
+unitsOfFrames mtu [] = []
+unitsOfFrames mtu (frame ∷ frames) = unitsAt mtu frame ++ unitsOfFrames mtu frames
+
 -- P of a unit "unless type 7, 8, 9 or 12"
 abbrev pub WhereCoded : (List ℕ → Type 0) → Fate → List ℕ → Type 0
 WhereCoded P Empty u = Unit {0}

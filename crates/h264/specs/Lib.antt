@@ -1,4 +1,6 @@
 pub mod Payload
 pub mod Step
 pub mod Conformance
+pub mod Course
+pub mod AnySender
 pub mod Frames

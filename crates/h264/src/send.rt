@@ -16,12 +16,12 @@ ghost use Rattle.h264.specs.Step.{Tidy, Ready, Done};
 use annexb::first_unit;
 use annexb::unit_at;
 use error::Error;
+use h264_measure::Measure;
+use h264_measure::measure_frame;
 use h264_put::Fate;
-use h264_put::Measure;
 use h264_put::Place;
 use h264_put::both;
 use h264_put::fate_of;
-use h264_put::measure_frame;
 use h264_put::put_pair;
 use h264_put::put_unit;
 
@@ -90,6 +90,26 @@ impl H264Payloader {
         }
     }
 
+    // A sequence parameter set is saved, in the place of one that waits.
+    fn with_sps(self, set: &[u8]) -> H264Payloader
+        requires { ⌜ length (now set) ≤ 1024 ⌝ }
+        ensures { λ r. ⌜ (r .sps ≡ setOut (now (set .entry))) × (r .pps ≡ self .pps) ⌝ }
+    {
+        let sps = ParameterSet::of(set);
+        let pps = self.pps;
+        H264Payloader { sps, pps }
+    }
+
+    // A picture parameter set, likewise.
+    fn with_pps(self, set: &[u8]) -> H264Payloader
+        requires { ⌜ length (now set) ≤ 1024 ⌝ }
+        ensures { λ r. ⌜ (r .sps ≡ self .sps) × (r .pps ≡ setOut (now (set .entry))) ⌝ }
+    {
+        let sps = self.sps;
+        let pps = ParameterSet::of(set);
+        H264Payloader { sps, pps }
+    }
+
     // The pair is forgotten where both sets wait.
     fn forget(self) -> H264Payloader
         requires { ⌜ Tidy self ⌝ }
@@ -134,8 +154,6 @@ impl H264Payloader {
         ensures { λ r. ⌜ Done (keep (savedIn self) (now (unit .entry))) (groupsFor mtu (savedIn self) (now (unit .entry)))
             (sinkAt (now (out .entry)) (now (ends .entry)) to) (r .sender) (sinkAt (now (out .exit)) (now (ends .exit)) (r .place)) ⌝ }
     {
-        let sps = self.sps;
-        let pps = self.pps;
         match fate_of(unit) {
             Fate::Empty => Emitted {
                 sender: self,
@@ -146,17 +164,11 @@ impl H264Payloader {
                 place: to,
             },
             Fate::Sps => Emitted {
-                sender: H264Payloader {
-                    sps: ParameterSet::of(unit),
-                    pps,
-                },
+                sender: self.with_sps(unit),
                 place: to,
             },
             Fate::Pps => Emitted {
-                sender: H264Payloader {
-                    sps,
-                    pps: ParameterSet::of(unit),
-                },
+                sender: self.with_pps(unit),
                 place: to,
             },
             Fate::Coded => {

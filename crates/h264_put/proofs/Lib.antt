@@ -2,4 +2,3 @@ pub mod Sinks
 pub mod Fragments
 pub mod UnitFates
 pub mod Sizes
-pub mod Measures

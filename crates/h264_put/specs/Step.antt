@@ -1,17 +1,14 @@
--- What is put into output and table, and how much a frame's packets take. Assumes nothing.
-use mathlib.Core.Path.{_≡_}
-use mathlib.Core.List.{List, [], _∷_}
-use mathlib.Core.Bool.{Bool, true, false, _&&_, _||_}
-use Prim.Native.Nat.{ℕ, _+_, _*_, _≤_}
+-- What is put into output and table, and which units are too long. Assumes nothing.
+use mathlib.Core.List.{List}
+use mathlib.Core.Bool.{Bool, true, false, _&&_}
+use Prim.Native.Nat.{ℕ}
 use lib.Dec.{ltb}
 use lib.ListN.{length}
-use Rattle.wire.specs.Packets.{Sink, joined}
+use Rattle.wire.specs.Packets.{Sink}
 use Rattle.h264_put.specs.declared.fate.Fate.{Fate}
 use Rattle.h264_put.specs.declared.fate.Fate.the-variants.{Empty, Dropped, Sps, Pps, Coded}
 use Rattle.h264_put.specs.declared.put.Place.{Place}
-use Rattle.h264_put.specs.declared.measure.Size.{Size}
-use Rattle.h264_put.specs.declared.measure.Measure.{Measure}
-use Rattle.h264_put.specs.Groups.{Saved, fateOf, keep, groupsFor, packetsOf}
+use Rattle.h264_put.specs.Groups.{fateOf}
 
 -- output and table, written up to a place
 abbrev pub sinkAt : List ℕ → List ℕ → Place → Sink
@@ -28,47 +25,3 @@ isSaved Coded = false
 -- 7: "an SPS or PPS to be saved is over 1,024"
 abbrev pub tooLong : List ℕ → Bool
 tooLong u = isSaved (fateOf u) && ltb 1024 (length u)
-
--- ---- measuring
-
--- how many packets, and how many bytes they have
-unfoldable pub sizeOf : List (List ℕ) → Size
-sizeOf ps = record { packets = length ps; bytes = length (joined ps) }
-
--- the saved sets have these lengths
-pub record Lengths (v : Saved) (sps pps : ℕ) : Type 0 where
-  pub of-sps : length (v .sps) ≡ sps
-  pub of-pps : length (v .pps) ≡ pps
-
--- a measure so small that a unit more still fits a machine's number
-pub record Small (m : Measure) : Type 0 where
-  pub packets : m .packets ≤ 70000 * 16777216
-  pub bytes : m .bytes ≤ 70000 * 16777216
-  pub sps : m .sps ≤ 16777216
-  pub pps : m .pps ≤ 16777216
-
--- how far a unit of `len` bytes lets it grow
-pub record Grown (m : Measure) (len : ℕ) (r : Measure) : Type 0 where
-  pub packets : r .packets ≤ m .packets + len + 1
-  pub bytes : r .bytes ≤ m .bytes + 3 * len + 65535
-  pub sps : r .sps ≤ 16777216
-  pub pps : r .pps ≤ 16777216
-
--- m and what one unit takes, where v is saved
-unfoldable pub measured : Measure → ℕ → Saved → List ℕ → Measure
-measured m mtu v u =
-    let packets : List (List ℕ) = packetsOf (groupsFor mtu v u) in
-    record {
-      packets = m .packets + length packets;
-      bytes = m .bytes + length (joined packets);
-      sps = length (keep v u .sps);
-      pps = length (keep v u .pps);
-      long = m .long || tooLong u;
-    }
-
-abbrev pub measuredAll : Measure → ℕ → Saved → List (List ℕ) → Measure
-measuredAll m mtu v [] = m
-measuredAll m mtu v (u ∷ us) = measuredAll (measured m mtu v u) mtu (keep v u) us
-
-abbrev pub nothingYet : ℕ → ℕ → Measure
-nothingYet sps pps = record { packets = 0; bytes = 0; sps = sps; pps = pps; long = false }

@@ -1,8 +1,7 @@
-// What the H.264 sender goes by: what is to be done with a unit, how much a frame's packets take, and packets put into one output.
+// What the H.264 sender goes by: what is to be done with a unit, and packets put into one output.
 //
 // Only proved code calls this crate, so its functions may ask that the buffers have room.
 mod fate;
-mod measure;
 mod put;
 
 pub use fate::AUD_NALU_TYPE;
@@ -12,8 +11,6 @@ pub use fate::PPS_NALU_TYPE;
 pub use fate::SPS_NALU_TYPE;
 pub use fate::both;
 pub use fate::fate_of;
-pub use measure::Measure;
-pub use measure::measure_frame;
 pub use put::Place;
 pub use put::put_pair;
 pub use put::put_unit;

@@ -6,18 +6,18 @@ use borrow.Author.Needs.{needs}
 use Rattle.h264.proofs.send.H264Payloader.emit.Statement.{statement}
 use Rattle.h264.proofs.send.H264Payloader.emit.Tie as tie
 
-of-requires : tie.Need-of-requires
-of-requires c κs =
+with-sps-requires : tie.Need-with-sps-requires
+with-sps-requires c κs =
     let arm = c in
-    let start = arm .before .before .before .before .before .before .before .before in
+    let start = arm .before .before .before .before .before .before in
     let s = sinkAt (start .args .out .now) (start .args .ends .now) (start .args .to) in
     short-sps (start .args .self) (start .args .mtu) (start .args .unit .now) s (start .pre)
     (sym (arm .before .before .fate-of .ensures) ∙ arm .enum-told3 .given .1)
 
-of-requires-2 : tie.Need-of-requires-2
-of-requires-2 c κs =
+with-pps-requires : tie.Need-with-pps-requires
+with-pps-requires c κs =
     let arm = c in
-    let start = arm .before .before .before .before .before .before .before .before in
+    let start = arm .before .before .before .before .before .before in
     let s = sinkAt (start .args .out .now) (start .args .ends .now) (start .args .to) in
     short-pps (start .args .self) (start .args .mtu) (start .args .unit .now) s (start .pre)
     (sym (arm .before .before .fate-of .ensures) ∙ arm .enum-told4 .given .1)
@@ -25,20 +25,16 @@ of-requires-2 c κs =
 put-waiting-requires : tie.Need-put-waiting-requires
 put-waiting-requires c κs =
     let arm = c .before .before in
-    let start = arm .before .before .before .before .before .before .before .before in
+    let start = arm .before .before .before .before .before .before in
     let s = sinkAt (start .args .out .now) (start .args .ends .now) (start .args .to) in
     let room = room-pair (start .args .self) (start .args .mtu) (start .args .unit .now) s (start .pre)
     (sym (arm .before .before .fate-of .ensures) ∙ arm .enum-told5 .given .1) in
     (start .pre .tidy, room)
 
-forget-requires : tie.Need-forget-requires
-forget-requires c κs
-    = c .before .before .before .before .before .before .before .before .before .before .before .before .before .before .before .pre .tidy
-
 put-unit-requires : tie.Need-put-unit-requires
 put-unit-requires c κs =
     let arm = c .before .before .before .before .before .before .before .before .before .before in
-    let start = arm .before .before .before .before .before .before .before .before in
+    let start = arm .before .before .before .before .before .before in
     let s = sinkAt (start .args .out .now) (start .args .ends .now) (start .args .to) in
     room-unit (start .args .self) (start .args .mtu) (start .args .unit .now) s (start .pre)
     (sym (arm .before .before .fate-of .ensures) ∙ arm .enum-told5 .given .1) _
@@ -47,7 +43,7 @@ put-unit-requires c κs =
 returns : tie.Need-returns
 returns c =
     let arm = c in
-    let start = arm .before .before .before .before .before .before .before .before in
+    let start = arm .before .before .before .before .before .before in
     let s = sinkAt (start .args .out .now) (start .args .ends .now) (start .args .to) in
     done-empty (start .args .self) (start .args .mtu) (start .args .unit .now) s (start .pre)
     (sym (arm .before .before .fate-of .ensures) ∙ arm .enum-told .given .1)
@@ -55,7 +51,7 @@ returns c =
 returns-2 : tie.Need-returns-2
 returns-2 c =
     let arm = c in
-    let start = arm .before .before .before .before .before .before .before .before in
+    let start = arm .before .before .before .before .before .before in
     let s = sinkAt (start .args .out .now) (start .args .ends .now) (start .args .to) in
     done-dropped (start .args .self) (start .args .mtu) (start .args .unit .now) s (start .pre)
     (sym (arm .before .before .fate-of .ensures) ∙ arm .enum-told2 .given .1)
@@ -63,23 +59,23 @@ returns-2 c =
 returns-3 : tie.Need-returns-3
 returns-3 c =
     let arm = c .before in
-    let start = arm .before .before .before .before .before .before .before .before in
+    let start = arm .before .before .before .before .before .before in
     let s = sinkAt (start .args .out .now) (start .args .ends .now) (start .args .to) in
     done-sps (start .args .self) (start .args .mtu) (start .args .unit .now) s (start .pre)
-    (sym (arm .before .before .fate-of .ensures) ∙ arm .enum-told3 .given .1) (c .of .result) (c .of .ensures)
+    (sym (arm .before .before .fate-of .ensures) ∙ arm .enum-told3 .given .1) (c .with-sps .result) (c .with-sps .ensures)
 
 returns-4 : tie.Need-returns-4
 returns-4 c =
     let arm = c .before in
-    let start = arm .before .before .before .before .before .before .before .before in
+    let start = arm .before .before .before .before .before .before in
     let s = sinkAt (start .args .out .now) (start .args .ends .now) (start .args .to) in
     done-pps (start .args .self) (start .args .mtu) (start .args .unit .now) s (start .pre)
-    (sym (arm .before .before .fate-of .ensures) ∙ arm .enum-told4 .given .1) (c .of2 .result) (c .of2 .ensures)
+    (sym (arm .before .before .fate-of .ensures) ∙ arm .enum-told4 .given .1) (c .with-pps .result) (c .with-pps .ensures)
 
 returns-5 : tie.Need-returns-5
 returns-5 c =
     let arm = c .before .before .before .before .before .before .before .before .before .before .before .before .before .before .before in
-    let start = arm .before .before .before .before .before .before .before .before in
+    let start = arm .before .before .before .before .before .before in
     let s = sinkAt (start .args .out .now) (start .args .ends .now) (start .args .to) in
     let forgot = c .before .before .before .before .before .before .before .forget in
     done-coded (start .args .self) (start .args .mtu) (start .args .unit .now) s (start .pre)
@@ -95,12 +91,12 @@ emit-spec =
     (λ c. search needs)
     (λ c. search needs)
     (λ c. search needs)
-    of-requires
+    with-sps-requires
     (λ c. search needs)
-    of-requires-2
+    with-pps-requires
     (λ c. search needs)
     put-waiting-requires
-    forget-requires
+    (λ c κs. search needs)
     put-unit-requires
     returns
     returns-2

@@ -1,10 +1,10 @@
 -- One law for each fate.
 use mathlib.Core.Path.{refl, sym, _∙_}
-use Rattle.h264_put.proofs.Measures.{measured-empty, measured-dropped, measured-sps, measured-pps}
+use Rattle.h264_measure.proofs.Measures.{measured-empty, measured-dropped, measured-sps, measured-pps}
 use Rattle.h264_put.proofs.UnitFates.{coded-some}
 use borrow.Author.Needs.{needs}
-use Rattle.h264_put.proofs.measure.Measure.add.Statement.{statement}
-use Rattle.h264_put.proofs.measure.Measure.add.Tie as tie
+use Rattle.h264_measure.proofs.Measure.add.Statement.{statement}
+use Rattle.h264_measure.proofs.Measure.add.Tie as tie
 
 coded-requires : tie.Need-coded-requires
 coded-requires c κs =

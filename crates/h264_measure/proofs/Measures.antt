@@ -5,40 +5,22 @@ use mathlib.Core.Bool.{Bool, true, false, cond, _&&_, _||_, or-false}
 use Prim.Native.Nat.{ℕ, _+_, _-_, _*_, _≤_, _<_}
 use native.Mathlib.Nat.{add-zero}
 use native.Mathlib.Omega.{arith}
-use lib.Dec.{leb, ltb}
+use lib.Dec.{ltb}
 use lib.ListN.{length, take, drop, length-append}
-use borrow.Author.Tests.{le-leb, lt-leb}
 use Rattle.wire.specs.Packets.{joined}
 use Rattle.wire.proofs.Packets.{joined-append}
 use Rattle.h264_put.specs.declared.fate.Fate.{Fate}
 use Rattle.h264_put.specs.declared.fate.Fate.the-variants.{Empty, Dropped, Sps, Pps, Coded}
 use Rattle.annexb.specs.declared.Piece.{Piece}
-use Rattle.h264_put.specs.declared.measure.Size.{Size}
-use Rattle.h264_put.specs.declared.measure.Measure.{Measure}
+use Rattle.h264_measure.specs.declared.Size.{Size}
+use Rattle.h264_measure.specs.declared.Measure.{Measure}
 use Rattle.annexb.specs.Units.{pieces, units, Pieced}
 use Rattle.h264_put.specs.Groups.{Saved, Group, pair, nothingSaved, bothSaved, fateOf, keep, keepBy, stapA, pairFor, unitFor, groupsFor, groupsBy, packetsOf}
 use Rattle.h264_put.specs.Step.{isSaved}
-use Rattle.h264_put.specs.Step.{sizeOf, Lengths, Grown, measured, measuredAll, nothingYet}
+use Rattle.h264_measure.specs.Measured.{sizeOf, Lengths, Grown, measured, measuredAll, nothingYet}
 use Rattle.annexb.proofs.Pieces.{piece-length, piece-onward, piece-more, piece-end}
 use Rattle.h264_put.proofs.Sinks.{length-stapA}
-use Rattle.h264_put.proofs.Sizes.{packets-append}
-
--- ---- the pair
-
-pair-by : (mtu : ℕ) (v : Saved) (both fits : Bool) → bothSaved v ≡ both → leb (length (stapA (v .sps) (v .pps))) mtu ≡ fits →
-    pairFor mtu v ≡ cond (both && fits) (pair (v .sps) (v .pps) ∷ []) []
-unfolding pairFor
-pair-by mtu v both fits e q = ap₂ (λ (x y : Bool). cond (x && y) (pair (v .sps) (v .pps) ∷ []) []) e q
-
-pub pair-none : (mtu : ℕ) (v : Saved) → bothSaved v ≡ false → pairFor mtu v ≡ []
-pair-none mtu v e = pair-by mtu v false (leb (length (stapA (v .sps) (v .pps))) mtu) e refl
-
-pub pair-over : (mtu : ℕ) (v : Saved) → bothSaved v ≡ true → mtu < 5 + length (v .sps) + length (v .pps) → pairFor mtu v ≡ []
-pair-over mtu v e h = pair-by mtu v true false e (lt-leb (length (stapA (v .sps) (v .pps))) mtu (rw (length-stapA (v .sps) (v .pps)) h))
-
-pub pair-sent : (mtu : ℕ) (v : Saved) → bothSaved v ≡ true → 5 + length (v .sps) + length (v .pps) ≤ mtu →
-    pairFor mtu v ≡ pair (v .sps) (v .pps) ∷ []
-pair-sent mtu v e h = pair-by mtu v true true e (le-leb (length (stapA (v .sps) (v .pps))) mtu (rw (length-stapA (v .sps) (v .pps)) h))
+use Rattle.h264_put.proofs.Sizes.{packets-append, pair-none, pair-over, pair-sent}
 
 -- ---- the measure
 

@@ -4,10 +4,10 @@ use native.Mathlib.Omega.{arith}
 use lib.ListN.{length}
 use borrow.Author.Tests.{not-true, not-false}
 use Rattle.annexb.proofs.Pieces.{piece-length, piece-onward}
-use Rattle.h264_put.proofs.Measures.{Measuring, measuring-first, measuring-on, measuring-last}
+use Rattle.h264_measure.proofs.Measures.{Measuring, measuring-first, measuring-on, measuring-last}
 use borrow.Author.Needs.{needs}
-use Rattle.h264_put.proofs.measure.measure_frame.Statement.{statement}
-use Rattle.h264_put.proofs.measure.measure_frame.Tie as tie
+use Rattle.h264_measure.proofs.measure_frame.Statement.{statement}
+use Rattle.h264_measure.proofs.measure_frame.Tie as tie
 
 abbrev Inv-loop : tie.InvT-loop
 Inv-loop frame mtu sps pps start₀ m₀ start m = Measuring frame mtu sps pps start m

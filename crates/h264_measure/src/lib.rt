@@ -1,21 +1,21 @@
 // How much the packets of a frame take, from lengths alone.
 //
 // A refusal changes nothing, and a set that is too long may come behind units that can be sent: so all is measured before
-// a byte is written.
+// a byte is written. Only proved code calls this crate, so its functions may ask that a frame is within the limits.
 ghost use mathlib.Core.Path.{_≡_};
 ghost use mathlib.Core.List.{List};
 ghost use Prim.Native.Nat.{ℕ, _+_, _*_, _≤_, _<_};
 ghost use mathlib.Core.Bool.{_||_};
 ghost use lib.Dec.{ltb};
 ghost use lib.ListN.{length};
 ghost use Rattle.h264_put.specs.Groups.{Saved, fateOf, unitFor, packetsOf};
 ghost use Rattle.annexb.specs.Units.{units};
-ghost use Rattle.h264_put.specs.Step.{sizeOf, Lengths, Small, Grown, measured, measuredAll, nothingYet};
-use crate::fate::Fate;
-use crate::fate::both;
-use crate::fate::fate_of;
+ghost use Rattle.h264_measure.specs.Measured.{sizeOf, Lengths, Small, Grown, measured, measuredAll, nothingYet};
 use annexb::first_unit;
 use annexb::unit_at;
+use h264_put::Fate;
+use h264_put::both;
+use h264_put::fate_of;
 
 pub struct Size {
     pub packets: usize,

@@ -1,9 +1,9 @@
 -- A pair before the unit or not, by the code's tests.
 use mathlib.Core.Path.{sym, _∙_}
-use Rattle.h264_put.proofs.Measures.{coded-none, coded-over, coded-sent}
+use Rattle.h264_measure.proofs.Measures.{coded-none, coded-over, coded-sent}
 use borrow.Author.Needs.{needs}
-use Rattle.h264_put.proofs.measure.Measure.coded.Statement.{statement}
-use Rattle.h264_put.proofs.measure.Measure.coded.Tie as tie
+use Rattle.h264_measure.proofs.Measure.coded.Statement.{statement}
+use Rattle.h264_measure.proofs.Measure.coded.Tie as tie
 
 returns : tie.Need-returns
 returns c =

@@ -2,10 +2,10 @@
 use Prim.Native.Nat.{ℕ, _≤_, _-_, _/_}
 use native.Mathlib.Omega.{arith}
 use native.Mathlib.Nat.{div-le-self}
-use Rattle.h264_put.proofs.Sizes.{alone, dropped, divided}
+use Rattle.h264_measure.proofs.Counts.{alone, dropped, divided}
 use borrow.Author.Needs.{needs}
-use Rattle.h264_put.proofs.measure.unit_size.Statement.{statement}
-use Rattle.h264_put.proofs.measure.unit_size.Tie as tie
+use Rattle.h264_measure.proofs.unit_size.Statement.{statement}
+use Rattle.h264_measure.proofs.unit_size.Tie as tie
 
 -- no more fragments than bytes
 few : (len mtu : ℕ) → (len - 2) / (mtu - 2) ≤ len - 2
