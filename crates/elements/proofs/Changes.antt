@@ -20,11 +20,11 @@ use Rattle.elements.proofs.Elements.{dataOf-append}
 use Rattle.elements.proofs.Packed.{PackedIn, length-elementsOf, length-dataOf}
 use Rattle.elements.proofs.Runs.{data-split}
 
--- ---- either no element has the id, or one is the first that has it
+-- ---- absent-or-first no element has the id, or one is the first that has it
 
-pub either : (id : ℕ) (es : List Element) → Absent id es ⊎ First id es
-either id [] = inl tt
-either id (e ∷ es) = go (eqb (e .id) id) refl (either id es)
+pub absent-or-first : (id : ℕ) (es : List Element) → Absent id es ⊎ First id es
+absent-or-first id [] = inl tt
+absent-or-first id (e ∷ es) = go (eqb (e .id) id) refl (absent-or-first id es)
   where
     go : (b : Bool) → eqb (e .id) id ≡ b → Absent id es ⊎ First id es → Absent id (e ∷ es) ⊎ First id (e ∷ es)
     go true q s = inr (record { front = []; held = e; back = es; whole = refl; others = tt; named = eqb-true (e .id) id q })
@@ -195,7 +195,7 @@ placed-first id es f =
     })
 
 pub placed : (id : ℕ) (es : List Element) → Placed id es (runOf id 0 0 es)
-placed id es = ⊎-elim (placed-absent id es) (placed-first id es) (either id es)
+placed id es = ⊎-elim (placed-absent id es) (placed-first id es) (absent-or-first id es)
 
 -- ---- how long a list is with a run replaced, and what its limits say
 

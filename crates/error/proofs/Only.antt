@@ -40,9 +40,9 @@ spoken (refused r) = refused (refusalOf (errorOf r))
 abbrev pub Sayable : {A : Type 0} → Said A → Type 0
 Sayable x = spoken x ≡ x
 
-pub either : {A : Type 0} {x y : Said A} (b : Bool) → Sayable x → Sayable y → Sayable (cond b x y)
-either true p q = p
-either false p q = q
+pub either-sayable : {A : Type 0} {x y : Said A} (b : Bool) → Sayable x → Sayable y → Sayable (cond b x y)
+either-sayable true p q = p
+either-sayable false p q = q
 
 pub known : {A : Type 0} {r : Refusal} → Sayable {A = A} (refused r) → refusalOf (errorOf r) ≡ r
 known e = cc

@@ -12,7 +12,8 @@ use Rattle.error.specs.Only.{Determined}
 use Rattle.error.proofs.Inverse.{errorOf, errorOf-refusalOf}
 use Rattle.error.proofs.Only.{by-value, by-view, Sayable, known, tested}
 use Rattle.wire.specs.Turns.{run}
-use Rattle.nal_read.specs.Kind.{Shape, short, unknown, plain, aggregate, fragment, shape, bit}
+use Rattle.wire.specs.Net.{bit}
+use Rattle.nal_read.specs.Kind.{Shape, short, unknown, plain, aggregate, fragment, shape}
 use Rattle.nal_read.specs.Unpack.{unpack}
 use Rattle.nal.specs.Fed.{Run, gathered, runOf, Fed, Laid}
 use Rattle.nal.specs.Ran.{RanOn, layRun}

@@ -7,7 +7,8 @@ use Prim.Native.Nat.{ℕ, _+_, _-_, _/_, _%_}
 use lib.Dec.{ltb, eqb, leb}
 use lib.ListN.{length, take, drop, getD}
 use Rattle.error.specs.Said.{Said, says, refused, refuse}
-use Rattle.nal_read.specs.Kind.{Shape, short, unknown, plain, aggregate, fragment, shape, bit}
+use Rattle.wire.specs.Net.{bit}
+use Rattle.nal_read.specs.Kind.{Shape, short, unknown, plain, aggregate, fragment, shape}
 use Rattle.nal_read.specs.Unpack.{unpack}
 use Rattle.nal.specs.Fed.{Run, gathered, runOf, Fed, ongoing, finished, Laid}
 use Rattle.nal.specs.Ran.{handing, RanOn, layRun}

@@ -12,11 +12,11 @@ use lib.ListN.{length, take, drop, getD, length-map, take-append-drop}
 use lib.Seq.{length-take-le}
 use borrow.Author.Tests.{ltb-false, eqb-true, eqb-false}
 use Rattle.error.specs.Said.{Said, says, refused, refuse}
-use Rattle.wire.specs.Net.{be16}
+use Rattle.wire.specs.Net.{be16, bit}
 use Rattle.wire.specs.Turns.{more, done, after, run}
 use Rattle.wire.proofs.Net.{be16-of-u16}
 use Rattle.wire.proofs.Part.{part-of-splice}
-use Rattle.nal_read.specs.Kind.{Shape, short, unknown, plain, aggregate, shape, bit}
+use Rattle.nal_read.specs.Kind.{Shape, short, unknown, plain, aggregate, shape}
 use Rattle.nal_read.specs.Kind as kind
 use Rattle.nal_read.specs.Unpack.{Unpacking, unpackTurn, unpack, sizedUnits}
 use Rattle.nal.specs.Fed.{gathered, runOf, Fed, ongoing, finished, prefixed, Laid}

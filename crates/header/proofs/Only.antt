@@ -10,8 +10,8 @@ use Rattle.error.specs.Refusal.{Refusal}
 use Rattle.error.specs.Said.{Said, says, refused, refuse}
 use Rattle.error.specs.Only.{Determined}
 use Rattle.error.proofs.Inverse.{errorOf, errorOf-refusalOf}
-use Rattle.error.proofs.Only.{by-value, by-view, spoken, Sayable, either, known, passed}
-use Rattle.wire.specs.Net.{u16At}
+use Rattle.error.proofs.Only.{by-value, by-view, spoken, Sayable, either-sayable, known, passed}
+use Rattle.wire.specs.Net.{u16At, bit}
 use Rattle.wire.specs.Part.{padTo}
 use Rattle.wire.specs.Turns.{Turn, more, done, after, run}
 use Rattle.elements.specs.declared.Extensions.{Extensions}
@@ -35,7 +35,7 @@ use Rattle.header.specs.declared.IdCount.{IdCount}
 use Rattle.header.specs.declared.IdCount.the-variants as ids
 use Rattle.header.specs.declared.Ids.{Ids}
 use Rattle.header.specs.Fields.{fieldsOf, blank, inDomain}
-use Rattle.header.specs.Read.{Reading, bit, countOf, fixedLength, readingOf, readExtension, readFixed, readHeader}
+use Rattle.header.specs.Read.{Reading, countOf, fixedLength, readingOf, readExtension, readFixed, readHeader}
 use Rattle.header.specs.Size.{payloadLength, headerSize, lengthAsked, sizeAsked}
 use Rattle.header_write.specs.Judge.{judged}
 use Rattle.header.specs.Write.{octetsOf, inWritingDomain, writeHeader}
@@ -64,13 +64,13 @@ pub get-extension-payload-len-only : (h : Header) → Determined (λ (r : Length
 unfolding lengthAsked
 get-extension-payload-len-only h =
     length-only (lengthAsked h)
-    (either {x = says (payloadLength (fieldsOf h))} {y = refuse 8} (inDomain h) refl refl)
+    (either-sayable {x = says (payloadLength (fieldsOf h))} {y = refuse 8} (inDomain h) refl refl)
 
 pub marshal-size-only : (h : Header) → Determined (λ (r : Length). saidLength r ≡ sizeAsked h)
 unfolding sizeAsked
 marshal-size-only h =
     length-only (sizeAsked h)
-    (either {x = says (headerSize (fieldsOf h))} {y = refuse 8} (inDomain h) refl refl)
+    (either-sayable {x = says (headerSize (fieldsOf h))} {y = refuse 8} (inDomain h) refl refl)
 
 -- ---- writing
 
@@ -99,8 +99,8 @@ pub judged-sayable : {A : Type 0} (on : Bool) (form : Form) (len count : ℕ) (x
 judged-sayable true one-byte len count x = refl
 judged-sayable true two-byte len count x = refl
 judged-sayable true other len count x =
-    either {x = cond (eqb count 1) (says x) (refuse 10)} {y = refuse 9} (eqb (len % 4) 0)
-    (either {x = says x} {y = refuse 10} (eqb count 1) refl refl) refl
+    either-sayable {x = cond (eqb count 1) (says x) (refuse 10)} {y = refuse 9} (eqb (len % 4) 0)
+    (either-sayable {x = says x} {y = refuse 10} (eqb count 1) refl refl) refl
 judged-sayable false form len count x = refl
 
 write-sayable : (h : Header) (room : ℕ) → Sayable (writeHeader h room)
@@ -111,8 +111,8 @@ write-sayable h room =
     let count : ℕ = length (fieldsOf h .elements) in
     let octets : List ℕ = octetsOf (fieldsOf h) in
     let asked : Said (List ℕ) = cond (h .extension) (judged form n count (says octets)) (says octets) in
-    either {x = cond (ltb room (headerSize (fieldsOf h))) (refuse 5) asked} {y = refuse 8} (inWritingDomain h)
-    (either {x = refuse 5} {y = asked} (ltb room (headerSize (fieldsOf h))) refl (judged-sayable (h .extension) form n count octets))
+    either-sayable {x = cond (ltb room (headerSize (fieldsOf h))) (refuse 5) asked} {y = refuse 8} (inWritingDomain h)
+    (either-sayable {x = refuse 5} {y = asked} (ltb room (headerSize (fieldsOf h))) refl (judged-sayable (h .extension) form n count octets))
     refl
 
 pub marshal-to-only : (h : Header) (buf : List ℕ) → Determined (λ (a : Left). heardLeft a ≡ written buf (writeHeader h (length buf)))
@@ -161,7 +161,7 @@ unfolding wholeBlock
 block-sayable one-byte b = run-sayable (itemsBy false) (b .left + 1) b
 block-sayable two-byte b = run-sayable (itemsBy true) (b .left + 1) b
 block-sayable other b =
-    either {x = says (with-element (record { id = 0; bytes = take (b .left) (b .rest) }) (skip (b .left) b))} {y = refuse 7}
+    either-sayable {x = says (with-element (record { id = 0; bytes = take (b .left) (b .rest) }) (skip (b .left) b))} {y = refuse 7}
     (roomFor (b .elements) (b .left)) refl refl
 
 reading-sayable : (s : List ℕ) (cc profile : ℕ) (x : Said Block) → Sayable x → Sayable (readingOf s cc profile x)
@@ -173,8 +173,8 @@ unfolding readExtension
 extension-sayable s cc at =
     let block : Said Block = readBlock (formOf (u16At s at)) (blockAt s (at + 4) (4 * u16At s (at + 2))) in
     let rest : Said Reading = readingOf s cc (u16At s at) block in
-    either {x = refuse 2} {y = cond (ltb (length s) (at + 4 + 4 * u16At s (at + 2))) (refuse 2) rest} (ltb (length s) (at + 4)) refl
-    (either {x = refuse 2} {y = rest} (ltb (length s) (at + 4 + 4 * u16At s (at + 2))) refl
+    either-sayable {x = refuse 2} {y = cond (ltb (length s) (at + 4 + 4 * u16At s (at + 2))) (refuse 2) rest} (ltb (length s) (at + 4)) refl
+    (either-sayable {x = refuse 2} {y = rest} (ltb (length s) (at + 4 + 4 * u16At s (at + 2))) refl
     (reading-sayable s cc (u16At s at) block (block-sayable (formOf (u16At s at)) (blockAt s (at + 4) (4 * u16At s (at + 2))))))
 
 fixed-sayable : (s : List ℕ) (cc : ℕ) → Sayable (readFixed s cc)
@@ -182,15 +182,15 @@ unfolding readFixed
 fixed-sayable s cc =
     let plain : Said Reading = readingOf s cc 0 (says (blockAt s (fixedLength cc) 0)) in
     let extended : Said Reading = readExtension s cc (fixedLength cc) in
-    either {x = refuse 1} {y = cond (bit (getD s 0 0 / 16)) extended plain} (ltb (length s) (fixedLength cc)) refl
-    (either {x = extended} {y = plain} (bit (getD s 0 0 / 16)) (extension-sayable s cc (fixedLength cc)) refl)
+    either-sayable {x = refuse 1} {y = cond (bit (getD s 0 0 / 16)) extended plain} (ltb (length s) (fixedLength cc)) refl
+    (either-sayable {x = extended} {y = plain} (bit (getD s 0 0 / 16)) (extension-sayable s cc (fixedLength cc)) refl)
 
 pub read-sayable : (s : List ℕ) → Sayable (readHeader s)
 unfolding readHeader
 read-sayable s =
     let fixed : Said Reading = readFixed s (countOf s) in
-    either {x = refuse 8} {y = cond (ltb (length s) 4) (refuse 1) fixed} (ltb 65535 (length s)) refl
-    (either {x = refuse 1} {y = fixed} (ltb (length s) 4) refl (fixed-sayable s (countOf s)))
+    either-sayable {x = refuse 8} {y = cond (ltb (length s) 4) (refuse 1) fixed} (ltb 65535 (length s)) refl
+    (either-sayable {x = refuse 1} {y = fixed} (ltb (length s) 4) refl (fixed-sayable s (countOf s)))
 
 abbrev readOf : Said ℕ → HeaderRead
 readOf (says place) = read.Payload place
@@ -247,16 +247,16 @@ change-only h x s =
     by-view heardChange changedOf changedOf-heard (changedOf (changeHeard h x)) (changeHeard h x) (heard-changedOf h x s)
 
 limited-sayable : (es : List Element) (h : Header) → Sayable (limited es h)
-limited-sayable es h = either {x = says h} {y = refuse 7} (leb (length es) 32 && leb (length (dataOf es)) 1024) refl refl
+limited-sayable es h = either-sayable {x = says h} {y = refuse 7} (leb (length es) 32 && leb (length (dataOf es)) 1024) refl refl
 
 id-sayable : (form : Form) (id len : ℕ) (next : Said Header) → Sayable next → Sayable (idRefusal form id len next)
 id-sayable one-byte id len next s =
-    either {x = cond (leb len 16) next (refuse 12)} {y = refuse 11} (leb 1 id && leb id 14)
-    (either {x = next} {y = refuse 12} (leb len 16) s refl) refl
+    either-sayable {x = cond (leb len 16) next (refuse 12)} {y = refuse 11} (leb 1 id && leb id 14)
+    (either-sayable {x = next} {y = refuse 12} (leb len 16) s refl) refl
 id-sayable two-byte id len next s =
-    either {x = cond (leb len 255) next (refuse 14)} {y = refuse 13} (leb 1 id)
-    (either {x = next} {y = refuse 14} (leb len 255) s refl) refl
-id-sayable other id len next s = either {x = next} {y = refuse 10} (eqb id 0) s refl
+    either-sayable {x = cond (leb len 255) next (refuse 14)} {y = refuse 13} (leb 1 id)
+    (either-sayable {x = next} {y = refuse 14} (leb len 255) s refl) refl
+id-sayable other id len next s = either-sayable {x = next} {y = refuse 10} (eqb id 0) s refl
 
 found-sayable : (h : Header) (es : List Element) (id : ℕ) (bytes : List ℕ) (f : Found) → Sayable (setFound h es id bytes f)
 found-sayable h es id bytes absent = limited-sayable (append id bytes es) _
@@ -266,8 +266,8 @@ set-sayable : (h : Header) (id : ℕ) (bytes : List ℕ) → Sayable (setExtensi
 unfolding setExtension setLater setFirst
 set-sayable h id bytes =
     let es : List Element = fieldsOf h .elements in
-    either {x = cond (h .extension) (setLater h es id bytes) (setFirst h es id bytes)} {y = refuse 8} (inDomain h)
-    (either {x = setLater h es id bytes} {y = setFirst h es id bytes} (h .extension)
+    either-sayable {x = cond (h .extension) (setLater h es id bytes) (setFirst h es id bytes)} {y = refuse 8} (inDomain h)
+    (either-sayable {x = setLater h es id bytes} {y = setFirst h es id bytes} (h .extension)
     (id-sayable (formOf (h .«extension_profile»)) id (length bytes) (setFound h es id bytes (find id 0 es))
     (found-sayable h es id bytes (find id 0 es)))
     (limited-sayable (append id bytes es) _))
@@ -285,8 +285,8 @@ del-sayable : (h : Header) (id : ℕ) → Sayable (delExtension h id)
 unfolding delExtension
 del-sayable h id =
     let es : List Element = fieldsOf h .elements in
-    either {x = cond (h .extension) (delFound h es id (find id 0 es)) (refuse 16)} {y = refuse 8} (inDomain h)
-    (either {x = delFound h es id (find id 0 es)} {y = refuse 16} (h .extension) (deleted-sayable h es id (find id 0 es)) refl) refl
+    either-sayable {x = cond (h .extension) (delFound h es id (find id 0 es)) (refuse 16)} {y = refuse 8} (inDomain h)
+    (either-sayable {x = delFound h es id (find id 0 es)} {y = refuse 16} (h .extension) (deleted-sayable h es id (find id 0 es)) refl) refl
 
 pub del-extension-only : (h : Header) (id : ℕ) → Determined (λ (r : Changed). heardChange r ≡ changeHeard h (delExtension h id))
 del-extension-only h id = change-only h (delExtension h id) (del-sayable h id)
@@ -313,7 +313,7 @@ unfolding getExtension
 get-extension-only h id =
     let answer : Said Found = says (cond (h .extension) (find id 0 (fieldsOf h .elements)) absent) in
     by-view saidGot gotOf gotOf-said (gotOf (getExtension h id)) (getExtension h id)
-    (said-gotOf (getExtension h id) ∙ either {x = answer} {y = refuse 8} (inDomain h) refl refl)
+    (said-gotOf (getExtension h id) ∙ either-sayable {x = answer} {y = refuse 8} (inDomain h) refl refl)
 
 abbrev countedOf : Said ℕ → IdCount
 countedOf (says n) = ids.Ids n
@@ -338,4 +338,4 @@ unfolding getExtensionIds
 get-extension-ids-only h =
     let answer : Said (List ℕ) = says (cond (h .extension) (map (λ (e : Element). e .id) (fieldsOf h .elements)) []) in
     by-view heardIds idsOf idsOf-heard (idsOf (idsHeard (getExtensionIds h))) (idsHeard (getExtensionIds h))
-    (heard-idsOf (getExtensionIds h) (either {x = answer} {y = refuse 8} (inDomain h) refl refl))
+    (heard-idsOf (getExtensionIds h) (either-sayable {x = answer} {y = refuse 8} (inDomain h) refl refl))

@@ -19,7 +19,7 @@ use Rattle.elements.specs.Runs.{Stands, element}
 use Rattle.elements.proofs.Elements.{dataOf-append, take-laid, elementsOf-layElements}
 use Rattle.elements.proofs.Packed.{PackedIn, length-elementsOf, length-dataOf}
 use Rattle.elements.proofs.Runs.{run-data}
-use Rattle.elements.proofs.Changes.{either, one, stands-one, find-first, find-absent, replace-first, remove-first}
+use Rattle.elements.proofs.Changes.{absent-or-first, one, stands-one, find-first, find-absent, replace-first, remove-first}
 use Rattle.block.specs.Form.{Form, one-byte, two-byte, other, formOf, perElement}
 use Rattle.block.specs.Padding.{grown, shrunk, resized}
 use Rattle.block_write.proofs.Octets.{both}
@@ -96,7 +96,7 @@ module _ (h : Header) (p : PackedIn (h .extensions)) (d : inDomain h ≡ true) (
       ap (λ (g : Found). shows h (says g)) (find-first id es f)
       ∙ ap (λ (b : List ℕ). says (holds b)) (shown-first f)
       ∙ ap says (sym (lookup-first id es f)))
-      (either id es)
+      (absent-or-first id es)
 
 -- ---- a record with other elements
 
@@ -239,7 +239,7 @@ module _ (h : Header) (id : ℕ) (bytes : List ℕ) (h′ : Header) where
       (change-makes h _ (replace id bytes old) _ h′ d
       (resized-bound (h .«extensions_padding») (length (f .held .bytes)) (length bytes) zeros)
       (sym (ap (setFound h old id bytes) (find-first id old f)) ∙ passed)))
-      (either id old)
+      (absent-or-first id old)
 
   pub set-makes : setExtension h id bytes ≡ says h′ → SetTo h id bytes h′
   unfolding setExtension fieldsOf
@@ -304,7 +304,7 @@ module _ (h : Header) (a : Arrays h) (id : ℕ) (h′ : Header) where
               whole = sym (said (sym (ap (delFound h all id) (find-first id all f)) ∙ e));
             };
       })
-      (either id all)
+      (absent-or-first id all)
 
   pub del-makes : delExtension h id ≡ says h′ → DeletedTo h id h′
   unfolding delExtension fieldsOf

@@ -11,7 +11,7 @@ use borrow.Author.Tests.{eq-eqb, ne-eqb, lt-ltb, le-ltb}
 use Rattle.error.specs.declared.Error.{Error}
 use Rattle.error.specs.Refusal.{refusalOf}
 use Rattle.error.specs.Said.{Said, says, refused, refuse}
-use Rattle.wire.specs.Net.{u16At, u32At}
+use Rattle.wire.specs.Net.{u16At, u32At, bit}
 use Rattle.wire.specs.Part.{padTo}
 use Rattle.elements.specs.declared.Extensions.{Extensions}
 use Rattle.elements.specs.Elements.{layElements}
@@ -25,7 +25,7 @@ use Rattle.header.specs.declared.HeaderRead.{HeaderRead}
 use Rattle.header.specs.declared.HeaderRead.the-variants as read
 use Rattle.header.specs.declared.Unmarshalled.{Unmarshalled}
 use Rattle.header.specs.Fields.{Fields, layOut, blank}
-use Rattle.header.specs.Read.{bit, csrcsAt, fieldsAt, readingOf, readExtension, fixedLength, countOf, readFixed, Reading, readHeader}
+use Rattle.header.specs.Read.{csrcsAt, fieldsAt, readingOf, readExtension, fixedLength, countOf, readFixed, Reading, readHeader}
 use Rattle.header.specs.Said.{saidRead, Heard, heard, readingHeard, headerAt}
 
 -- ---- the CSRCs
@@ -202,9 +202,9 @@ abbrev Inside : ℕ → Said Reading → Type 0
 Inside n (says r) = r .place ≤ n
 Inside n (refused r) = Unit
 
-either : (n : ℕ) (t : Bool) (x y : Said Reading) → Inside n x → Inside n y → Inside n (cond t x y)
-either n true x y a b = a
-either n false x y a b = b
+inside-test : (n : ℕ) (t : Bool) (x y : Said Reading) → Inside n x → Inside n y → Inside n (cond t x y)
+inside-test n true x y a b = a
+inside-test n false x y a b = b
 
 inside-block : (s : List ℕ) (cc profile : ℕ) (b : Said Block) → Inside (length s) (readingOf s cc profile b)
 inside-block s cc profile (says b) = omega arith
@@ -215,8 +215,8 @@ unfolding readExtension
 inside-extension s cc at =
     let b : Said Block = readBlock (formOf (u16At s at)) (blockAt s (at + 4) (4 * u16At s (at + 2))) in
     let whole : Said Reading = readingOf s cc (u16At s at) b in
-    either (length s) (ltb (length s) (at + 4)) (refuse 2) (cond (ltb (length s) (at + 4 + 4 * u16At s (at + 2))) (refuse 2) whole) tt
-    (either (length s) (ltb (length s) (at + 4 + 4 * u16At s (at + 2))) (refuse 2) whole tt (inside-block s cc (u16At s at) b))
+    inside-test (length s) (ltb (length s) (at + 4)) (refuse 2) (cond (ltb (length s) (at + 4 + 4 * u16At s (at + 2))) (refuse 2) whole) tt
+    (inside-test (length s) (ltb (length s) (at + 4 + 4 * u16At s (at + 2))) (refuse 2) whole tt (inside-block s cc (u16At s at) b))
 
 inside-header : (s : List ℕ) → Inside (length s) (readHeader s)
 unfolding readHeader readFixed
@@ -224,10 +224,10 @@ inside-header s =
     let n : ℕ = length s in
     let cc : ℕ = countOf s in
     let at : ℕ = fixedLength cc in
-    either n (ltb 65535 n) (refuse 8) (cond (ltb n 4) (refuse 1) (readFixed s cc)) tt
-    (either n (ltb n 4) (refuse 1) (readFixed s cc) tt
-    (either n (ltb n at) (refuse 1) (cond (bit (getD s 0 0 / 16)) (readExtension s cc at) (readingOf s cc 0 (says (blockAt s at 0)))) tt
-    (either n (bit (getD s 0 0 / 16)) (readExtension s cc at) (readingOf s cc 0 (says (blockAt s at 0)))
+    inside-test n (ltb 65535 n) (refuse 8) (cond (ltb n 4) (refuse 1) (readFixed s cc)) tt
+    (inside-test n (ltb n 4) (refuse 1) (readFixed s cc) tt
+    (inside-test n (ltb n at) (refuse 1) (cond (bit (getD s 0 0 / 16)) (readExtension s cc at) (readingOf s cc 0 (says (blockAt s at 0)))) tt
+    (inside-test n (bit (getD s 0 0 / 16)) (readExtension s cc at) (readingOf s cc 0 (says (blockAt s at 0)))
     (inside-extension s cc at)
     (inside-block s cc 0 (says (blockAt s at 0))))))
 

@@ -1,12 +1,12 @@
 -- Reading a header: the paper's sections "Header", "Refusal numbers" and its order "Reading: 1, 2, then per element 3, 7".
 -- Assumes nothing.
-use mathlib.Core.Bool.{Bool, cond}
+use mathlib.Core.Bool.{cond}
 use mathlib.Core.List.{List, [], _∷_}
 use Prim.Native.Nat.{ℕ, zero, suc, _+_, _-_, _*_, _/_, _%_}
-use lib.Dec.{ltb, eqb}
+use lib.Dec.{ltb}
 use lib.ListN.{length, getD}
 use Rattle.error.specs.Said.{Said, says, refused, refuse}
-use Rattle.wire.specs.Net.{u16At, u32At}
+use Rattle.wire.specs.Net.{u16At, u32At, bit}
 use Rattle.block_read.specs.Read.{Block, readBlock, blockAt}
 use Rattle.block.specs.Form.{formOf}
 use Rattle.header.specs.Fields.{Fields}
@@ -15,9 +15,6 @@ use Rattle.header.specs.Fields.{Fields}
 pub record Reading : Type 0 where
   pub fields : Fields
   pub place : ℕ
-
-abbrev pub bit : ℕ → Bool
-bit n = eqb (n % 2) 1
 
 -- the n CSRCs from `at` on
 abbrev pub csrcsAt : List ℕ → ℕ → ℕ → List ℕ

@@ -4,7 +4,7 @@ use Prim.Native.Nat.{ℕ, _/_, _%_}
 use lib.ListN.{length, getD}
 use Rattle.error.specs.Said.{Said, says, refused}
 use Rattle.error.specs.Refusal.{refusalOf}
-use Rattle.wire.specs.Net.{u16At, u32At}
+use Rattle.wire.specs.Net.{u16At, u32At, bit}
 use Rattle.wire.specs.Part.{padTo, splice}
 use Rattle.elements.specs.declared.Extensions.{Extensions}
 use Rattle.elements.specs.Named.{Found, absent, at}
@@ -23,7 +23,7 @@ use Rattle.header.specs.declared.IdCount.{IdCount}
 use Rattle.header.specs.declared.IdCount.the-variants as ids
 use Rattle.header.specs.declared.Ids.{Ids}
 use Rattle.header.specs.Fields.{layOut, blank}
-use Rattle.header.specs.Read.{Reading, bit, csrcsAt}
+use Rattle.header.specs.Read.{Reading, csrcsAt}
 
 -- ---- reading
 

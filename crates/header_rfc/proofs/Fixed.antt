@@ -10,9 +10,9 @@ use lib.ListN.{length, drop, getD, length-append}
 use lib.Seq.{drop-at, drop-drop}
 use borrow.Author.Tests.{eq-eqb, ne-eqb}
 use Rattle.error.specs.Said.{Said, says, refused}
-use Rattle.wire.specs.Net.{u16At, u32At, be16, be32}
+use Rattle.wire.specs.Net.{u16At, u32At, be16, be32, bit}
 use Rattle.wire.proofs.Net.{u32At-drop, u32-of-be32, length-be32}
-use Rattle.rfc3550.specs.Rfc3550.{AllBelow, Octets, Fixed, LawfulFixed, bit, csrcOctets, fixedOctets, Extension, LawfulExtension, extensionOctets}
+use Rattle.rfc3550.specs.Rfc3550.{AllBelow, Octets, Fixed, LawfulFixed, oneIf, csrcOctets, fixedOctets, Extension, LawfulExtension, extensionOctets}
 use Rattle.rfc3550.specs.Rfc3550 as rtp
 use Rattle.rfc3550.proofs.Octets.{below-right}
 use Rattle.rfc3550.proofs.Places.{length-fixed, behind-fixed, version-at, padding-at, extension-at, count-at, marker-at, type-at, number-at, time-at, source-at, csrcs-at, length-extension, profile-at, words-at, content-at, extended-octets}
@@ -27,7 +27,7 @@ use Rattle.header_rfc.proofs.Items.{now}
 
 -- ---- bits
 
-bit-read : (b : Bool) (n : ℕ) → n % 2 ≡ bit b → paper.bit n ≡ b
+bit-read : (b : Bool) (n : ℕ) → n % 2 ≡ oneIf b → bit n ≡ b
 bit-read true n e = eq-eqb (n % 2) 1 e
 bit-read false n e = ne-eqb (n % 2) 1 (λ z. omega arith)
 

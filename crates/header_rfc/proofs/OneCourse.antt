@@ -13,7 +13,7 @@ use Rattle.rfc3550.specs.Rfc3550 as rtp
 use Rattle.rfc3550.specs.Rfc8285.{Form, one-byte, two-byte, LawfulForm, profileOf, Item, padding, element, headOctets, blockOctets, extensionWith}
 use Rattle.rfc3550.proofs.Parse.{begins-not-cut}
 use Rattle.rfc3550.proofs.Unambiguous.{append-inj, unambiguous}
-use Rattle.rfc3550.proofs.Blocks.{front, behind, heads-told, NoneBegins, none-empty, leaving-none, apart-told, form-told}
+use Rattle.rfc3550.proofs.Blocks.{front, tails-same, heads-told, NoneBegins, none-empty, leaving-none, apart-told, form-told}
 use Rattle.header_rfc.specs.Says.{elementsAmong, wholeElement, readingAt, PlainForm}
 use Rattle.header_rfc.specs.Taken.{TakenElement, TakenItem, AllTaken, Ending, ends, fifteen, leaving, lone, LawfulEnding, endingOctets, borrowed, headerWith, Taken, contentTaken, headerTaken, payloadTaken, elementsTaken, readingTaken, Lacking, data-lack, length-lacks, LawfulLacking, lackingOctets, contentLacking, Bare, TakenIn, LackingIn, WordsIn, Course, bare, takes, lacks, words, elementsIn, answerIn, payloadIn}
 use Rattle.header_rfc.proofs.Items.{OneTaken, one-taken, taken-telling, item-telling}
@@ -99,7 +99,7 @@ ending-told form ends (lone id bytes) a b l m o p = absurd (omega (arith, ap len
 ending-told form (fifteen len rest) ends a b l m o p = absurd (omega (arith, ap length o))
 ending-told form (fifteen len rest) (fifteen len′ rest′) a b l m o p =
     let same : len ≡ len′ = omega (arith, front o) in
-    (ap₂ fifteen same (behind o), p)
+    (ap₂ fifteen same (tails-same o), p)
 ending-told one-byte (fifteen len rest) (leaving id part more) a b l m o p = absurd (fifteen-not len rest id (length (part ++ more)) part (m .0) o)
 ending-told (two-byte appbits) (fifteen len rest) (leaving id part more) a b l m o p = absurd l
 ending-told one-byte (fifteen len rest) (lone id bytes) a b l m o p = absurd m
@@ -116,7 +116,7 @@ ending-told (two-byte appbits) (lone id bytes) (fifteen len rest) a b l m o p = 
 ending-told one-byte (lone id bytes) (leaving id′ part more) a b l m o p = absurd l
 ending-told (two-byte appbits) (lone id bytes) (leaving id′ part more) a b l m o p = absurd (omega (arith, ap length o))
 ending-told form (lone id bytes) (lone id′ bytes′) a b l m o p =
-    let rest : (bytes ≡ bytes′) × (a ≡ b) = append-inj bytes a bytes′ b (front p) (behind p) in
+    let rest : (bytes ≡ bytes′) × (a ≡ b) = append-inj bytes a bytes′ b (front p) (tails-same p) in
     (ap₂ lone (front o) (rest .0), rest .1)
 
 -- what the packet holds, it does not lack

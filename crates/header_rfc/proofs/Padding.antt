@@ -15,7 +15,7 @@ use Rattle.error.specs.Said.{Said, says, refuse}
 use Rattle.elements.specs.Elements.{Element, dataOf}
 use Rattle.elements.specs.Named.{find, Absent, First, replace, remove, append}
 use Rattle.elements.proofs.Elements.{dataOf-append, elementsOf-layElements}
-use Rattle.elements.proofs.Changes.{either, find-first, find-absent, replace-first, remove-first}
+use Rattle.elements.proofs.Changes.{absent-or-first, find-first, find-absent, replace-first, remove-first}
 use Rattle.block.specs.Form.{Form, one-byte, two-byte, other, formOf, perElement, lengthFor, firstProfile, firstHead}
 use Rattle.block.specs.Padding.{grown, shrunk, resized}
 use Rattle.header.specs.declared.Header.{Header}
@@ -186,7 +186,7 @@ module _ (h : Header) where
   pub set-keeps : (id : ℕ) (bytes : List ℕ) (h′ : Header) → h .extension ≡ true → setExtension h id bytes ≡ says h′ →
       beyond (fieldsOf h′) ≡ beyond (fieldsOf h)
   unfolding setExtension setLater
-  set-keeps id bytes h′ on e = go (either id old)
+  set-keeps id bytes h′ on e = go (absent-or-first id old)
     where
       per : ℕ
       per = perElement (formOf profile)
@@ -215,7 +215,7 @@ module _ (h : Header) where
   -- "Delete keeps the others' order."
   pub delete-keeps : (id : ℕ) (h′ : Header) → delExtension h id ≡ says h′ → beyond (fieldsOf h′) ≡ beyond (fieldsOf h)
   unfolding delExtension
-  delete-keeps id h′ e = go (either id old)
+  delete-keeps id h′ e = go (absent-or-first id old)
     where
       per : ℕ
       per = perElement (formOf profile)

@@ -19,7 +19,7 @@ use Rattle.header_write.specs.Fixed.{flag}
 use Rattle.header.specs.Write.{octetsOf}
 use Rattle.header_write.specs.Fixed as figure
 use Rattle.header.specs.Write as written
-use Rattle.rfc3550.specs.Rfc3550.{Fixed, LawfulFixed, bit, LawfulExtension}
+use Rattle.rfc3550.specs.Rfc3550.{Fixed, LawfulFixed, oneIf, LawfulExtension}
 use Rattle.rfc3550.specs.Rfc3550 as rtp
 use Rattle.rfc3550.proofs.Places.{plain-octets}
 use Rattle.rfc3550.specs.Rfc8285.{Form, one-byte, two-byte, profileOf, Item, padding, blockOctets, extensionWith}
@@ -54,7 +54,7 @@ fixed-lawful f w =
       csrcs = w .csrcs;
     }
 
-flag-bit : (b : Bool) (n : ℕ) → flag b n ≡ bit b * n
+flag-bit : (b : Bool) (n : ℕ) → flag b n ≡ oneIf b * n
 flag-bit true n = omega arith
 flag-bit false n = omega arith
 

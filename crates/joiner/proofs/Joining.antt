@@ -182,9 +182,9 @@ pub closing-cases : (P : ClosingStepped → Type 0) (j : Joiner) (number : ℕ) 
     P (closeStep j number)
 unfolding closeStep
 closing-cases P j number closed outside far full shut =
-    either (j .closed) closed
-    (either (ltb 16777215 (j .gathered)) outside (either (leb 32768 (d j number)) far (either (ltb 4294967295 (j .missed + d j number)) full shut)))
+    by-test (j .closed) closed
+    (by-test (ltb 16777215 (j .gathered)) outside (by-test (leb 32768 (d j number)) far (by-test (ltb 4294967295 (j .missed + d j number)) full shut)))
   where
-    either : {x y : ClosingStepped} (b : Bool) → P x → P y → P (cond b x y)
-    either true p q = p
-    either false p q = q
+    by-test : {x y : ClosingStepped} (b : Bool) → P x → P y → P (cond b x y)
+    by-test true p q = p
+    by-test false p q = q

@@ -10,11 +10,11 @@ use lib.ListN.{length, length-append}
 use borrow.Author.Tests.{le-ltb, eq-eqb, ne-eqb}
 use Rattle.error.specs.Said.{says}
 use Rattle.wire.specs.Each.{Each}
-use Rattle.wire.specs.Net.{be16}
+use Rattle.wire.specs.Net.{be16, bit}
 use Rattle.wire.specs.Packets.{joined}
 use Rattle.wire.specs.Turns.{run}
 use Rattle.wire.proofs.Each.{each-by, each-map}
-use Rattle.nal_read.specs.Kind.{Shape, aggregate, fragment, bit, headOf, shape}
+use Rattle.nal_read.specs.Kind.{Shape, aggregate, fragment, headOf, shape}
 use Rattle.nal_read.proofs.Shapes.{shape-plain, shape-aggregate, shape-fragment, unpack-sized}
 use Rattle.nal_read.specs.Unpack.{sizedUnits, Sized}
 use Rattle.nal.specs.Fed.{Run, none, gathering, prefixed, ongoing, finished}

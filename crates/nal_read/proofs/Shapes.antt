@@ -12,10 +12,10 @@ use lib.ListN.{length, getD, length-append}
 use lib.Seq.{take-at, drop-at}
 use borrow.Author.Tests.{le-leb, lt-leb, le-ltb, eq-eqb, ne-eqb, eqb-true, eqb-false, leb-true, leb-false}
 use Rattle.error.specs.Said.{says, refuse}
-use Rattle.wire.specs.Net.{be16}
+use Rattle.wire.specs.Net.{be16, bit}
 use Rattle.wire.specs.Turns.{more, run}
 use Rattle.wire.proofs.Turns.{run-more, run-done}
-use Rattle.nal_read.specs.Kind.{Shape, short, unknown, plain, aggregate, fragment, bit, headOf, shapeBy, shape}
+use Rattle.nal_read.specs.Kind.{Shape, short, unknown, plain, aggregate, fragment, headOf, shapeBy, shape}
 use Rattle.nal_read.specs.Unpack.{unpackTurn, unpack, sizedUnits, Sized}
 use Rattle.nal_read.proofs.Unpacking.{Units}
 

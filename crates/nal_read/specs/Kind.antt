@@ -5,6 +5,7 @@ use mathlib.Core.List.{List}
 use Prim.Native.Nat.{ℕ, _+_, _*_, _/_, _%_}
 use lib.Dec.{leb, eqb}
 use lib.ListN.{length, getD}
+use Rattle.wire.specs.Net.{bit}
 
 pub data Shape : Type 0 where
   -- too short
@@ -17,9 +18,6 @@ pub data Shape : Type 0 where
   aggregate : Shape
   -- an FU-A: its start and end bits, and the first byte of the unit it belongs to: NRI and type
   fragment : (first last : Bool) (head : ℕ) → Shape
-
-abbrev pub bit : ℕ → Bool
-bit n = eqb (n % 2) 1
 
 -- RFC 6184, section 5.8: NRI of the FU indicator, type of the FU header
 abbrev pub headOf : ℕ → ℕ → ℕ

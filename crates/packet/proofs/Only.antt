@@ -10,7 +10,7 @@ use Rattle.error.specs.Refusal.{Refusal}
 use Rattle.error.specs.Said.{Said, says, refused, refuse}
 use Rattle.error.specs.Only.{Determined}
 use Rattle.error.proofs.Inverse.{errorOf, errorOf-refusalOf}
-use Rattle.error.proofs.Only.{by-view, Sayable, either, known, passed}
+use Rattle.error.proofs.Only.{by-view, Sayable, either-sayable, known, passed}
 use Rattle.block.specs.Form.{Form, formOf}
 use Rattle.header.specs.declared.Header.{Header}
 use Rattle.header_write.specs.declared.Length.{Length}
@@ -35,7 +35,7 @@ pub marshal-size-only : (h : Header) (payload : List ℕ) → Determined (λ (r 
 unfolding packetSizeAsked
 marshal-size-only h payload =
     length-only (packetSizeAsked h payload)
-    (either {x = says (packetSize (fieldsOf h) payload)} {y = refuse 8} (inDomain h && shortEnough payload) refl refl)
+    (either-sayable {x = says (packetSize (fieldsOf h) payload)} {y = refuse 8} (inDomain h && shortEnough payload) refl refl)
 
 write-sayable : (h : Header) (payload : List ℕ) (room : ℕ) → Sayable (writePacket h payload room)
 unfolding writePacket
@@ -46,8 +46,8 @@ write-sayable h payload room =
     let octets : List ℕ = packetOctets (fieldsOf h) payload in
     let size : ℕ = packetSize (fieldsOf h) payload in
     let asked : Said (List ℕ) = cond (h .extension) (judged form n count (says octets)) (says octets) in
-    either {x = cond (ltb room size) (refuse 5) asked} {y = refuse 8} (inWritingDomain h && shortEnough payload)
-    (either {x = refuse 5} {y = asked} (ltb room size) refl (judged-sayable (h .extension) form n count octets)) refl
+    either-sayable {x = cond (ltb room size) (refuse 5) asked} {y = refuse 8} (inWritingDomain h && shortEnough payload)
+    (either-sayable {x = refuse 5} {y = asked} (ltb room size) refl (judged-sayable (h .extension) form n count octets)) refl
 
 pub marshal-to-only : (h : Header) (payload buf : List ℕ) →
     Determined (λ (a : Left). heardLeft a ≡ written buf (writePacket h payload (length buf)))
@@ -62,12 +62,12 @@ stripped-sayable s at =
     let left : ℕ = length s - at in
     let n : ℕ = getD s (length s - 1) 0 in
     let whole : Said Payload = says (record { place = at; len = left - n }) in
-    either {x = refuse 4} {y = cond (ltb left n) (refuse 4) whole} (eqb left 0) refl
-    (either {x = refuse 4} {y = whole} (ltb left n) refl refl)
+    either-sayable {x = refuse 4} {y = cond (ltb left n) (refuse 4) whole} (eqb left 0) refl
+    (either-sayable {x = refuse 4} {y = whole} (ltb left n) refl refl)
 
 payload-sayable : (s : List ℕ) (r : Reading) → Sayable (payloadAt s r)
 payload-sayable s r =
-    either {x = stripped s (r .place)} {y = says (record { place = r .place; len = length s - r .place })} (r .fields .padding)
+    either-sayable {x = stripped s (r .place)} {y = says (record { place = r .place; len = length s - r .place })} (r .fields .padding)
     (stripped-sayable s (r .place)) refl
 
 fields-sayable : (f : Fields) (x : Said Payload) → Sayable x → Sayable (with-fields f x)

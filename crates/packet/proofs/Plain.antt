@@ -9,12 +9,12 @@ use lib.ListN.{length, take, drop, getD}
 use lib.Seq.{take-all}
 use borrow.Author.Tests.{eq-eqb, ne-eqb, le-leb, le-ltb}
 use Rattle.error.specs.Said.{Said, says}
-use Rattle.wire.specs.Net.{u16At, u32At, be16, be32}
+use Rattle.wire.specs.Net.{u16At, u32At, be16, be32, bit}
 use Rattle.wire.specs.Part.{part}
 use Rattle.elements.specs.Elements.{elementsOf, layElements}
 use Rattle.block_read.specs.Read.{blockAt}
 use Rattle.header.specs.Fields.{Fields, fieldsOf, layOut, inDomain}
-use Rattle.header.specs.Read.{Reading, bit, fieldsAt, readHeader}
+use Rattle.header.specs.Read.{Reading, fieldsAt, readHeader}
 use Rattle.header.specs.Size.{headerSize}
 use Rattle.header_write.specs.Fixed.{flag, fixedFor}
 use Rattle.header.specs.Write.{octetsOf, inWritingDomain}

@@ -61,21 +61,21 @@ abbrev Inside : ℕ → Said Payload → Type 0
 Inside n (says p) = p .place + p .len ≤ n
 Inside n (refused r) = Unit
 
-either : (n : ℕ) (t : Bool) (x y : Said Payload) → Inside n x → Inside n y → Inside n (cond t x y)
-either n true x y a b = a
-either n false x y a b = b
+inside-test : (n : ℕ) (t : Bool) (x y : Said Payload) → Inside n x → Inside n y → Inside n (cond t x y)
+inside-test n true x y a b = a
+inside-test n false x y a b = b
 
 inside-stripped : (s : List ℕ) (at : ℕ) → at ≤ length s → Inside (length s) (stripped s at)
 unfolding stripped
 inside-stripped s at h =
     let last : ℕ = getD s (length s - 1) 0 in
     let whole : Said Payload = says (record { place = at; len = length s - at - last }) in
-    either (length s) (eqb (length s - at) 0) (refuse 4) (cond (ltb (length s - at) last) (refuse 4) whole) tt
-    (either (length s) (ltb (length s - at) last) (refuse 4) whole tt (omega arith))
+    inside-test (length s) (eqb (length s - at) 0) (refuse 4) (cond (ltb (length s - at) last) (refuse 4) whole) tt
+    (inside-test (length s) (ltb (length s - at) last) (refuse 4) whole tt (omega arith))
 
 inside-payload : (s : List ℕ) (r : Reading) → r .place ≤ length s → Inside (length s) (payloadAt s r)
 inside-payload s r h =
-    either (length s) (r .fields .padding) (stripped s (r .place)) (says (record { place = r .place; len = length s - r .place }))
+    inside-test (length s) (r .fields .padding) (stripped s (r .place)) (says (record { place = r .place; len = length s - r .place }))
     (inside-stripped s (r .place) h) (omega arith)
 
 pub payload-inside : (s : List ℕ) (r : PacketReading) → readPacket s ≡ says r → r .payload .place + r .payload .len ≤ length s

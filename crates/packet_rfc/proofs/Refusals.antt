@@ -13,14 +13,14 @@ use lib.ListN.{length, take, drop, getD}
 use lib.Seq.{drop-at}
 use Rattle.error.specs.Refusal.{Refusal}
 use Rattle.error.specs.Said.{Said, says, refused, refuse}
-use Rattle.wire.specs.Net.{u16At}
+use Rattle.wire.specs.Net.{u16At, bit}
 use Rattle.wire.specs.Turns.{Turn, more, done, after, run}
 use Rattle.elements.specs.Elements.{Element, roomFor}
 use Rattle.block_read.specs.Read.{Block, blockAt, itemsBy, taken, turn, readBlock, wholeBlock}
 use Rattle.block_read.specs.Read as paper
 use Rattle.block.specs.Form.{formOf}
 use Rattle.block.specs.Form as forms
-use Rattle.header.specs.Read.{Reading, bit, countOf, fixedLength, readingOf, readExtension, readFixed, readHeader}
+use Rattle.header.specs.Read.{Reading, countOf, fixedLength, readingOf, readExtension, readFixed, readHeader}
 use Rattle.rfc3550.specs.Rfc3550.{Fixed, present}
 use Rattle.rfc3550.specs.Rfc8285.{one-byte, two-byte, blockOctets, Content, laid, other, Plan, Lawful, octets}
 use Rattle.rfc3550.specs.Packet.{Padding, Packet, LawfulPacket, LawfulEnd, endOctets, packetOctets, lastOctet, Short, nothing-there, over-counted}
@@ -39,9 +39,9 @@ use Rattle.packet_rfc.proofs.Behind.{readingAt, read-all, read-counted,
 abbrev NotFour : {A : Type 0} → Said A → Type 0
 NotFour x = numberIn x ≡ 4 → ⊥
 
-either : {A : Type 0} (t : Bool) (x y : Said A) → NotFour x → NotFour y → NotFour (cond t x y)
-either true x y a b = a
-either false x y a b = b
+not-four-test : {A : Type 0} (t : Bool) (x y : Said A) → NotFour x → NotFour y → NotFour (cond t x y)
+not-four-test true x y a b = a
+not-four-test false x y a b = b
 
 -- a turn that ends a block does not end it so
 abbrev EndsElse : Turn Block (Said Block) → Type 0
@@ -80,7 +80,7 @@ unfolding wholeBlock
 block-not-four forms.one-byte b = items-not-four (itemsBy false) (b .left + 1) b
 block-not-four forms.two-byte b = items-not-four (itemsBy true) (b .left + 1) b
 block-not-four forms.other b =
-    either (roomFor (b .elements) (b .left))
+    not-four-test (roomFor (b .elements) (b .left))
     (says (paper.with-element (record { id = 0; bytes = take (b .left) (b .rest) }) (paper.skip (b .left) b))) (refuse 7) (λ e. omega arith) (λ e. omega arith)
 
 reading-not-four : (s : List ℕ) (cc profile : ℕ) (b : Said Block) → NotFour b → NotFour (readingOf s cc profile b)
@@ -94,8 +94,8 @@ extension-not-four s cc at =
     let end : ℕ = at + 4 + 4 * u16At s (at + 2) in
     let block : Said Block = readBlock (formOf profile) (blockAt s (at + 4) (4 * u16At s (at + 2))) in
     let inside : Said Reading = cond (ltb (length s) end) (refuse 2) (readingOf s cc profile block) in
-    either (ltb (length s) (at + 4)) (refuse 2) inside (λ e. omega arith)
-    (either (ltb (length s) end) (refuse 2) (readingOf s cc profile block) (λ e. omega arith)
+    not-four-test (ltb (length s) (at + 4)) (refuse 2) inside (λ e. omega arith)
+    (not-four-test (ltb (length s) end) (refuse 2) (readingOf s cc profile block) (λ e. omega arith)
     (reading-not-four s cc profile block (block-not-four (formOf profile) (blockAt s (at + 4) (4 * u16At s (at + 2))))))
 
 fixed-not-four : (s : List ℕ) (cc : ℕ) → NotFour (readFixed s cc)
@@ -103,15 +103,15 @@ unfolding readFixed
 fixed-not-four s cc =
     let at : ℕ = fixedLength cc in
     let plain : Said Reading = readingOf s cc 0 (says (blockAt s at 0)) in
-    either (ltb (length s) at) (refuse 1) (cond (bit (getD s 0 0 / 16)) (readExtension s cc at) plain) (λ e. omega arith)
-    (either (bit (getD s 0 0 / 16)) (readExtension s cc at) plain (extension-not-four s cc at)
+    not-four-test (ltb (length s) at) (refuse 1) (cond (bit (getD s 0 0 / 16)) (readExtension s cc at) plain) (λ e. omega arith)
+    (not-four-test (bit (getD s 0 0 / 16)) (readExtension s cc at) plain (extension-not-four s cc at)
     (reading-not-four s cc 0 (says (blockAt s at 0)) (λ e. omega arith)))
 
 header-not-four : (s : List ℕ) → NotFour (readHeader s)
 unfolding readHeader
 header-not-four s =
-    either (ltb 65535 (length s)) (refuse 8) (cond (ltb (length s) 4) (refuse 1) (readFixed s (countOf s))) (λ e. omega arith)
-    (either (ltb (length s) 4) (refuse 1) (readFixed s (countOf s)) (λ e. omega arith) (fixed-not-four s (countOf s)))
+    not-four-test (ltb 65535 (length s)) (refuse 8) (cond (ltb (length s) 4) (refuse 1) (readFixed s (countOf s))) (λ e. omega arith)
+    (not-four-test (ltb (length s) 4) (refuse 1) (readFixed s (countOf s)) (λ e. omega arith) (fixed-not-four s (countOf s)))
 
 -- ---- 4
 

@@ -84,15 +84,15 @@ sound s r o e = go (header-read.sound s (headerOf r) o (a .header))
     a : Accepted s r
     a = accepted s r o e
 
-    either : Conforming s r ⊎ ZeroCount s r → Told s r
-    either (inl c) = inl c
-    either (inr z) = inr (inl z)
+    told-by : Conforming s r ⊎ ZeroCount s r → Told s r
+    told-by (inl c) = inl c
+    told-by (inr z) = inr (inl z)
 
     measured : (t : List ℕ) → drop (r .payload .place) s ≡ t → Measured (r .fields .padding) t (r .payload .len)
     measured t q = subst (λ (u : List ℕ). Measured (r .fields .padding) u (r .payload .len)) q (a .payload)
 
     go : header-told.Told s (headerOf r) → Told s r
-    go (inl c) = either (conforms s r c (measured (c .payload) (rest s r c)))
+    go (inl c) = told-by (conforms s r c (measured (c .payload) (rest s r c)))
     go (inr d) = inr (inr (record { header = d; payload = measured (payloadLeft d) (header-read.left-told s (headerOf r) d) }))
 
 -- ---- the code

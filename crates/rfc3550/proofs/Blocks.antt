@@ -21,8 +21,8 @@ use Rattle.rfc3550.proofs.Unambiguous.{append-inj, unambiguous}
 pub front : {a b : ℕ} {s t : List ℕ} → a ∷ s ≡ b ∷ t → a ≡ b
 front e = ap (λ (l : List ℕ). getD l 0 0) e
 
-pub behind : {a b : ℕ} {s t : List ℕ} → a ∷ s ≡ b ∷ t → s ≡ t
-behind e = ap (drop 1) e
+pub tails-same : {a b : ℕ} {s t : List ℕ} → a ∷ s ≡ b ∷ t → s ≡ t
+tails-same e = ap (drop 1) e
 
 -- ---- heads
 
@@ -53,9 +53,9 @@ pub heads-told : (form : Form) (id n id′ n′ : ℕ) → Telling form id n →
 heads-told one-byte id n id′ n′ l m s t e = (
   omega (arith, front e, l .0, l .1, m .0, m .1),
   omega (arith, front e, l .0, l .1, m .0, m .1),
-  behind e,
+  tails-same e,
 )
-heads-told (two-byte appbits) id n id′ n′ l m s t e = (front e, front (behind e), behind (behind e))
+heads-told (two-byte appbits) id n id′ n′ l m s t e = (front e, front (tails-same e), tails-same (tails-same e))
 
 -- ---- items
 
@@ -67,7 +67,7 @@ blocks-append form (i ∷ is) js =
 -- the octets in front tell the item in front
 item-told : (form : Form) (i j : Item) → TellingItem form i → TellingItem form j → (s t : List ℕ) →
     itemOctets form i ++ s ≡ itemOctets form j ++ t → (i ≡ j) × (s ≡ t)
-item-told form padding padding l m s t e = (refl, behind e)
+item-told form padding padding l m s t e = (refl, tails-same e)
 item-told form padding (element id bytes) l m s t e =
     absurd (head-some form id (length bytes) m s (bytes ++ t) (e ∙ append-assoc (headOctets form id (length bytes)) bytes t))
 item-told form (element id bytes) padding l m s t e =

@@ -13,7 +13,7 @@ use lib.ListN.{length, take, drop, length-append, take-append-drop}
 use lib.Seq.{length-take-le, drop-at}
 use Rattle.wire.specs.Net.{be16, be32, u16At}
 use Rattle.wire.proofs.Net.{be16-of-u16, be32-of-u32, length-be16, u16At-drop, u16-of-be16}
-use Rattle.rfc3550.specs.Rfc3550.{AllBelow, Octets, Fixed, LawfulFixed, bit, firstOctet, secondOctet, csrcOctets, fixedOctets, Extension, LawfulExtension, extensionOctets, LawfulPart, octets, Begins, CutShort, fixed-cut, csrcs-cut, head-cut, content-cut, extensionAt, wordsAt}
+use Rattle.rfc3550.specs.Rfc3550.{AllBelow, Octets, Fixed, LawfulFixed, oneIf, firstOctet, secondOctet, csrcOctets, fixedOctets, Extension, LawfulExtension, extensionOctets, LawfulPart, octets, Begins, CutShort, fixed-cut, csrcs-cut, head-cut, content-cut, extensionAt, wordsAt}
 use Rattle.rfc3550.proofs.Places.{length-fixed, behind-fixed, count-at, extension-at, length-extension, words-at, plain-octets, extended-octets}
 
 -- ---- numbers in front
@@ -79,7 +79,7 @@ csrcs-front (suc n) s o h =
     }
 
 -- a bit as the plan has it
-bit-of : (n : ℕ) → (b : Bool) × (bit b ≡ n % 2)
+bit-of : (n : ℕ) → (b : Bool) × (oneIf b ≡ n % 2)
 bit-of n =
     elim (ℕ-discrete (n % 2) 1) [
       | yes e ↦ (true, sym e)
@@ -149,10 +149,10 @@ fixed-front a b s o h =
         }
 
     first : firstOctet fixed (bit-of (a / 16) .0) ≡ a
-    first = first-octet a (bit (bit-of (a / 32) .0)) (bit (bit-of (a / 16) .0)) (length (csrcs .csrcs)) (o .0) (bit-of (a / 32) .1) (bit-of (a / 16) .1) (csrcs .count)
+    first = first-octet a (oneIf (bit-of (a / 32) .0)) (oneIf (bit-of (a / 16) .0)) (length (csrcs .csrcs)) (o .0) (bit-of (a / 32) .1) (bit-of (a / 16) .1) (csrcs .count)
 
     second : secondOctet fixed ≡ b
-    second = second-octet b (bit (bit-of (b / 128) .0)) (o .1 .0) (bit-of (b / 128) .1)
+    second = second-octet b (oneIf (bit-of (b / 128) .0)) (o .1 .0) (bit-of (b / 128) .1)
 
     regroup : be16 (number .number) ++ (be32 (time .number) ++ (be32 (source .number) ++ csrcOctets (csrcs .csrcs))) ++ csrcs .rest
         ≡ be16 (number .number) ++ (be32 (time .number) ++ (be32 (source .number) ++ (csrcOctets (csrcs .csrcs) ++ csrcs .rest)))

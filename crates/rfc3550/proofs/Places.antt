@@ -9,9 +9,9 @@ use lib.ListN.{length, drop, getD}
 use lib.Seq.{drop-at, drop-drop}
 use Rattle.wire.specs.Net.{u16At, u32At, be16, be32}
 use Rattle.wire.proofs.Net.{u16At-drop}
-use Rattle.rfc3550.specs.Rfc3550.{Fixed, LawfulFixed, bit, firstOctet, secondOctet, csrcOctets, fixedOctets, Extension, LawfulExtension, extensionOctets, octets}
+use Rattle.rfc3550.specs.Rfc3550.{Fixed, LawfulFixed, oneIf, firstOctet, secondOctet, csrcOctets, fixedOctets, Extension, LawfulExtension, extensionOctets, octets}
 
-pub bit-small : (b : Bool) → bit b ≤ 1
+pub bit-small : (b : Bool) → oneIf b ≤ 1
 bit-small true = omega arith
 bit-small false = omega arith
 
@@ -44,16 +44,16 @@ module _ (f : Fixed) (x : Bool) (l : LawfulFixed f) (tail : List ℕ) where
   pub version-at : getD s 0 0 / 64 ≡ f .version
   version-at = rw first-at (omega (arith, l .count, bit-small x, bit-small (f .padding)))
 
-  pub padding-at : getD s 0 0 / 32 % 2 ≡ bit (f .padding)
+  pub padding-at : getD s 0 0 / 32 % 2 ≡ oneIf (f .padding)
   padding-at = rw first-at (omega (arith, l .count, bit-small x, bit-small (f .padding)))
 
-  pub extension-at : getD s 0 0 / 16 % 2 ≡ bit x
+  pub extension-at : getD s 0 0 / 16 % 2 ≡ oneIf x
   extension-at = rw first-at (omega (arith, l .count, bit-small x))
 
   pub count-at : getD s 0 0 % 16 ≡ length (f .csrcs)
   count-at = rw first-at (omega (arith, l .count))
 
-  pub marker-at : getD s 1 0 / 128 % 2 ≡ bit (f .marker)
+  pub marker-at : getD s 1 0 / 128 % 2 ≡ oneIf (f .marker)
   marker-at = rw second-at (omega (arith, l .payload-type, bit-small (f .marker)))
 
   pub type-at : getD s 1 0 % 128 ≡ f .payload-type

@@ -10,7 +10,7 @@ use lib.ListN.{length, take, drop, getD}
 use lib.Seq.{take-at, drop-at}
 use Rattle.wire.specs.Net.{be32, u16At, u32At}
 use Rattle.wire.proofs.Net.{u32-of-be32, length-be32}
-use Rattle.rfc3550.specs.Rfc3550.{AllBelow, Fixed, LawfulFixed, bit, csrcOctets, fixedOctets, Extension, LawfulExtension, extensionOctets, Plan, Lawful, LawfulPart, present, partOctets, octets}
+use Rattle.rfc3550.specs.Rfc3550.{AllBelow, Fixed, LawfulFixed, oneIf, csrcOctets, fixedOctets, Extension, LawfulExtension, extensionOctets, Plan, Lawful, LawfulPart, present, partOctets, octets}
 use Rattle.rfc3550.proofs.Places.{version-at, padding-at, extension-at, count-at, marker-at, type-at, number-at, time-at, source-at, csrcs-at, profile-at, words-at, content-at}
 
 -- two lists in front that are as long
@@ -28,7 +28,7 @@ four-octets n m a b hn hm e = (
   append-inj (be32 n) a (be32 m) b (length-be32 n ∙ sym (length-be32 m)) e .1,
 )
 
-same-bit : (a b : Bool) → bit a ≡ bit b → a ≡ b
+same-bit : (a b : Bool) → oneIf a ≡ oneIf b → a ≡ b
 same-bit true true e = refl
 same-bit true false e = absurd (omega arith)
 same-bit false true e = absurd (omega arith)

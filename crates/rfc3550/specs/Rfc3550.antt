@@ -53,17 +53,17 @@ pub record LawfulFixed (f : Fixed) : Type 0 where
   pub csrcs : AllBelow 4294967296 (f .csrcs)
 
 -- a bit of the figure
-abbrev pub bit : Bool → ℕ
-bit true = 1
-bit false = 0
+abbrev pub oneIf : Bool → ℕ
+oneIf true = 1
+oneIf false = 0
 
 -- V, P, X, CC
 abbrev pub firstOctet : Fixed → Bool → ℕ
-firstOctet f x = f .version * 64 + bit (f .padding) * 32 + bit x * 16 + length (f .csrcs)
+firstOctet f x = f .version * 64 + oneIf (f .padding) * 32 + oneIf x * 16 + length (f .csrcs)
 
 -- M, PT
 abbrev pub secondOctet : Fixed → ℕ
-secondOctet f = bit (f .marker) * 128 + f .payload-type
+secondOctet f = oneIf (f .marker) * 128 + f .payload-type
 
 -- 0 to 15 CSRCs, each of 32 bits, in the list's order
 abbrev pub csrcOctets : List ℕ → List ℕ

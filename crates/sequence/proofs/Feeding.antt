@@ -203,12 +203,12 @@ module _ {K E P Run O : Type 0} (codec : Codec K E P Run O) (k : K) (p : P) wher
   feed-holes run zero = alone (codec .feed k run p)
   feed-holes run (suc d) =
       feed-holes (codec .idle) d
-      ∙ ap (λ (r : Run). codec .feed k r p) (either (eqb d 0))
+      ∙ ap (λ (r : Run). codec .feed k r p) (idle-both (eqb d 0))
       ∙ sym (ap (λ (b : Bool). codec .feed k (cond b run (codec .idle)) p) (eqb·suc-zero d))
     where
-      either : (b : Bool) → cond b (codec .idle) (codec .idle) ≡ codec .idle
-      either true = refl
-      either false = refl
+      idle-both : (b : Bool) → cond b (codec .idle) (codec .idle) ≡ codec .idle
+      idle-both true = refl
+      idle-both false = refl
 
 -- holes alone hand nothing out
 pub feed-only-holes : {K E P Run O : Type 0} (codec : Codec K E P Run O) (k : K) (run : Run) (d : ℕ) →

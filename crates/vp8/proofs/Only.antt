@@ -31,22 +31,22 @@ module _ {A S : Type 0} (view : A → S) where
   abbrev Seen : S → Type 0
   Seen s = (a : A) × (view a ≡ s)
 
-  either : {x y : S} (b : Bool) → Seen x → Seen y → Seen (cond b x y)
-  either true x y = x
-  either false x y = y
+  seen-test : {x y : S} (b : Bool) → Seen x → Seen y → Seen (cond b x y)
+  seen-test true x y = x
+  seen-test false x y = y
 
 -- ---- depacketize
 
 test-seen : (go : Stage → Reading) → ((c : Stage) → Seen reading (go c)) → (c : Stage) → Seen reading (orShort c go)
 unfolding orShort
-test-seen go h c = either reading (ltb 0 (length (c .rest))) (h c) (record { packet = c .packet; read = read.Refused ErrShortPacket }, refl)
+test-seen go h c = seen-test reading (ltb 0 (length (c .rest))) (h c) (record { packet = c .packet; read = read.Refused ErrShortPacket }, refl)
 
 read-seen : (p : Vp8Packet) (s : List ℕ) → Seen reading (depacketized p s)
 unfolding depacketized readOn second third
 read-seen p s =
-    either reading (ltb 65535 (length s)) (record { packet = p; read = read.Refused OutsideDomain }, refl)
-    (either reading (ltb 32767 (p .«picture_id»)) (record { packet = p; read = read.Refused OutsideDomain }, refl)
-    (either reading (ltb (length s) 4) (record { packet = p; read = read.Refused ErrShortPacket }, refl)
+    seen-test reading (ltb 65535 (length s)) (record { packet = p; read = read.Refused OutsideDomain }, refl)
+    (seen-test reading (ltb 32767 (p .«picture_id»)) (record { packet = p; read = read.Refused OutsideDomain }, refl)
+    (seen-test reading (ltb (length s) 4) (record { packet = p; read = read.Refused ErrShortPacket }, refl)
     (test-seen _
     (λ c. test-seen _ (λ c₁. test-seen _ (λ c₂. (record { packet = c₂ .packet; read = read.Payload (c₂ .at) }, refl)) (withLayers c₁)) (withTl0 c)) _)))
 
@@ -59,7 +59,7 @@ depacketize-only p s =
 
 head-seen : (s : List ℕ) → Seen saidHead (partitionHead s)
 unfolding partitionHead
-head-seen s = either saidHead (ltb 65535 (length s)) (head.Refused OutsideDomain, refl) (head.Head (startBit s), refl)
+head-seen s = seen-test saidHead (ltb 65535 (length s)) (head.Refused OutsideDomain, refl) (head.Head (startBit s), refl)
 
 pub is-partition-head-only : (s : List ℕ) → Determined (λ (r : Vp8PartitionHead). saidHead r ≡ partitionHead s)
 is-partition-head-only s =
@@ -85,11 +85,11 @@ payload-seen : (v : Vp8Payloader) (mtu : ℕ) (frame out ends : List ℕ) → Se
 unfolding payloaded delivered
 payload-seen v mtu frame out ends =
     let ps : List (List ℕ) = packetsOf v mtu frame in
-    either sendingOf (ltb 16777216 (length frame)) (refused-seen OutsideDomain v out ends)
-    (either sendingOf (ltb 65535 mtu) (refused-seen OutsideDomain v out ends)
-    (either sendingOf (ltb 32767 (v .«picture_id»)) (refused-seen OutsideDomain v out ends)
-    (either sendingOf (ltb (length out) (length (joined ps))) (refused-seen ErrBufferTooSmall v out ends)
-    (either sendingOf (ltb (length ends) (length ps)) (refused-seen ErrBufferTooSmall v out ends) (sent-seen v ps out ends)))))
+    seen-test sendingOf (ltb 16777216 (length frame)) (refused-seen OutsideDomain v out ends)
+    (seen-test sendingOf (ltb 65535 mtu) (refused-seen OutsideDomain v out ends)
+    (seen-test sendingOf (ltb 32767 (v .«picture_id»)) (refused-seen OutsideDomain v out ends)
+    (seen-test sendingOf (ltb (length out) (length (joined ps))) (refused-seen ErrBufferTooSmall v out ends)
+    (seen-test sendingOf (ltb (length ends) (length ps)) (refused-seen ErrBufferTooSmall v out ends) (sent-seen v ps out ends)))))
 
 pub payload-only : (v : Vp8Payloader) (mtu : ℕ) (frame out ends : List ℕ) →
     Determined (λ (a : Left). sendingOf a ≡ payloaded v mtu frame out ends)

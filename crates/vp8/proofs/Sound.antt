@@ -183,8 +183,8 @@ module _ (old : Vp8Packet) (b c : ℕ) (r : List ℕ) (at : ℕ) (x : 128 ≤ b)
             ∙ ap (λ (a : Reading). a .said) (exactly old (requiredAt b) extension (layers-at .behind) readable));
       }
 
-  either : depacketized old (b ∷ c ∷ r) .said ≡ says at → Conforms (b ∷ c ∷ r) at ⊎ Deviates (b ∷ c ∷ r) at
-  either h =
+  conforms-or-deviates : depacketized old (b ∷ c ∷ r) .said ≡ says at → Conforms (b ∷ c ∷ r) at ⊎ Deviates (b ∷ c ∷ r) at
+  conforms-or-deviates h =
       ⊎-elim (λ (l : Lawful (extended (requiredAt b) extension)). inl (bears Lawful l h))
       (λ (w : Strays (extended (requiredAt b) extension)). inr (bears Strays w h))
       (lawful-or-strays (extended (requiredAt b) extension) (required-laid b x hb .0, formed))
@@ -193,7 +193,7 @@ pub sound : (old : Vp8Packet) (s : List ℕ) (at : ℕ) → Octets s → 128 ≤
     Conforms s at ⊎ Deviates s at
 sound old [] at o x h = absurd (omega arith)
 sound old (b ∷ []) at o x h = absurd (let l = within old (b ∷ []) at h .least in omega arith)
-sound old (b ∷ c ∷ r) at o x h = either old b c r at x (o .0) (o .1 .0) (o .1 .1) (within old (b ∷ c ∷ r) at h) h
+sound old (b ∷ c ∷ r) at o x h = conforms-or-deviates old b c r at x (o .0) (o .1 .0) (o .1 .1) (within old (b ∷ c ∷ r) at h) h
 
 -- and no packet is both
 pub not-both : (s : List ℕ) (at at′ : ℕ) → Conforms s at → Deviates s at′ → ⊥

@@ -28,13 +28,13 @@ module _ (m : Stage → Stage) (mR : Reading → Reading) (a : Along m mR) where
   unfolding orShort
   along-test go go′ h c =
       ap (λ (l : List ℕ). cond (ltb 0 (length l)) (go (m c)) (record { packet = m c .packet; said = refuse 4 })) (a .rest c)
-      ∙ either (ltb 0 (length (c .rest)))
+      ∙ by-test (ltb 0 (length (c .rest)))
     where
-      either : (b : Bool) →
+      by-test : (b : Bool) →
           cond b (go (m c)) (record { packet = m c .packet; said = refuse 4 })
           ≡ mR (cond b (go′ c) (record { packet = c .packet; said = refuse 4 }))
-      either true = h c
-      either false = a .refusing c
+      by-test true = h c
+      by-test false = a .refusing c
 
   pub along : (c : Stage) → readOn (withPictureId (m c)) ≡ mR (readOn (withPictureId c))
   unfolding readOn second third
@@ -90,19 +90,19 @@ clearR r = record { packet = withoutX (r .packet); said = r .said }
 
 tid-clear : (b : ℕ) (p : Vp8Packet) → setTid b (withoutX p) ≡ withoutX (setTid b p)
 unfolding setTid putTid putRequired
-tid-clear b p = either (eqb (p .t) 1)
+tid-clear b p = by-test (eqb (p .t) 1)
   where
-    either : (f : Bool) → cond f (putTid (b / 64) (b / 32 % 2) (withoutX p)) (withoutX p) ≡ withoutX (cond f (putTid (b / 64) (b / 32 % 2) p) p)
-    either true = refl
-    either false = refl
+    by-test : (f : Bool) → cond f (putTid (b / 64) (b / 32 % 2) (withoutX p)) (withoutX p) ≡ withoutX (cond f (putTid (b / 64) (b / 32 % 2) p) p)
+    by-test true = refl
+    by-test false = refl
 
 key-clear : (b : ℕ) (p : Vp8Packet) → setKey b (withoutX p) ≡ withoutX (setKey b p)
 unfolding setKey putKey putRequired
-key-clear b p = either (eqb (p .k) 1)
+key-clear b p = by-test (eqb (p .k) 1)
   where
-    either : (f : Bool) → cond f (putKey (b % 32) (withoutX p)) (withoutX p) ≡ withoutX (cond f (putKey (b % 32) p) p)
-    either true = refl
-    either false = refl
+    by-test : (f : Bool) → cond f (putKey (b % 32) (withoutX p)) (withoutX p) ≡ withoutX (cond f (putKey (b % 32) p) p)
+    by-test true = refl
+    by-test false = refl
 
 pub along-clear : Along clear clearR
 unfolding withPictureId withTl0 withLayers putRequired putPictureId putTl0

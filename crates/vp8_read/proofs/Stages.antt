@@ -1,7 +1,7 @@
 -- The laws of the reader's stages: each takes its bytes where its flag is 1, and is passed over else. A stage over a packet s at a
 -- place has the bytes from there on, so reading a byte goes one place on. Assumes nothing.
 use mathlib.Core.Path.{_≡_, refl, ap, ap₂, _∙_}
-use mathlib.Core.Bool.{Bool, true, false, cond, _||_}
+use mathlib.Core.Bool.{Bool, true, false, cond, _||_, or-true}
 use mathlib.Core.List.{List}
 use Prim.Native.Nat.{ℕ, _+_, _%_, _<_, _≤_}
 use native.Mathlib.Nat.{add-zero}
@@ -92,15 +92,11 @@ pub layers-t : (c : Stage) → c .packet .t ≡ 1 → withLayers c ≡ taken set
 unfolding withLayers
 layers-t c h = ap (λ (b : Bool). cond (b || eqb (c .packet .k) 1) (taken setIndices c) c) (eq-eqb (c .packet .t) 1 h)
 
-either : (b : Bool) → (b || true) ≡ true
-either true = refl
-either false = refl
-
 pub layers-k : (c : Stage) → c .packet .k ≡ 1 → withLayers c ≡ taken setIndices c
 unfolding withLayers
 layers-k c h =
     ap (λ (b : Bool). cond (eqb (c .packet .t) 1 || b) (taken setIndices c) c) (eq-eqb (c .packet .k) 1 h)
-    ∙ ap (λ (b : Bool). cond b (taken setIndices c) c) (either (eqb (c .packet .t) 1))
+    ∙ ap (λ (b : Bool). cond b (taken setIndices c) c) (or-true (eqb (c .packet .t) 1))
 
 pub layers-t-at : (p : Vp8Packet) (at : ℕ) (s : List ℕ) → p .t ≡ 1 →
     withLayers (stage p at s) ≡ stage (setIndices (getD s at 0) p) (at + 1) s

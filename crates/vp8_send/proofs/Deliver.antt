@@ -46,11 +46,11 @@ unfolding packetsOf headed
 empty-frame v mtu frame h =
     ap (λ (ps : List (List ℕ)). cond (lib.Dec.leb mtu (headerSize v)) [] (headed v true ps))
     (parts-none (length frame) (mtu - headerSize v) frame (omega arith))
-    ∙ either (lib.Dec.leb mtu (headerSize v))
+    ∙ nothing-both (lib.Dec.leb mtu (headerSize v))
   where
-    either : (b : Bool) → cond {A = List (List ℕ)} b [] [] ≡ []
-    either true = refl
-    either false = refl
+    nothing-both : (b : Bool) → cond {A = List (List ℕ)} b [] [] ≡ []
+    nothing-both true = refl
+    nothing-both false = refl
 
 pub small-mtu : (v : Vp8Payloader) (mtu : ℕ) (frame : List ℕ) → mtu ≤ headerSize v → packetsOf v mtu frame ≡ []
 unfolding packetsOf

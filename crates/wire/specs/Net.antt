@@ -1,6 +1,8 @@
--- Numbers in network order: most significant octet first. Assumes nothing.
+-- Numbers in network order: most significant octet first; and a bit of an octet. Assumes nothing.
+use mathlib.Core.Bool.{Bool}
 use mathlib.Core.List.{List, [], _∷_}
 use Prim.Native.Nat.{ℕ, _+_, _*_, _/_, _%_}
+use lib.Dec.{eqb}
 use lib.ListN.{getD}
 
 -- the number that the two octets from `at` on say
@@ -18,3 +20,7 @@ be16 n = n / 256 % 256 ∷ n % 256 ∷ []
 -- the four octets that say n
 unfoldable pub be32 : ℕ → List ℕ
 be32 n = n / 256 / 256 / 256 % 256 ∷ n / 256 / 256 % 256 ∷ n / 256 % 256 ∷ n % 256 ∷ []
+
+-- whether the lowest bit of n is set
+abbrev pub bit : ℕ → Bool
+bit n = eqb (n % 2) 1
