@@ -284,6 +284,38 @@ struct rtp_joined rtp_joiner_join(struct rtp_joiner *joiner, const uint8_t *pack
 /* Closes it with the number after the last sent. */
 struct rtp_closed rtp_joiner_close(struct rtp_joiner joiner, uint16_t number);
 
+/* ---- the sizes of these records */
+
+/* How many bytes each record above has, as the calls were compiled: a host whose `sizeof (struct rtp_header)` is not
+ * `rtp_sizes().header` was compiled with another header, and must not call. */
+struct rtp_sizes {
+    size_t refused;
+    size_t test;
+    size_t extensions;
+    size_t header;
+    size_t header_read;
+    size_t length;
+    size_t header_changed;
+    size_t element;
+    size_t ids;
+    size_t packet_read;
+    size_t parameter_set;
+    size_t h264_payloader;
+    size_t h264_sent;
+    size_t h264_packet;
+    size_t body;
+    size_t h264_read;
+    size_t vp8_payloader;
+    size_t vp8_sent;
+    size_t vp8_packet;
+    size_t vp8_read;
+    size_t joiner;
+    size_t joined;
+    size_t closed;
+};
+
+struct rtp_sizes rtp_sizes(void);
+
 #ifdef __cplusplus
 }
 #endif

@@ -44,12 +44,14 @@ use Rattle.gateway.specs.declared.rtp_vp8.RtpVp8Sent.{RtpVp8Sent}
 use Rattle.gateway.specs.declared.rtp_vp8.RtpVp8Read.{RtpVp8Read}
 use Rattle.gateway.specs.declared.rtp_joiner.RtpJoined.{RtpJoined}
 use Rattle.gateway.specs.declared.rtp_joiner.RtpClosed.{RtpClosed}
+use Rattle.gateway.specs.declared.rtp_sizes.RtpSizes.{RtpSizes}
 use Rattle.gateway.specs.Refused.{testAs}
 use Rattle.gateway.specs.HeaderAnswers.{headerReadAs, lengthAs, headerChangedAs, elementAs, idsAs}
 use Rattle.gateway.specs.PacketAnswers.{packetReadAs}
 use Rattle.gateway.specs.H264Answers.{h264SentAs, h264ReadAs}
 use Rattle.gateway.specs.Vp8Answers.{vp8SentAs, vp8ReadAs}
 use Rattle.gateway.specs.JoinerAnswers.{joinedAs, closedAs}
+use Rattle.gateway.specs.Sizes.{sizes}
 
 -- the contract is an equation of the result, and one of each of two buffers
 by-three : {A B C : Type 0} (a : A) (b : B) (c : C) → Determined (λ (r : A × (B × C)). (r .0 ≡ a) × ((r .1 .0 ≡ b) × (r .1 .1 ≡ c)))
@@ -161,3 +163,8 @@ joiner-join-only j packet gather out =
 
 pub joiner-close-only : (j : Joiner) (number : ℕ) → Determined (λ (r : RtpClosed). r ≡ closedAs (closeStep j number))
 joiner-close-only j number = by-value (closedAs (closeStep j number))
+
+-- ---- the sizes
+
+pub sizes-only : Determined (λ (r : RtpSizes). r ≡ sizes)
+sizes-only = by-value sizes

@@ -4,3 +4,4 @@ pub mod PacketAnswers
 pub mod H264Answers
 pub mod Vp8Answers
 pub mod JoinerAnswers
+pub mod Sizes

@@ -9,3 +9,4 @@ pub mod rtp_packet; // rtp_packet.rt: the packet read, sized, written
 pub mod rtp_h264; // rtp_h264.rt: H.264 frames sent, payloads read
 pub mod rtp_vp8; // rtp_vp8.rt: VP8 frames sent, payloads read
 pub mod rtp_joiner; // rtp_joiner.rt: the joiner opened, brought up to date, closed
+pub mod rtp_sizes; // rtp_sizes.rt: how many bytes each record has

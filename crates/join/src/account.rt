@@ -3,6 +3,8 @@ ghost use mathlib.Core.Path.{_≡_};
 ghost use Prim.Native.Nat.{_+_, _%_, _^_};
 ghost use Rattle.join.specs.Account.{nothingYet, counted, acceptedBy, cameLate, refusedBy};
 use error::Error;
+use stream::Text;
+use stream::status;
 
 pub struct Account {
     // the packets of the file
@@ -74,51 +76,54 @@ impl Account {
         self
     }
 
-    // Writes the totals, a line each.
-    pub fn write(self, fd: i32, missed: u32) {
-        line(fd, b"packets ", self.packets);
-        line(fd, b"accepted ", self.accepted);
-        line(fd, b"late ", self.late);
-        line(fd, b"other sources ", self.others);
+    // The totals, a line each, behind other text.
+    pub fn text(self, before: Text, missed: u32) -> Text {
         let refused = self.refused;
-        refusals(fd, refused);
-        line(fd, b"missed ", missed as u64);
-        line(fd, b"units ", self.units);
-        line(fd, b"bytes ", self.bytes);
+        let text = before
+            .number(b"packets ", self.packets)
+            .number(b"\naccepted ", self.accepted)
+            .number(b"\nlate ", self.late)
+            .number(b"\nother sources ", self.others);
+        refusals(text, refused)
+            .number(b"\nmissed ", missed as u64)
+            .number(b"\nunits ", self.units)
+            .number(b"\nbytes ", self.bytes)
+            .word(b"\n")
+    }
+
+    // A show that handed out nothing leaves no clip.
+    pub fn status(self) -> u8 {
+        if self.bytes == 0 {
+            return status::NOTHING;
+        }
+        status::DONE
     }
 }
 
-fn line(fd: i32, name: &[u8], n: u64) {
-    io::write_all(fd, name);
-    io::print_decimal(fd, n);
-    io::write_all(fd, b"\n");
-}
-
-fn refusal(fd: i32, number: usize, n: u64) {
+fn refusal(text: Text, number: usize, n: u64) -> Text {
     if n == 0 {
-        return;
+        return text;
     }
-    io::write_all(fd, b"refused ");
-    io::print_decimal(fd, number as u64);
-    line(fd, b": ", n);
+    text.number(b"\nrefused ", number as u64).number(b": ", n)
 }
 
-fn refusals(fd: i32, refused: [u64; 256]) {
+fn refusals(before: Text, refused: [u64; 256]) -> Text {
+    let mut text = before;
     let mut i = 0;
     while i < 256 {
-        refusal(fd, i, refused[i]);
+        text = refusal(text, i, refused[i]);
         i += 1;
     }
+    text
 }
 
-// The numbers of a jump: `count` of them from `first` on.
-pub fn jump(fd: i32, first: u16, count: u16) {
+// The numbers of a jump, if there are any: `count` of them from `first` on.
+pub fn jump(text: Text, first: u16, count: u16) -> Text {
     if count == 0 {
-        return;
+        return text;
     }
-    io::write_all(fd, b"jump from ");
-    io::print_decimal(fd, first as u64);
-    io::write_all(fd, b" to ");
     let last = std::num::wrapping_add_u16(first, count - 1);
-    line(fd, b"", last as u64);
+    text.number(b"jump from ", first as u64)
+        .number(b" to ", last as u64)
+        .word(b"\n")
 }

@@ -2,30 +2,14 @@
 use crate::account;
 use crate::account::Account;
 use error::Error;
-use joiner::Closed;
 use joiner::Joined;
 use joiner::Joiner;
 use joiner::Step;
 use nal_read::Kind;
 use nal_read::Measured;
 use packet::PacketRead;
-
-pub enum Fault {
-    Nothing,
-    // a unit has no room in the buffers
-    TooLong,
-    NotWritten,
-}
-
-impl Fault {
-    pub fn is_nothing(self) -> bool {
-        match self {
-            Fault::Nothing => true,
-            Fault::TooLong => false,
-            Fault::NotWritten => false,
-        }
-    }
-}
+use stream::Text;
+use stream::status;
 
 pub struct Show {
     // what was accepted so far
@@ -34,16 +18,11 @@ pub struct Show {
     pub opened: bool,
     // of the packets so far
     pub account: Account,
-    // why it stopped
-    pub fault: Fault,
-}
-
-// Where a show is written to.
-pub struct Outputs {
-    // the clip's descriptor
-    pub clip: i32,
-    // the account's
-    pub account: i32,
+    // the descriptors of the packets and of the clip
+    pub from: i32,
+    pub to: i32,
+    // DONE while all goes well
+    pub status: u8,
 }
 
 // How many units an accepted packet hands out with its bytes.
@@ -51,7 +30,11 @@ fn units_of(packet: &[u8], bytes: usize) -> usize {
     if bytes == 0 {
         return 0;
     }
-    let payload = stream::payload(packet);
+    let read = packet::unmarshal(packet).read;
+    let PacketRead::Payload { at, len } = read else {
+        return 0;
+    };
+    let payload = stream::part(packet, at, len);
     let kind = nal_read::kind_of(payload);
     let Kind::Aggregate = kind else {
         return 1;
@@ -64,25 +47,34 @@ fn units_of(packet: &[u8], bytes: usize) -> usize {
 }
 
 // A refusal that says that a unit has no room.
-fn fault_of(e: Error) -> Fault {
+fn status_of(e: Error) -> u8 {
     match e {
-        Error::ErrBufferTooSmall => Fault::TooLong,
-        Error::GatherTooSmall => Fault::TooLong,
-        _ => Fault::Nothing,
+        Error::ErrBufferTooSmall => status::LONG,
+        Error::GatherTooSmall => status::LONG,
+        _ => status::DONE,
     }
 }
 
-// Writes the first bytes of the output.
-fn hand_out(clip: i32, out: &[u8], bytes: usize) -> Fault {
-    if io::write_all(clip, stream::front(out, bytes)) {
-        return Fault::Nothing;
+// Writes the numbers of a jump, if any, and the bytes that were handed out.
+fn write(to: i32, first: u16, count: u16, bytes: &[u8]) -> u8 {
+    if !account::jump(Text::new(), first, count).write(stream::account_to(to)) {
+        return status::unwritten();
     }
-    Fault::NotWritten
+    if !io::write_all(to, bytes) {
+        return status::unwritten();
+    }
+    status::DONE
 }
 
 impl Show {
+    // It goes on only where the status is DONE.
+    pub fn ended(mut self, status: u8) -> Show {
+        self.status = status;
+        self
+    }
+
     // Opens the joiner by the first packet that is read.
-    fn open(self, packet: &[u8]) -> Show {
+    fn open(mut self, packet: &[u8]) -> Show {
         if self.opened {
             return self;
         }
@@ -91,27 +83,15 @@ impl Show {
         let PacketRead::Payload { at: _, len: _ } = read else {
             return self;
         };
-        let account = self.account;
-        Show {
-            joiner: Joiner::open(answer.header.ssrc, answer.header.sequence_number),
-            opened: true,
-            account,
-            fault: Fault::Nothing,
-        }
-    }
-
-    fn with(self, joiner: Joiner, account: Account, fault: Fault) -> Show {
-        Show {
-            joiner,
-            opened: self.opened,
-            account,
-            fault,
-        }
+        self.joiner = Joiner::open(answer.header.ssrc, answer.header.sequence_number);
+        self.opened = true;
+        self
     }
 
     // What became of a packet: `out` is as the joiner left it.
-    fn note<'a>(self, packet: &'a [u8], step: Step, to: Outputs, out: &'a [u8]) -> Show {
+    fn note<'a>(mut self, packet: &'a [u8], step: Step, out: &'a [u8]) -> Show {
         let joiner = step.joiner;
+        self.joiner = joiner;
         let account = self.account;
         let answer = step.answer;
         match answer {
@@ -120,37 +100,25 @@ impl Show {
                 count,
                 bytes,
             } => {
-                account::jump(to.account, first, count);
-                let units = units_of(packet, bytes);
-                let fault = hand_out(to.clip, out, bytes);
-                self.with(joiner, account.accept(units, bytes), fault)
+                self.account = account.accept(units_of(packet, bytes), bytes);
+                self.ended(write(self.to, first, count, stream::front(out, bytes)))
             }
-            Joined::Late => self.with(joiner, account.come_late(), Fault::Nothing),
-            Joined::Refused(e) => self.with(joiner, account.refuse(e), fault_of(e)),
+            Joined::Late => {
+                self.account = account.come_late();
+                self
+            }
+            Joined::Refused(e) => {
+                self.account = account.refuse(e);
+                self.ended(status_of(e))
+            }
         }
     }
 
     // One packet more.
-    pub fn join(self, packet: &[u8], to: Outputs, gather: &mut [u8], out: &mut [u8]) -> Show {
+    pub fn join(self, packet: &[u8], gather: &mut [u8; 3145728], out: &mut [u8; 3211264]) -> Show {
         let show = self.open(packet);
         let joiner = show.joiner;
         let step = joiner.join(packet, gather, out);
-        show.note(packet, step, to, out)
-    }
-
-    // Closes the joiner at a number, and writes the account. Whether the number closes it.
-    pub fn close(self, fd: i32, number: u16) -> bool {
-        let joiner = self.joiner;
-        let account = self.account;
-        let closing = joiner.close(number);
-        let answer = closing.answer;
-        match answer {
-            Closed::Closed { first, count } => {
-                account::jump(fd, first, count);
-                account.write(fd, closing.joiner.missed);
-                true
-            }
-            Closed::Refused(_) => false,
-        }
+        show.note(packet, step, out)
     }
 }

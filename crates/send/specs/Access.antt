@@ -66,3 +66,16 @@ edgeOf s = run (look s) Nothing (length s + 1) (record { start = 0; coded = fals
 abbrev pub Inside : Edge → ℕ → Type 0
 Inside (At n) size = n ≤ size
 Inside Nothing size = Unit
+
+-- all of the bytes, where a start code is there
+abbrev pub allBy : List ℕ → Found → ℕ
+allBy s (found.At at len) = length s
+allBy s found.Nothing = 0
+
+abbrev pub lenBy : List ℕ → Bool → Edge → ℕ
+lenBy s ended (At n) = n
+lenBy s ended Nothing = cond ended (allBy s (codeFrom s 0)) 0
+
+-- how long the first access unit is, where the file may end with these bytes: 0 where that is not certain, or no start code is there
+unfoldable pub firstLen : List ℕ → Bool → ℕ
+firstLen s ended = lenBy s ended (edgeOf s)

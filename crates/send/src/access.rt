@@ -5,8 +5,9 @@
 // comparison of headers in section 7.4.1.2.4: in a stream with slices in arbitrary order the two differ, and with them marker and
 // time.
 ghost use mathlib.Core.Path.{_≡_};
+ghost use Prim.Native.Nat.{_≤_};
 ghost use lib.ListN.{length};
-ghost use Rattle.send.specs.Access.{isSlice, isBefore, hasHeader, begins as beginsOf, codeFrom, edgeOf, Inside};
+ghost use Rattle.send.specs.Access.{isSlice, isBefore, hasHeader, begins as beginsOf, codeFrom, edgeOf, Inside, firstLen};
 use h264::Found;
 use h264::Search;
 use h264::next_ind;
@@ -82,7 +83,7 @@ fn next_code(s: &[u8], start: usize) -> Found
 }
 
 // The end of the first access unit: none where the bytes end before it is certain.
-pub fn find_edge(s: &[u8]) -> Edge
+fn find_edge(s: &[u8]) -> Edge
     ensures { λ r. ⌜ (r ≡ edgeOf (now (s .entry))) × Inside r (length (now (s .entry))) ⌝ }
 {
     let mut start = 0;
@@ -105,4 +106,22 @@ pub fn find_edge(s: &[u8]) -> Edge
         }
         start = unit;
     }
+}
+
+// How long the first access unit is, in bytes with which the file may end: 0 where that is not certain, or no start code is there.
+pub fn first_len(s: &[u8], ended: bool) -> usize
+    ensures { λ r. ⌜ (r ≡ firstLen (now (s .entry)) ended) × (r ≤ length (now (s .entry))) ⌝ }
+{
+    let edge = find_edge(s);
+    if let Edge::At(n) = edge {
+        return n;
+    }
+    if !ended {
+        return 0;
+    }
+    let found = next_code(s, 0);
+    if let Found::At(_, _) = found {
+        return s.len();
+    }
+    0
 }

@@ -1,16 +1,14 @@
 // The access units of a file, one after the other.
 ghost use lib.ListN.{length};
-ghost use mathlib.Core.Path.{_≡_};
-ghost use Rattle.stream.specs.Window.{Within, from as windowFrom};
-ghost use Rattle.send.specs.Frames.{Placed};
-use crate::access::Edge;
-use crate::access::find_edge;
+ghost use Rattle.stream.specs.Window.{Within};
+use crate::access;
 use stream::Window;
+use stream::status;
 
 pub enum Frame {
-    // an access unit stands from `at` up to `end`
-    Bytes { at: usize, end: usize },
-    // none ends in these bytes
+    // an access unit is `len` bytes from `at` on
+    Bytes { at: usize, len: usize },
+    // none ends in these bytes or, where the file does, none begins there
     Open,
     // no byte is left
     End,
@@ -22,30 +20,18 @@ pub struct NextFrame {
     pub frame: Frame,
 }
 
-fn taken(w: Window, at: usize, end: usize) -> NextFrame
-    ensures { λ r. ⌜ (r .window ≡ windowFrom end w) × (r .frame ≡ Frame.Bytes at end) ⌝ }
-{
-    NextFrame {
-        window: w.from(end),
-        frame: Frame::Bytes { at, end },
-    }
-}
-
 // The first access unit of a window; all that is left where the file ends with it.
 fn first_in(buf: &[u8], w: Window) -> NextFrame
     requires { ⌜ Within w (length (now buf)) ⌝ }
-    ensures { λ r. ⌜ Within (r .window) (length (now (buf .entry))) × Placed (r .frame) (length (now (buf .entry))) ⌝ }
+    ensures { λ r. ⌜ Within (r .window) (length (now (buf .entry))) ⌝ }
 {
     let at = w.at;
     let end = w.end;
-    let edge = find_edge(&buf[at..end]);
-    if let Edge::At(n) = edge {
-        return taken(w, at, at + n);
-    }
-    if !w.ended {
+    let len = access::first_len(&buf[at..end], w.ended);
+    if len != 0 {
         return NextFrame {
-            window: w,
-            frame: Frame::Open,
+            window: w.from(at + len),
+            frame: Frame::Bytes { at, len },
         };
     }
     if at == end {
@@ -54,28 +40,40 @@ fn first_in(buf: &[u8], w: Window) -> NextFrame
             frame: Frame::End,
         };
     }
-    taken(w, at, end)
-}
-
-fn is_open(frame: Frame) -> bool {
-    match frame {
-        Frame::Bytes { at: _, end: _ } => false,
-        Frame::Open => true,
-        Frame::End => false,
+    NextFrame {
+        window: w,
+        frame: Frame::Open,
     }
 }
 
-// The next access unit of a file, behind one more read where the window has none that is whole. `Open` where the buffer is full,
-// and an access unit does not end in it.
-pub fn next_frame(fd: i32, buf: &mut [u8], w: Window) -> NextFrame
-    requires { ⌜ Within w (length (now buf)) ⌝ }
-    ensures { λ r. ⌜ Within (r .window) (length (now (buf .exit))) × Placed (r .frame) (length (now (buf .exit))) ⌝ }
+// The next access unit of a file, behind one more read where the window has none that is whole.
+pub fn next_frame(fd: i32, buf: &mut [u8; 3145728], w: Window) -> NextFrame
+    requires { ⌜ Within w 3145728 ⌝ }
+    ensures { λ r. ⌜ Within (r .window) 3145728 ⌝ }
 {
     let here = first_in(buf, w);
     let frame = here.frame;
-    if !is_open(frame) {
+    if let Frame::Bytes { at: _, len: _ } = frame {
+        return here;
+    }
+    if w.ended {
         return here;
     }
     let fresh = stream::refill(fd, buf, w);
     first_in(buf, fresh)
+}
+
+// How a file ended behind its last access unit.
+pub fn ending(last: NextFrame) -> u8 {
+    if last.window.failed {
+        return status::unread();
+    }
+    let frame = last.frame;
+    let Frame::Open = frame else {
+        return status::DONE;
+    };
+    if last.window.ended {
+        return status::NO_CODE;
+    }
+    status::LONG
 }

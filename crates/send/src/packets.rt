@@ -1,13 +1,14 @@
-// The packets of an access unit, written to a file.
+// The packets of access units, written to a file.
+ghost use Prim.Native.Nat.{_≤_};
+ghost use lib.ListN.{length};
 use error::Error;
 use h264::H264Payloader;
 use h264::Payloads;
-use h264::Sent;
 use header::Header;
 use header::Length;
+use stream::status;
 
-// What stays the same for all packets.
-pub struct Plan {
+pub struct Sending {
     // the most bytes of a payload: 3 to 65,523
     pub mtu: usize,
     pub source: u32,
@@ -15,29 +16,9 @@ pub struct Plan {
     pub payload_type: u8,
     // how far the time goes on with each access unit, at a clock of 90,000 a second
     pub ticks: u32,
-}
-
-pub enum Fault {
-    Nothing,
-    // the packets of an access unit have no room in the buffers
-    NoRoom,
-    // a parameter set is over 1,024 bytes
-    LongSet,
-    NotWritten,
-}
-
-impl Fault {
-    pub fn is_nothing(self) -> bool {
-        match self {
-            Fault::Nothing => true,
-            Fault::NoRoom => false,
-            Fault::LongSet => false,
-            Fault::NotWritten => false,
-        }
-    }
-}
-
-pub struct Sending {
+    // the descriptors of the clip and of the packets
+    pub from: i32,
+    pub to: i32,
     // with the parameter sets saved so far
     pub sender: H264Payloader,
     // the number of the next packet
@@ -47,174 +28,121 @@ pub struct Sending {
     // how many were written
     pub frames: u64,
     pub packets: u64,
-    // why it stopped
-    pub fault: Fault,
-}
-
-fn header(plan: Plan, number: u16, time: u32, marker: bool) -> Header {
-    let mut h = Header::default();
-    h.version = 2;
-    h.marker = marker;
-    h.payload_type = plan.payload_type;
-    h.sequence_number = number;
-    h.timestamp = time;
-    h.ssrc = plan.source;
-    h
+    // NO_SETS until a pair of parameter sets was among them
+    pub sets: u8,
+    // DONE while all goes well
+    pub status: u8,
 }
 
 // Writes the record of one packet. Whether it was written.
-fn write_packet(
-    fd: i32,
-    h: Header,
-    payload: &[u8],
-    packet: &mut [u8; 65535],
-    record: &mut [u8; 65537],
-) -> bool {
-    let length = packet::marshal_to(h, payload, packet);
+fn write_packet(to: i32, h: Header, payload: &[u8], record: &mut [u8]) -> bool
+    requires { ⌜ 65537 ≤ length (now «record») ⌝ }
+{
+    let length = packet::marshal_to(h, payload, &mut record[2..]);
     match length {
         Length::Bytes(n) => {
-            let size = stream::put_record(stream::front(packet, n), record);
-            io::write_all(fd, stream::front(record, size))
+            let size = stream::frame(record, n);
+            io::write_all(to, stream::front(record, size))
         }
         Length::Refused(_) => false,
     }
 }
 
-fn end_of(ends: &[usize], i: usize) -> usize {
-    if i < ends.len() {
-        return ends[i];
+// Whether a payload is a STAP-A, in which the sender puts a pair of parameter sets.
+fn is_pair(payload: &[u8]) -> bool {
+    if payload.len() == 0 {
+        return false;
     }
-    0
+    payload[0] == 0x78
 }
 
-struct Written {
-    // the number behind the last packet
-    number: u16,
-    all: bool,
-}
-
-// Writes the n packets of an access unit; the marker stands on the last.
-fn write_packets<'a>(
-    fd: i32,
-    plan: Plan,
-    first: u16,
-    time: u32,
-    n: usize,
-    out: &'a [u8],
-    ends: &'a [usize],
-    packet: &mut [u8; 65535],
-    record: &mut [u8; 65537],
-) -> Written {
-    let mut number = first;
-    let mut from = 0;
-    let mut i = 0;
-    while i < n {
-        let to = end_of(ends, i);
-        let h = header(plan, number, time, i == n - 1);
-        if !write_packet(fd, h, stream::between(out, from, to), packet, record) {
-            return Written { number, all: false };
-        }
-        number = sequence::after(number);
-        from = to;
-        i += 1;
+// Where packet i ends, which begins at `from`.
+fn end_of(ends: &[usize], i: usize, from: usize) -> usize
+    ensures { λ r. ⌜ from ≤ r ⌝ }
+{
+    if ends.len() <= i {
+        return from;
     }
-    Written { number, all: true }
+    let end = ends[i];
+    if end < from {
+        return from;
+    }
+    end
 }
 
-fn fault_of(e: Error) -> Fault {
+fn status_of(e: Error) -> u8 {
     match e {
-        Error::OverLimits => Fault::LongSet,
-        _ => Fault::NoRoom,
+        Error::OverLimits => status::LONG_SET,
+        _ => status::LONG,
     }
 }
 
 impl Sending {
-    pub fn new(first: u16) -> Sending {
-        Sending {
-            sender: H264Payloader::new(),
-            number: first,
-            time: 0,
-            frames: 0,
-            packets: 0,
-            fault: Fault::Nothing,
-        }
+    // It goes on only where the status is DONE.
+    pub fn ended(mut self, status: u8) -> Sending {
+        self.status = status;
+        self
     }
 
-    fn stopped(self, fault: Fault) -> Sending {
-        let sender = self.sender;
-        Sending {
-            sender,
-            number: self.number,
-            time: self.time,
-            frames: self.frames,
-            packets: self.packets,
-            fault,
-        }
+    fn header(self, marker: bool) -> Header {
+        let mut h = Header::default();
+        h.version = 2;
+        h.marker = marker;
+        h.payload_type = self.payload_type;
+        h.sequence_number = self.number;
+        h.timestamp = self.time;
+        h.ssrc = self.source;
+        h
     }
 
-    // An access unit of n packets was written.
-    fn past(self, sender: H264Payloader, plan: Plan, n: usize, number: u16) -> Sending {
-        Sending {
-            sender,
-            number,
-            time: std::num::wrapping_add_u32(self.time, plan.ticks),
-            frames: std::num::wrapping_add_u64(self.frames, 1),
-            packets: std::num::wrapping_add_u64(self.packets, n as u64),
-            fault: Fault::Nothing,
+    // One packet more.
+    fn packet(mut self, payload: &[u8], last: bool, record: &mut [u8; 65537]) -> Sending {
+        if self.status != status::DONE {
+            return self;
         }
+        if !write_packet(self.to, self.header(last), payload, record) {
+            return self.ended(status::unwritten());
+        }
+        self.number = sequence::after(self.number);
+        self.packets = std::num::wrapping_add_u64(self.packets, 1);
+        if is_pair(payload) {
+            self.sets = status::DONE;
+        }
+        self
     }
 
-    // Writes the packets of an access unit, as the sender left them in `out` and `ends`.
-    fn write<'a>(
-        self,
-        fd: i32,
-        plan: Plan,
-        sent: Sent,
-        out: &'a [u8],
-        ends: &'a [usize],
-        packet: &mut [u8; 65535],
-        record: &mut [u8; 65537],
-    ) -> Sending {
-        let answer = sent.answer;
-        match answer {
-            Payloads::Written {
-                packets: n,
-                bytes: _,
-            } => {
-                let w = write_packets(
-                    fd,
-                    plan,
-                    self.number,
-                    self.time,
-                    n,
-                    out,
-                    ends,
-                    packet,
-                    record,
-                );
-                if !w.all {
-                    return self.stopped(Fault::NotWritten);
-                }
-                let after = sent.sender;
-                self.past(after, plan, n, w.number)
-            }
-            Payloads::Refused(e) => self.stopped(fault_of(e)),
+    // The n packets of an access unit, as the sender left them; the marker stands on the last.
+    fn write<'a>(self, n: usize, out: &'a [u8], ends: &'a [usize]) -> Sending {
+        let mut record = [0u8; 65537];
+        let mut sending = self;
+        let mut from = 0;
+        let mut i = 0;
+        while i < n {
+            let to = end_of(ends, i, from);
+            sending = sending.packet(stream::part(out, from, to - from), i == n - 1, &mut record);
+            from = to;
+            i += 1;
         }
+        sending.time = std::num::wrapping_add_u32(sending.time, sending.ticks);
+        sending.frames = std::num::wrapping_add_u64(sending.frames, 1);
+        sending
     }
 
     // One access unit more.
     pub fn send(
-        self,
-        fd: i32,
-        plan: Plan,
+        mut self,
         frame: &[u8],
-        out: &mut [u8],
-        ends: &mut [usize],
-        packet: &mut [u8; 65535],
-        record: &mut [u8; 65537],
+        out: &mut [u8; 3407872],
+        ends: &mut [usize; 65536],
     ) -> Sending {
         let sender = self.sender;
-        let sent = sender.payload(plan.mtu, frame, out, ends);
-        self.write(fd, plan, sent, out, ends, packet, record)
+        let sent = sender.payload(self.mtu, frame, out, ends);
+        let after = sent.sender;
+        self.sender = after;
+        let answer = sent.answer;
+        match answer {
+            Payloads::Written { packets, bytes: _ } => self.write(packets, out, ends),
+            Payloads::Refused(e) => self.ended(status_of(e)),
+        }
     }
 }

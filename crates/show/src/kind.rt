@@ -1,60 +1,43 @@
 // What a payload is, by its codec.
-use crate::line::field;
 use crate::line::refused;
-use crate::line::word;
 use error::Error;
 use nal_read::Kind;
 use nal_read::Measured;
+use stream::Text;
 use vp8::Vp8Packet;
 use vp8::Vp8Read;
 
-pub enum Codec {
-    H264,
-    Vp8,
-}
-
 // The units of a STAP-A.
-fn aggregate(payload: &[u8]) {
+fn aggregate(text: Text, payload: &[u8]) -> Text {
     let measured = nal_read::measure(payload);
     match measured {
-        Measured::Units { count, bytes: _ } => field(b" h264 STAP-A of ", count as u64),
-        Measured::Refused(e) => {
-            word(b" h264 STAP-A ");
-            refused(e);
-        }
+        Measured::Units { count, bytes: _ } => text.number(b"STAP-A of ", count as u64),
+        Measured::Refused(e) => refused(text.word(b"STAP-A "), e),
     }
 }
 
-fn fragment(first: bool, last: bool, head: u8) {
-    field(b" h264 FU-A ", (head % 32) as u64);
-    if first {
-        word(b" start");
-    }
-    if last {
-        word(b" end");
-    }
+fn fragment(text: Text, first: bool, last: bool, head: u8) -> Text {
+    text.number(b"FU-A ", (head % 32) as u64)
+        .when(first, b" start")
+        .when(last, b" end")
 }
 
 // The type of the unit that a payload is.
-fn plain(payload: &[u8]) {
-    if 0 < payload.len() {
-        field(b" h264 unit ", (payload[0] % 32) as u64);
+fn plain(text: Text, payload: &[u8]) -> Text {
+    if payload.len() == 0 {
+        return text;
     }
+    text.number(b"unit ", (payload[0] % 32) as u64)
 }
 
-fn h264_refused(e: Error) {
-    word(b" h264 ");
-    refused(e);
-}
-
-fn h264(payload: &[u8]) {
+fn h264(text: Text, payload: &[u8]) -> Text {
     let kind = nal_read::kind_of(payload);
     match kind {
-        Kind::Short => h264_refused(Error::ErrShortPacket),
-        Kind::Unknown(t) => h264_refused(Error::NaluTypeIsNotHandled(t)),
-        Kind::Plain => plain(payload),
-        Kind::Aggregate => aggregate(payload),
-        Kind::Fragment { first, last, head } => fragment(first, last, head),
+        Kind::Short => refused(text, Error::ErrShortPacket),
+        Kind::Unknown(t) => refused(text, Error::NaluTypeIsNotHandled(t)),
+        Kind::Plain => plain(text, payload),
+        Kind::Aggregate => aggregate(text, payload),
+        Kind::Fragment { first, last, head } => fragment(text, first, last, head),
     }
 }
 
@@ -76,30 +59,27 @@ fn no_fields() -> Vp8Packet {
     }
 }
 
-fn vp8(payload: &[u8]) {
+fn partition(text: Text, fields: Vp8Packet) -> Text {
+    let text = text.number(b"partition ", fields.pid as u64)
+        .when(fields.s == 1, b" start");
+    if fields.i == 1 {
+        return text.number(b" picture ", fields.picture_id as u64);
+    }
+    text
+}
+
+fn vp8(text: Text, payload: &[u8]) -> Text {
     let answer = no_fields().depacketize(payload);
     let read = answer.read;
     match read {
-        Vp8Read::Payload(_) => {
-            let fields = answer.packet;
-            field(b" vp8 partition ", fields.pid as u64);
-            if fields.s == 1 {
-                word(b" start");
-            }
-            if fields.i == 1 {
-                field(b" picture ", fields.picture_id as u64);
-            }
-        }
-        Vp8Read::Refused(e) => {
-            word(b" vp8 ");
-            refused(e);
-        }
+        Vp8Read::Payload(_) => partition(text, answer.packet),
+        Vp8Read::Refused(e) => refused(text, e),
     }
 }
 
-pub fn write(payload: &[u8], codec: Codec) {
-    match codec {
-        Codec::H264 => h264(payload),
-        Codec::Vp8 => vp8(payload),
+pub fn kind(text: Text, payload: &[u8], is_vp8: bool) -> Text {
+    if is_vp8 {
+        return vp8(text.word(b" vp8 "), payload);
     }
+    h264(text.word(b" h264 "), payload)
 }

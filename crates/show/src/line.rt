@@ -1,74 +1,57 @@
 // A packet in one line.
 use crate::kind;
-use crate::kind::Codec;
 use error::Error;
 use header::Header;
-use libc::STDOUT_FILENO;
 use packet::PacketRead;
+use stream::Text;
 
-pub fn word(text: &[u8]) {
-    io::write_all(STDOUT_FILENO, text);
-}
-
-pub fn field(name: &[u8], n: u64) {
-    word(name);
-    io::print_decimal(STDOUT_FILENO, n);
-}
-
-fn flag(b: bool) -> u64 {
-    if b { 1 } else { 0 }
-}
-
-fn element(id: u8, len: u16) {
-    field(b" ", id as u64);
-    field(b":", len as u64);
+fn element(text: Text, there: bool, id: u8, len: u16) -> Text {
+    if there {
+        return text.number(b" ", id as u64).number(b":", len as u64);
+    }
+    text
 }
 
 // Id and length of each element.
-fn extensions(h: Header) {
-    word(b" extensions");
+fn extensions(before: Text, h: Header) -> Text {
     let elements = h.extensions;
-    if elements.count == 0 {
-        word(b" none");
-    }
     let ids = elements.ids;
     let lens = elements.lens;
+    let mut text = before.when(elements.count == 0, b" none");
     let mut i = 0;
     while i < 32 {
-        if i < elements.count {
-            element(ids[i], lens[i]);
-        }
+        text = element(text, i < elements.count, ids[i], lens[i]);
         i += 1;
     }
+    text
 }
 
-fn fields(h: Header) {
-    field(b"number ", h.sequence_number as u64);
-    field(b" time ", h.timestamp as u64);
-    field(b" source ", h.ssrc as u64);
-    field(b" marker ", flag(h.marker));
-    field(b" type ", h.payload_type as u64);
-    extensions(h);
+fn fields(h: Header) -> Text {
+    Text::new()
+        .number(b"number ", h.sequence_number as u64)
+        .number(b" time ", h.timestamp as u64)
+        .number(b" source ", h.ssrc as u64)
+        .number(b" marker ", h.marker as u64)
+        .number(b" type ", h.payload_type as u64)
+        .word(b" extensions")
 }
 
-pub fn refused(e: Error) {
-    field(b"refused ", e.number() as u64);
+pub fn refused(text: Text, e: Error) -> Text {
+    text.number(b"refused ", e.number() as u64)
 }
 
-// `packet` lies in a file's buffer.
-pub fn write(packet: &[u8], codec: Codec) {
+pub fn line(packet: &[u8], vp8: bool) -> Text {
     let answer = packet::unmarshal(packet);
     let read = answer.read;
     match read {
-        PacketRead::Payload { at: _, len } => {
-            fields(answer.header);
-            kind::write(stream::payload(packet), codec);
-            field(b" payload ", len as u64);
+        PacketRead::Payload { at, len } => {
+            let text = extensions(fields(answer.header), answer.header);
+            kind::kind(text, stream::part(packet, at, len), vp8)
+                .number(b" payload ", len as u64)
+                .word(b"\n")
         }
-        PacketRead::Refused(e) => {
-            refused(e);
-            field(b" packet ", packet.len() as u64);
-        }
+        PacketRead::Refused(e) => refused(Text::new(), e)
+            .number(b" packet ", packet.len() as u64)
+            .word(b"\n"),
     }
-    word(b"\n");
 }

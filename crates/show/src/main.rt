@@ -2,75 +2,66 @@
 mod kind;
 mod line;
 
-use kind::Codec;
+use libc::STDOUT_FILENO;
+use stream::Next;
 use stream::Record;
-use stream::Status;
 use stream::Window;
-ghost use lib.ListN.{length};
+use stream::status;
 
-fn usage() -> Status {
-    stream::usage(
-        b"usage: rtp show PACKETS [h264|vp8]\nOne line for each RTP packet of a file framed by RFC 4571.\n",
-    )
+// Whether the second argument names VP8: where it does not, or is not there, the codec is H.264.
+fn is_vp8() -> bool {
+    let mut name = [0u8; 4];
+    let n = os::arg(2, &mut name);
+    check::same(&name[..n], b"vp8")
 }
 
-fn show(fd: i32, path: &[u8], codec: Codec, buf: &mut [u8]) -> Status {
+// How a file ended: not well where it had no packet.
+fn ending(last: Next, none: bool) -> u8 {
+    let status = stream::ending(last);
+    if status != status::DONE {
+        return status;
+    }
+    if none {
+        return status::NOTHING;
+    }
+    status::DONE
+}
+
+fn write(packet: &[u8], vp8: bool) -> u8 {
+    if line::line(packet, vp8).write(STDOUT_FILENO) {
+        return status::DONE;
+    }
+    status::unwritten()
+}
+
+fn show(fd: i32, vp8: bool, buf: &mut [u8; 131072]) -> u8 {
     let mut w = Window::new();
+    let mut status = status::DONE;
     let mut turns = u64::MAX;
     loop {
+        if stream::is_over(status, turns) {
+            break status;
+        }
         let next = stream::next_packet(fd, buf, w);
         let found = next.found;
         let Record::Packet { at, len } = found else {
-            break stream::ending(path, next);
+            break ending(next, turns == u64::MAX);
         };
-        line::write(&buf[at..at + len], codec);
-        if stream::is_over(true, turns) {
-            break Status::Done;
-        }
+        status = write(stream::part(buf, at, len), vp8);
         turns -= 1;
         w = next.window;
     }
 }
 
-fn open_and_show(path: &[u8], codec: Codec, buf: &mut [u8]) -> Status {
-    let fd = os::open_read(path);
+fn run(buf: &mut [u8; 131072]) -> u8 {
+    let fd = stream::open(1, false);
     if fd < 0 {
-        return stream::failed(path);
+        return status::FAILED;
     }
-    let status = show(fd, path, codec, buf);
-    libc::close(fd);
-    status
-}
-
-// The second argument names the codec: H.264 where there is none.
-fn by_codec(path: &[u8], buf: &mut [u8]) -> Status {
-    if os::arg_count() == 2 {
-        return open_and_show(path, Codec::H264, buf);
-    }
-    let mut name = [0u8; 8];
-    let n = os::arg(2, &mut name);
-    if check::same(&name[..n], b"h264") {
-        return open_and_show(path, Codec::H264, buf);
-    }
-    if check::same(&name[..n], b"vp8") {
-        return open_and_show(path, Codec::Vp8, buf);
-    }
-    usage()
-}
-
-fn run(buf: &mut [u8]) -> Status {
-    if 3 < os::arg_count() {
-        return usage();
-    }
-    let mut path = io::buffer();
-    let n = os::arg(1, &mut path);
-    if os::errno() != 0 {
-        return usage();
-    }
-    by_codec(&path[..n], buf)
+    show(fd, is_vp8(), buf)
 }
 
 fn main() {
     let mut buf = [0u8; 131072];
-    stream::tell(run(&mut buf));
+    status::tell(run(&mut buf));
 }

@@ -1,5 +1,5 @@
--- The laws of `numberFrom`: the digits end, one of them is none, one of them counts. Assumes nothing.
-use mathlib.Core.Path.{_≡_, refl, ap, _∙_}
+-- The laws of `numberFrom`: the digits end, one of them is none or one too many, one of them counts. Assumes nothing.
+use mathlib.Core.Path.{_≡_, sym, ap, _∙_}
 use mathlib.Core.Bool.{Bool, true, false, cond, _&&_}
 use mathlib.Core.List.{List, []}
 use Prim.Native.Nat.{ℕ, _+_, _-_, _*_, _<_, _≤_}
@@ -8,30 +8,25 @@ use lib.Dec.{leb}
 use lib.ListN.{length, drop, getD, drop-of-length-le}
 use borrow.Author.Tests.{le-leb, lt-leb}
 use Rattle.wire.proofs.Part.{drop-front}
-use Rattle.stream.specs.declared.arguments.Number.{Number}
-use Rattle.stream.specs.Argument.{none, goesOn, numberFrom}
+use Rattle.stream.specs.Argument.{none, digitOf, goesOn, numberFrom}
 
 module _ (s : List ℕ) (i n : ℕ) where
-  pub number-end : length s ≤ i → numberFrom (drop i s) n ≡ record { ok = true; value = n }
+  pub number-end : length s ≤ i → numberFrom (drop i s) n ≡ n
   number-end h = ap (λ (l : List ℕ). numberFrom l n) (drop-of-length-le s h)
 
-  by-digit : i < length s → numberFrom (drop i s) n ≡ cond (goesOn (getD s i 0) n) (numberFrom (drop (i + 1) s) (n * 10 + (getD s i 0 - 48))) none
-  by-digit h = ap (λ (l : List ℕ). numberFrom l n) (drop-front s i h)
+  -- the digit d stands at i
+  module _ (h : i < length s) (d : ℕ) (is : d ≡ digitOf (getD s i 0)) where
+    by-digit : (b : Bool) → goesOn d n ≡ b → numberFrom (drop i s) n ≡ cond b (numberFrom (drop (i + 1) s) (n * 10 + d)) none
+    by-digit b so =
+        ap (λ (l : List ℕ). numberFrom l n) (drop-front s i h)
+        ∙ ap (λ (k : ℕ). cond (goesOn k n) (numberFrom (drop (i + 1) s) (n * 10 + k)) none) (sym is)
+        ∙ ap (λ (t : Bool). cond t (numberFrom (drop (i + 1) s) (n * 10 + d)) none) so
 
-  pub number-stop : i < length s → goesOn (getD s i 0) n ≡ false → numberFrom (drop i s) n ≡ none
-  number-stop h stops = by-digit h ∙ ap (λ (t : Bool). cond t (numberFrom (drop (i + 1) s) (n * 10 + (getD s i 0 - 48))) none) stops
+    pub number-none : 9 < d → numberFrom (drop i s) n ≡ none
+    number-none o = by-digit false (rw (lt-leb d 9 o))
 
-  pub number-on : i < length s → goesOn (getD s i 0) n ≡ true → numberFrom (drop i s) n ≡ numberFrom (drop (i + 1) s) (n * 10 + (getD s i 0 - 48))
-  number-on h counts = by-digit h ∙ ap (λ (t : Bool). cond t (numberFrom (drop (i + 1) s) (n * 10 + (getD s i 0 - 48))) none) counts
+    pub number-full : d ≤ 9 → 999999999 < n → numberFrom (drop i s) n ≡ none
+    number-full o m = by-digit false (rw (le-leb d 9 o, lt-leb n 999999999 m))
 
-pub below : (b n : ℕ) → b < 48 → goesOn b n ≡ false
-below b n h = rw (lt-leb 48 b h)
-
-pub above : (b n : ℕ) → 48 ≤ b → 57 < b → goesOn b n ≡ false
-above b n l h = rw (le-leb 48 b l, lt-leb b 57 h)
-
-pub full : (b n : ℕ) → 48 ≤ b → b ≤ 57 → 999999999 < n → goesOn b n ≡ false
-full b n l h m = rw (le-leb 48 b l, le-leb b 57 h, lt-leb n 999999999 m)
-
-pub goes : (b n : ℕ) → 48 ≤ b → b ≤ 57 → n ≤ 999999999 → goesOn b n ≡ true
-goes b n l h m = rw (le-leb 48 b l, le-leb b 57 h, le-leb n 999999999 m)
+    pub number-on : d ≤ 9 → n ≤ 999999999 → numberFrom (drop i s) n ≡ numberFrom (drop (i + 1) s) (n * 10 + d)
+    number-on o m = by-digit true (rw (le-leb d 9 o, le-leb n 999999999 m))

@@ -9,23 +9,13 @@ use lib.Dec.{leb, ltb}
 use lib.ListN.{length, take, drop}
 use lib.Seq.{length-take-le}
 use borrow.Author.Tests.{ltb-false}
-use Rattle.error.specs.Said.{Said, says, refused}
-use Rattle.error.specs.declared.Error.{Error}
-use Rattle.error.specs.Refusal.{refusalOf}
 use Rattle.wire.specs.Net.{u16At}
-use Rattle.wire.specs.Part.{part}
-use Rattle.packet.specs.declared.PacketRead.{PacketRead}
-use Rattle.packet.specs.declared.PacketRead.the-variants as read
-use Rattle.packet.specs.declared.Unmarshalled.{Unmarshalled}
-use Rattle.packet.specs.Read.{Payload, PacketReading, readPacket}
-use Rattle.packet.specs.Said.{Heard, saidRead, heard, readingHeard}
-use Rattle.packet.proofs.Reading.{payload-inside}
 use Rattle.stream.specs.declared.framing.Record.{Record}
 use Rattle.stream.specs.declared.framing.Record.the-variants.{Packet, Cut, End}
 use Rattle.stream.specs.declared.records.Next.{Next}
 use Rattle.stream.specs.declared.window.Window.{Window}
 use Rattle.stream.specs.Framing.{recordOf, recordAt}
-use Rattle.stream.specs.Records.{pastRecord, foundIn, Placed, payloadOf}
+use Rattle.stream.specs.Records.{pastRecord, foundIn}
 use Rattle.stream.specs.Window.{nothingRead, Within}
 
 -- ---- where a packet lies
@@ -55,58 +45,24 @@ module _ (buf : List ℕ) (w : Window) where
   unfolding foundIn
   found-so f e = sym (ap (λ (g : Record). record { window = pastRecord w g; found = g }) e)
 
-  pub step-inside : Within w (length buf) → (r : Next) → r ≡ foundIn buf w → Within (r .window) (length buf) × Placed (r .found) (length buf)
+  pub step-inside : Within w (length buf) → (r : Next) → r ≡ foundIn buf w → Within (r .window) (length buf)
   unfolding foundIn
   step-inside within r e =
-      subst⁻¹ (λ (n : Next). Within (n .window) (length buf) × Placed (n .found) (length buf)) e (go (recordAt (take (w .end) buf) (w .at)) refl)
+      subst⁻¹ (λ (n : Next). Within (n .window) (length buf)) e (go (recordAt (take (w .end) buf) (w .at)) refl)
     where
-      go : (f : Record) → recordAt (take (w .end) buf) (w .at) ≡ f → Within (pastRecord w f) (length buf) × Placed f (length buf)
+      go : (f : Record) → recordAt (take (w .end) buf) (w .at) ≡ f → Within (pastRecord w f) (length buf)
       go (Packet at len) is =
           let l : length (take (w .end) buf) ≡ w .end = length-take-le (w .end) buf (within .inside) in
           let p = packet-inside (take (w .end) buf) (w .at) at len is in
-          (record { ordered = omega arith; inside = within .inside }, omega (arith, within .inside))
-      go Cut is = (within, tt)
-      go End is = (within, tt)
+          record { ordered = omega arith; inside = within .inside }
+      go Cut is = within
+      go End is = within
 
 -- before the first read
 pub new-inside : (w : Window) (size : ℕ) → w ≡ nothingRead → Within w size
 new-inside w size e =
     subst⁻¹ (λ (x : Window). Within x size) e (record { ordered = omega arith; inside = omega arith })
 
-pub packet-placed : (f : Record) (at len size : ℕ) → f ≡ Packet at len → Placed f size → at + len ≤ size
-packet-placed f at len size e placed = subst (λ (g : Record). Placed g size) e placed
-
 -- a part from the first place on, as code lends it
 pub front : (n : ℕ) (s : List ℕ) → take (n - 0) (drop 0 s) ≡ take n s
 front n s = ap (λ (k : ℕ). take k s) (sub-zero n)
-
--- ---- a payload
-
-module _ (s : List ℕ) (u : Unmarshalled) (e : heard u ≡ readingHeard (readPacket s)) where
-  answer : (x : Said PacketReading) → readPacket s ≡ x → saidRead (u .read) ≡ readingHeard x .answer
-  answer x is = ap (λ (h : Heard). h .answer) (e ∙ ap readingHeard is)
-
-  pub payload-so : (place len : ℕ) → u .read ≡ read.Payload place len →
-      (place + len ≤ length s) × (payloadOf s (readPacket s) ≡ part s place len)
-  payload-so place len so = go (readPacket s) refl
-    where
-      go : (x : Said PacketReading) → readPacket s ≡ x → (place + len ≤ length s) × (payloadOf s (readPacket s) ≡ part s place len)
-      go (says r) is =
-          let q : _≡_ {A = Said Payload} (says (record { place = place; len = len })) (says (r .payload)) = sym (ap saidRead so) ∙ answer (says r) is in
-          let p : _≡_ {A = Payload} (record { place = place; len = len }) (r .payload) = cc in
-          let at : place ≡ r .payload .place = ap (λ (x : Payload). x .place) p in
-          let size : len ≡ r .payload .len = ap (λ (x : Payload). x .len) p in
-          (omega (arith, payload-inside s r is), ap (payloadOf s) is ∙ sym (ap (λ (x : Payload). part s (x .place) (x .len)) p))
-      go (refused n) is =
-          let q : _≡_ {A = Said Payload} (says (record { place = place; len = len })) (refused n) = sym (ap saidRead so) ∙ answer (refused n) is in
-          let z : _≡_ {A = ℕ} 0 1 = cc in
-          absurd (omega arith)
-
-  pub refused-so : (n : Error) → u .read ≡ read.Refused n → payloadOf s (readPacket s) ≡ []
-  refused-so n so = go (readPacket s) refl
-    where
-      go : (x : Said PacketReading) → readPacket s ≡ x → payloadOf s (readPacket s) ≡ []
-      go (says r) is =
-          let q : _≡_ {A = Said Payload} (refused (refusalOf n)) (says (r .payload)) = sym (ap saidRead so) ∙ answer (says r) is in
-          cc
-      go (refused m) is = ap (payloadOf s) is

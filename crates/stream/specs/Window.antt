@@ -8,10 +8,10 @@ use Rattle.wire.specs.Part.{part}
 use Rattle.stream.specs.declared.window.Window.{Window}
 
 abbrev pub nothingRead : Window
-nothingRead = record { at = 0; end = 0; ended = false; failed = false; total = 0 }
+nothingRead = record { at = 0; end = 0; ended = false; failed = false }
 
 abbrev pub from : ℕ → Window → Window
-from at w = record { at = at; end = w .end; ended = w .ended; failed = w .failed; total = w .total }
+from at w = record { at = at; end = w .end; ended = w .ended; failed = w .failed }
 
 -- the window lies within a buffer of `size` bytes
 pub record Within (w : Window) (size : ℕ) : Type 0 where

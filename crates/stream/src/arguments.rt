@@ -1,71 +1,75 @@
 // Numbers among a program's arguments.
 ghost use mathlib.Core.Path.{_≡_};
-ghost use Prim.Native.Nat.{_-_, _<_, _≤_};
-ghost use Rattle.stream.specs.Argument.{numberOf, Between};
+ghost use Prim.Native.Nat.{_<_};
+ghost use Rattle.stream.specs.Argument.{digitOf, numberOf, Between};
+
+// What stands for no number: more than any that `decimal` reads.
+pub const NONE: u64 = 18446744073709551615;
 
 pub struct Number {
+    // whether this argument, and those that were asked before it, are as they must be
     pub ok: bool,
-    // 0 where it is none
+    // 0 where it is not
     pub value: u64,
 }
 
-fn none() -> Number
-    ensures { λ r. ⌜ r ≡ Rattle.stream.specs.Argument.none ⌝ }
-{
-    Number {
-        ok: false,
-        value: 0,
-    }
-}
-
+// What a digit counts: 10 or more where it is none.
 fn digit(b: u8) -> u64
-    requires { ⌜ (48 ≤ b) × (b ≤ 57) ⌝ }
-    ensures { λ r. ⌜ (r ≡ b - 48) × (r < 10) ⌝ }
+    ensures { λ r. ⌜ (r ≡ digitOf b) × (r < 256) ⌝ }
 {
-    (b - b'0') as u64
+    std::num::wrapping_sub_u8(b, b'0') as u64
 }
 
 // The number that decimal digits say, up to 9,999,999,999.
-pub fn decimal(text: &[u8]) -> Number
+fn decimal(text: &[u8]) -> u64
     ensures { λ r. ⌜ r ≡ numberOf (now (text .entry)) ⌝ }
 {
     if text.len() == 0 {
-        return none();
+        return NONE;
     }
     let mut value = 0;
     let mut i = 0;
     while i < text.len() {
-        let b = text[i];
-        if b < b'0' {
-            return none();
-        }
-        if b'9' < b {
-            return none();
+        let d = digit(text[i]);
+        if 9 < d {
+            return NONE;
         }
         if 999999999 < value {
-            return none();
+            return NONE;
         }
-        value = value * 10 + digit(b);
+        value = value * 10 + d;
         i += 1;
     }
-    Number { ok: true, value }
+    value
 }
 
-// The program's argument i, where it is a number from least to most.
-pub fn argument(i: usize, least: u64, most: u64) -> Number
-    ensures { λ r. ⌜ Between least most r ⌝ }
-{
+// What argument i says, or `otherwise` where it is not there.
+fn given(i: usize, otherwise: u64) -> u64 {
+    if os::arg_count() <= i {
+        return otherwise;
+    }
     let mut text = [0u8; 16];
     let n = os::arg(i, &mut text);
-    if os::errno() != 0 {
-        return none();
+    decimal(&text[..n])
+}
+
+// The program's argument i, which must be a number from least to most; `otherwise` where it is not there, and so NONE for one that
+// must be.
+pub fn argument(before: bool, i: usize, least: u64, most: u64, otherwise: u64) -> Number
+    ensures { λ r. ⌜ Between least most r ⌝ }
+{
+    let value = given(i, otherwise);
+    if value < least {
+        return Number {
+            ok: false,
+            value: 0,
+        };
     }
-    let r = decimal(&text[..n]);
-    if r.value < least {
-        return none();
+    if most < value {
+        return Number {
+            ok: false,
+            value: 0,
+        };
     }
-    if most < r.value {
-        return none();
-    }
-    r
+    Number { ok: before, value }
 }

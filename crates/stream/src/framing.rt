@@ -8,8 +8,7 @@
 ghost use mathlib.Core.Path.{_≡_};
 ghost use Prim.Native.Nat.{_+_, _<_, _≤_};
 ghost use lib.ListN.{length};
-ghost use Rattle.wire.specs.Part.{splice};
-ghost use Rattle.stream.specs.Framing.{framed, recordAt};
+ghost use Rattle.stream.specs.Framing.{recordAt, recordLength, recordPut};
 
 pub enum Record {
     // the packet is `len` bytes from `at` on; behind it comes the next record
@@ -43,12 +42,15 @@ pub fn record_at(s: &[u8], from: usize) -> Record
     Record::Packet { at: from + 2, len }
 }
 
-// Puts a packet's record in front of out: how many bytes it has.
-pub fn put_record(packet: &[u8], out: &mut [u8]) -> usize
-    requires { ⌜ (length (now packet) ≤ 65535) × (2 + length (now packet) ≤ length (now out)) ⌝ }
-    ensures { λ r. ⌜ (r ≡ length (framed (now (packet .entry)))) × (now (out .exit) ≡ splice (now (out .entry)) 0 (framed (now (packet .entry)))) ⌝ }
+// Puts the length before a packet of n bytes, which stands behind the first two: how many bytes the record has, 0 where no length
+// says n.
+pub fn frame(s: &mut [u8], n: usize) -> usize
+    requires { ⌜ 65537 ≤ length (now s) ⌝ }
+    ensures { λ r. ⌜ (r ≡ recordLength n) × (now (s .exit) ≡ recordPut n (now (s .entry))) ⌝ }
 {
-    wire::put_u16(out, 0, packet.len() as u16);
-    wire::copy_at(packet, out, 2);
-    2 + packet.len()
+    if 65535 < n {
+        return 0;
+    }
+    wire::put_u16(s, 0, n as u16);
+    2 + n
 }

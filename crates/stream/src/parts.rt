@@ -13,13 +13,12 @@ pub fn front(s: &[u8], n: usize) -> &[u8]
     s
 }
 
-// The bytes from a place up to another.
-pub fn between(s: &[u8], from: usize, to: usize) -> &[u8]
-    ensures { λ r. ⌜ now r ≡ drop from (take to (now (s .entry))) ⌝ }
+// The n bytes from a place on.
+pub fn part(s: &[u8], at: usize, n: usize) -> &[u8]
+    ensures { λ r. ⌜ now r ≡ take n (drop at (now (s .entry))) ⌝ }
 {
-    let t = front(s, to);
-    if from < t.len() {
-        return &t[from..];
+    if at < s.len() {
+        return front(&s[at..], n);
     }
-    &t[0..0]
+    &s[0..0]
 }

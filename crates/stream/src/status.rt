@@ -1,60 +1,53 @@
-// How a program ended. A program has no exit status: it writes the number to descriptor 9, where a script may listen.
+// How a program ended, as a number. A program has no exit status: it writes the number to descriptor 9. `./rtp` listens there, says
+// what the number means, and turns it into a status.
 ghost use mathlib.Core.Path.{_≡_};
-ghost use Rattle.stream.specs.Status.{statusNumber};
-use libc::STDERR_FILENO;
+
+// All went well.
+pub const DONE: u8 = 0;
+
+// A call of the system failed; what and why is said.
+pub const FAILED: u8 = 1;
+
+// An argument is not as it must be.
+pub const USAGE: u8 = 2;
+
+// Nothing came of the input.
+pub const NOTHING: u8 = 3;
+
+// A file of packets ends within one.
+pub const CUT: u8 = 4;
+
+// A clip has no start code.
+pub const NO_CODE: u8 = 5;
+
+// A unit, or an access unit, is longer than a program has room for.
+pub const LONG: u8 = 6;
+
+// A parameter set is longer than 1,024 bytes.
+pub const LONG_SET: u8 = 7;
+
+// The closing number cannot be the one after the last.
+pub const WRONG_END: u8 = 8;
+
+// All went well, but no parameter sets were sent.
+pub const NO_SETS: u8 = 9;
 
 const LISTENER: i32 = 9;
 
-pub enum Status {
-    // 0
-    Done,
-    // 1: an input or an output is not as it must be
-    Failed,
-    // 2: the arguments are not as they must be
-    Usage,
+pub fn tell(status: u8) {
+    io::print_decimal(LISTENER, status as u64);
 }
 
-fn number(status: Status) -> u8
-    ensures { λ r. ⌜ r ≡ statusNumber status ⌝ }
+pub fn unread() -> u8
+    ensures { λ r. ⌜ r ≡ 1 ⌝ }
 {
-    match status {
-        Status::Done => 0,
-        Status::Failed => 1,
-        Status::Usage => 2,
-    }
+    os::fail(b"rtp: reading");
+    FAILED
 }
 
-// Writes the number, and answers it.
-pub fn tell(status: Status) -> u8
-    ensures { λ r. ⌜ r ≡ statusNumber status ⌝ }
+pub fn unwritten() -> u8
+    ensures { λ r. ⌜ r ≡ 1 ⌝ }
 {
-    let n = number(status);
-    io::print_decimal(LISTENER, n as u64);
-    n
-}
-
-pub fn usage(text: &[u8]) -> Status
-    ensures { λ r. ⌜ r ≡ Status.Usage ⌝ }
-{
-    io::write_all(STDERR_FILENO, text);
-    Status::Usage
-}
-
-// A call on this file failed: errno says why.
-pub fn failed(path: &[u8]) -> Status
-    ensures { λ r. ⌜ r ≡ Status.Failed ⌝ }
-{
-    os::fail(path);
-    Status::Failed
-}
-
-// What is wrong with this file.
-pub fn complain(path: &[u8], what: &[u8]) -> Status
-    ensures { λ r. ⌜ r ≡ Status.Failed ⌝ }
-{
-    io::write_all(STDERR_FILENO, path);
-    io::write_all(STDERR_FILENO, b": ");
-    io::write_all(STDERR_FILENO, what);
-    io::write_all(STDERR_FILENO, b"\n");
-    Status::Failed
+    os::fail(b"rtp: writing");
+    FAILED
 }

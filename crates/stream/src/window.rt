@@ -4,10 +4,6 @@ ghost use Prim.Native.Nat.{_-_, _≤_};
 ghost use lib.ListN.{length};
 ghost use Rattle.wire.specs.Part.{splice, part};
 ghost use Rattle.stream.specs.Window.{Within, Refilled, nothingRead, from as windowFrom};
-use libc::STDERR_FILENO;
-
-// A line on standard error for each so many bytes read.
-const STEP: u64 = 8388608;
 
 pub struct Window {
     // the bytes of the buffer from `at` up to `end` are read, and not taken yet
@@ -17,8 +13,6 @@ pub struct Window {
     pub ended: bool,
     // the last read failed
     pub failed: bool,
-    // how many bytes were read in all
-    pub total: u64,
 }
 
 impl Window {
@@ -31,7 +25,6 @@ impl Window {
             end: 0,
             ended: false,
             failed: false,
-            total: 0,
         }
     }
 
@@ -65,13 +58,6 @@ fn is_failing(fd: i32, ended: bool) -> bool {
     libc::read(fd, &mut one) < 0
 }
 
-fn progress(before: u64, total: u64) {
-    if total / STEP != before / STEP {
-        io::print_decimal(STDERR_FILENO, total / 1048576);
-        io::write_all(STDERR_FILENO, b" MiB read\n");
-    }
-}
-
 // Moves what is not taken yet to the front, and reads on behind it until the buffer is full or the file ends.
 pub fn refill(fd: i32, buf: &mut [u8], w: Window) -> Window
     requires { ⌜ Within w (length (now buf)) ⌝ }
@@ -82,14 +68,11 @@ pub fn refill(fd: i32, buf: &mut [u8], w: Window) -> Window
     to_front(buf, at, end);
     let kept = end - at;
     let got = io::read_full(fd, &mut buf[kept..]);
-    let total = std::num::wrapping_add_u64(w.total, got as u64);
-    progress(w.total, total);
     let ended = kept + got < buf.len();
     Window {
         at: 0,
         end: kept + got,
         ended,
         failed: is_failing(fd, ended),
-        total,
     }
 }

@@ -33,6 +33,7 @@
 compile_error!("the calls of crates/gateway are compiled for 64-bit machines");
 
 pub mod codecs;
+mod declared;
 pub mod error;
 pub mod header;
 pub mod joiner;

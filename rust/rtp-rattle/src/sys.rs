@@ -1,6 +1,8 @@
 //! The calls of `crates/gateway` and the records of their answers, as `include/rtp_rattle.h` declares them for C.
 
 use crate::codecs::vp8::{Vp8Packet, Vp8Payloader};
+#[cfg(test)]
+use crate::header::Extensions;
 use crate::header::Header;
 
 #[repr(C)]
@@ -145,6 +147,35 @@ pub struct Closed {
     pub joiner: Joiner,
 }
 
+/// How many bytes each record has.
+#[cfg(test)]
+#[repr(C)]
+pub struct Sizes {
+    pub refused: usize,
+    pub test: usize,
+    pub extensions: usize,
+    pub header: usize,
+    pub header_read: usize,
+    pub length: usize,
+    pub header_changed: usize,
+    pub element: usize,
+    pub ids: usize,
+    pub packet_read: usize,
+    pub parameter_set: usize,
+    pub h264_payloader: usize,
+    pub h264_sent: usize,
+    pub h264_packet: usize,
+    pub body: usize,
+    pub h264_read: usize,
+    pub vp8_payloader: usize,
+    pub vp8_sent: usize,
+    pub vp8_packet: usize,
+    pub vp8_read: usize,
+    pub joiner: usize,
+    pub joined: usize,
+    pub closed: usize,
+}
+
 extern "C" {
     pub fn rtp_header_default() -> Header;
     pub fn rtp_header_unmarshal(packet: *const u8, packet_len: usize) -> HeaderRead;
@@ -227,17 +258,124 @@ extern "C" {
         out_len: usize,
     ) -> Joined;
     pub fn rtp_joiner_close(joiner: Joiner, number: u16) -> Closed;
+
+    #[cfg(test)]
+    pub fn rtp_sizes() -> Sizes;
 }
 
-// The sizes that the compiled calls have of the records.
-const _: () = {
-    use std::mem::size_of;
-    assert!(size_of::<Refused>() == 24);
-    assert!(size_of::<Header>() == 1224);
-    assert!(size_of::<HeaderRead>() == 1256);
-    assert!(size_of::<H264Payloader>() == 2064);
-    assert!(size_of::<H264Packet>() == 16);
-    assert!(size_of::<Vp8Packet>() == 14);
-    assert!(size_of::<Vp8Payloader>() == 4);
-    assert!(size_of::<Joiner>() == 32);
-};
+#[cfg(test)]
+mod tests {
+    use super::*;
+
+    /// The calls that are linked were compiled with records of these sizes.
+    #[test]
+    fn sizes() {
+        // SAFETY: the call takes nothing.
+        let s = unsafe { rtp_sizes() };
+        assert_eq!(s.refused, size_of::<Refused>());
+        assert_eq!(s.test, size_of::<Test>());
+        assert_eq!(s.extensions, size_of::<Extensions>());
+        assert_eq!(s.header, size_of::<Header>());
+        assert_eq!(s.header_read, size_of::<HeaderRead>());
+        assert_eq!(s.length, size_of::<Length>());
+        assert_eq!(s.header_changed, size_of::<HeaderChanged>());
+        assert_eq!(s.element, size_of::<Element>());
+        assert_eq!(s.ids, size_of::<Ids>());
+        assert_eq!(s.packet_read, size_of::<PacketRead>());
+        assert_eq!(s.parameter_set, size_of::<ParameterSet>());
+        assert_eq!(s.h264_payloader, size_of::<H264Payloader>());
+        assert_eq!(s.h264_sent, size_of::<H264Sent>());
+        assert_eq!(s.h264_packet, size_of::<H264Packet>());
+        assert_eq!(s.body, size_of::<Body>());
+        assert_eq!(s.h264_read, size_of::<H264Read>());
+        assert_eq!(s.vp8_payloader, size_of::<Vp8Payloader>());
+        assert_eq!(s.vp8_sent, size_of::<Vp8Sent>());
+        assert_eq!(s.vp8_packet, size_of::<Vp8Packet>());
+        assert_eq!(s.vp8_read, size_of::<Vp8Read>());
+        assert_eq!(s.joiner, size_of::<Joiner>());
+        assert_eq!(s.joined, size_of::<Joined>());
+        assert_eq!(s.closed, size_of::<Closed>());
+    }
+
+    const X: &[u8] =
+        b"\x90\x60\x00\x01\x00\x00\x00\x02\x00\x00\x00\x03\xBE\xDE\x00\x01\x10\xAA\x00\x00";
+
+    /// What the linked calls write last in each record stands in its last field.
+    #[test]
+    fn last_fields() {
+        let (mut gather, mut out, mut ends) = ([0; 64], [0; 64], [0; 8]);
+        // SAFETY: each slice is lent for its call, and those that are written overlap nothing.
+        unsafe {
+            let read = rtp_header_unmarshal(X.as_ptr(), X.len());
+            assert_eq!(read.header.extensions_padding, 2);
+            assert_eq!(rtp_packet_unmarshal(X.as_ptr(), X.len()).header.extensions_padding, 2);
+            assert_eq!(rtp_header_marshal_size(read.header).bytes, 20);
+            assert_eq!(rtp_header_get_extension(read.header, 1).len, 1);
+            let bytes = [0xAB; 32];
+            let mut header = rtp_header_default();
+            for id in 1..=32 {
+                header = rtp_header_set_extension(header, id, bytes.as_ptr(), 32).header;
+            }
+            assert_eq!(header.extensions.bytes[1023], 0xAB);
+            assert_eq!(rtp_header_get_extension_ids(header).ids[31], 32);
+
+            let sets = b"\x00\x00\x01\x68\xBB\xBB";
+            let sender = rtp_h264_payloader_new();
+            let sent = rtp_h264_payload(
+                sender,
+                100,
+                sets.as_ptr(),
+                sets.len(),
+                out.as_mut_ptr(),
+                64,
+                ends.as_mut_ptr(),
+                8,
+            );
+            assert_eq!(sent.sender.pps.len, 3);
+            let reader = H264Packet { is_avc: false, gathered: 0 };
+            let mut read = |payload: &[u8]| {
+                rtp_h264_depacketize(
+                    reader,
+                    payload.as_ptr(),
+                    payload.len(),
+                    gather.as_mut_ptr(),
+                    64,
+                    out.as_mut_ptr(),
+                    64,
+                )
+            };
+            assert_eq!(read(b"\x7C\x85\x01\x02").packet.gathered, 2);
+            assert_eq!(read(b"\x65\x01\x02").body.len, 2);
+            assert_eq!(read(b"\x18\x00\x05\x41").refused.carried, [5, 1]);
+            assert!(rtp_h264_is_partition_head(b"\x65\x01".as_ptr(), 2).holds);
+
+            let sent = rtp_vp8_payload(
+                Vp8Payloader { enable_picture_id: true, picture_id: 5 },
+                100,
+                X.as_ptr(),
+                X.len(),
+                out.as_mut_ptr(),
+                64,
+                ends.as_mut_ptr(),
+                8,
+            );
+            assert_eq!(sent.payloader.picture_id, 6);
+            let read = rtp_vp8_depacketize(Vp8Packet::default(), b"\x90\x10\x1F\xAA".as_ptr(), 4);
+            assert_eq!(read.packet.key_idx, 31);
+
+            let mut joiner = rtp_joiner_open(3, 1);
+            let plain = b"\x80\x60\x00\x01\x00\x00\x00\x02\x00\x00\x00\x03\x65\x01\x02";
+            let joined = rtp_joiner_join(
+                &mut joiner,
+                plain.as_ptr(),
+                plain.len(),
+                gather.as_mut_ptr(),
+                64,
+                out.as_mut_ptr(),
+                64,
+            );
+            assert_eq!((joined.bytes, joiner.awaited), (7, 2));
+            assert!(rtp_joiner_close(joiner, 2).joiner.closed);
+        }
+    }
+}

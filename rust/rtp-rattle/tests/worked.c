@@ -5,14 +5,6 @@
 
 #include "rtp_rattle.h"
 
-_Static_assert(sizeof(struct rtp_refused) == 24, "rtp_refused");
-_Static_assert(sizeof(struct rtp_header) == 1224, "rtp_header");
-_Static_assert(sizeof(struct rtp_h264_payloader) == 2064, "rtp_h264_payloader");
-_Static_assert(sizeof(struct rtp_h264_packet) == 16, "rtp_h264_packet");
-_Static_assert(sizeof(struct rtp_vp8_packet) == 14, "rtp_vp8_packet");
-_Static_assert(sizeof(struct rtp_vp8_payloader) == 4, "rtp_vp8_payloader");
-_Static_assert(sizeof(struct rtp_joiner) == 32, "rtp_joiner");
-
 #define CHECK(c)                                                     \
     do {                                                             \
         if (!(c)) {                                                  \
@@ -24,6 +16,35 @@ _Static_assert(sizeof(struct rtp_joiner) == 32, "rtp_joiner");
 #define SAME(bytes, literal) (memcmp(bytes, literal, sizeof literal - 1) == 0)
 
 static const uint8_t H[12] = {0x80, 0x60, 0, 1, 0, 0, 0, 2, 0, 0, 0, 3};
+
+/* The calls were compiled with these records. */
+static void sizes(void) {
+    struct rtp_sizes s = rtp_sizes();
+    CHECK(s.refused == sizeof(struct rtp_refused));
+    CHECK(s.test == sizeof(struct rtp_test));
+    CHECK(s.extensions == sizeof(struct rtp_extensions));
+    CHECK(s.header == sizeof(struct rtp_header));
+    CHECK(s.header_read == sizeof(struct rtp_header_read));
+    CHECK(s.length == sizeof(struct rtp_length));
+    CHECK(s.header_changed == sizeof(struct rtp_header_changed));
+    CHECK(s.element == sizeof(struct rtp_element));
+    CHECK(s.ids == sizeof(struct rtp_ids));
+    CHECK(s.packet_read == sizeof(struct rtp_packet_read));
+    CHECK(s.parameter_set == sizeof(struct rtp_parameter_set));
+    CHECK(s.h264_payloader == sizeof(struct rtp_h264_payloader));
+    CHECK(s.h264_sent == sizeof(struct rtp_h264_sent));
+    CHECK(s.h264_packet == sizeof(struct rtp_h264_packet));
+    CHECK(s.body == sizeof(struct rtp_body));
+    CHECK(s.h264_read == sizeof(struct rtp_h264_read));
+    CHECK(s.vp8_payloader == sizeof(struct rtp_vp8_payloader));
+    CHECK(s.vp8_sent == sizeof(struct rtp_vp8_sent));
+    CHECK(s.vp8_packet == sizeof(struct rtp_vp8_packet));
+    CHECK(s.vp8_read == sizeof(struct rtp_vp8_read));
+    CHECK(s.joiner == sizeof(struct rtp_joiner));
+    CHECK(s.joined == sizeof(struct rtp_joined));
+    CHECK(s.closed == sizeof(struct rtp_closed));
+    CHECK(sizeof s == 23 * sizeof(size_t));
+}
 
 static void headers(void) {
     struct rtp_header_read read = rtp_header_unmarshal(H, 12);
@@ -136,6 +157,7 @@ static void joining(void) {
 }
 
 int main(void) {
+    sizes();
     headers();
     extensions();
     packets();

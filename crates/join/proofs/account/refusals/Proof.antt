@@ -7,10 +7,10 @@ use Rattle.join.proofs.account.refusals.Statement.{statement}
 use Rattle.join.proofs.account.refusals.Tie as tie
 
 abbrev Inv-loop : tie.InvT-loop
-Inv-loop fd refused i₀ i = length refused ≡ 256
+Inv-loop refused text₀ i₀ text i = length refused ≡ 256
 
 abbrev μ-loop : tie.MeasureT-loop
-μ-loop fd refused i₀ i = 256 - i
+μ-loop refused text₀ i₀ text i = 256 - i
 
 pub refusals-spec : {M : Type 1} → statement M
 refusals-spec =

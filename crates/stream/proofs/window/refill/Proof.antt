@@ -19,11 +19,11 @@ in-front xs at n h =
 
 returns : tie.Need-returns
 returns c =
-    let a = c .before .before .before .before .before .before .before .before .before .before .before .before .args in
+    let a = c .before .before .before .before .before .before .before .before .before .before .args in
     let at = a .w .at in
     let n = a .w .end - at in
-    let moved = c .before .before .before .before .before .before .before .before .before .to-front in
-    let read = c .before .before .before .before .before .read-full in
+    let moved = c .before .before .before .before .before .before .before .to-front in
+    let read = c .before .before .before .read-full in
     let buf = moved .last .0 in
     let got = read .last .1 .0 in
     let size = length buf - n in
@@ -47,8 +47,6 @@ refill-spec =
     (λ c. search needs)
     (λ c. search needs)
     (λ c. search needs)
-    (λ c κs. search needs)
-    (λ c κs. search needs)
     (λ c κs. search needs)
     (λ c. search needs)
     (λ c. search needs)

@@ -1,0 +1,55 @@
+// Text that is put together before it is written, so that one answer says whether all of it was.
+use crate::parts::front;
+
+pub struct Text {
+    pub bytes: [u8; 2048],
+    // how many of them are text, 0 to 2,048
+    pub len: usize,
+}
+
+impl Text {
+    pub fn new() -> Text {
+        Text {
+            bytes: [0; 2048],
+            len: 0,
+        }
+    }
+
+    // With a word behind it; one that has no room is left out.
+    pub fn word(mut self, word: &[u8]) -> Text {
+        let at = self.len;
+        if 2048 < at {
+            return self;
+        }
+        if 2048 - at < word.len() {
+            return self;
+        }
+        let mut bytes = self.bytes;
+        wire::copy_at(word, &mut bytes, at);
+        self.bytes = bytes;
+        self.len = at + word.len();
+        self
+    }
+
+    // With a word behind it where that is so.
+    pub fn when(self, so: bool, word: &[u8]) -> Text {
+        if so {
+            return self.word(word);
+        }
+        self
+    }
+
+    // With a name and a number behind it.
+    pub fn number(self, name: &[u8], n: u64) -> Text {
+        let mut digits = [0u8; 20];
+        let k = io::decimal(n, &mut digits);
+        self.word(name).word(&digits[..k])
+    }
+
+    // Writes it. Whether all of it was written.
+    pub fn write(self, fd: i32) -> bool {
+        let bytes = self.bytes;
+        let len = self.len;
+        io::write_all(fd, front(&bytes, len))
+    }
+}
