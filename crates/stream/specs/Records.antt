@@ -1,9 +1,9 @@
 -- Steps through the packets of a file. Assumes nothing.
-use mathlib.Core.List.{List, []}
+use mathlib.Core.List.{List}
 use mathlib.Core.Bool.{cond}
 use mathlib.Core.Path.{_≡_}
-use Prim.Native.Nat.{ℕ, _+_, _≤_}
-use lib.ListN.{length, take}
+use Prim.Native.Nat.{ℕ, _+_}
+use lib.ListN.{take}
 use Rattle.stream.specs.declared.framing.Record.{Record}
 use Rattle.stream.specs.declared.framing.Record.the-variants.{Packet, Cut, End}
 use Rattle.stream.specs.declared.records.Next.{Next}

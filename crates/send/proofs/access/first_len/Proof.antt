@@ -18,17 +18,16 @@ unfolding firstLen
 len-so s ended e is = sym (ap (lenBy s ended) is)
 
 -- no edge was found
-none-so : (s : List ℕ) (ended b : Bool) → edgeOf s ≡ Nothing → ended ≡ b → (f : Found) → codeFrom s 0 ≡ f → cond b (allBy s f) 0 ≡ firstLen s ended
-none-so s ended b is q f code =
-    sym (ap (λ (t : Bool). cond t (allBy s (codeFrom s 0)) 0) q ∙ ap (λ (g : Found). cond b (allBy s g) 0) code) ∙ len-so s ended Nothing is
+none-so : (s : List ℕ) (ended b : Bool) → edgeOf s ≡ Nothing → not ended ≡ b → (f : Found) → codeFrom s 0 ≡ f → cond b 0 (allBy s f) ≡ firstLen s ended
+none-so s true b is q f code = ap (λ (t : Bool). cond t 0 (allBy s f)) (sym q) ∙ ap (allBy s) (sym code) ∙ len-so s true Nothing is
+none-so s false b is q f code = ap (λ (t : Bool). cond t 0 (allBy s f)) (sym q) ∙ len-so s false Nothing is
 
-off : (b : Bool) → not b ≡ true → b ≡ false
-off true e = sym e
-off false e = refl
-
-on : (b : Bool) → not b ≡ false → b ≡ true
-on true e = refl
-on false e = sym e
+-- behind the search for a start code
+by-code : (c : tie.After-next-code) (f : Found) → c .next-code .result ≡ f →
+    allBy (c .before .before .before .before .before .before .args .s .now) f ≡ firstLen (c .before .before .before .before .before .before .args .s .now) (c .before .before .before .before .before .before .args .ended)
+by-code c f is =
+    none-so _ (c .before .before .before .before .before .before .args .ended) false (sym (c .before .before .before .before .find-edge .ensures .0) ∙ c .before .before .enum-told .given .1) (c .before .if1 .left) f
+    (sym (c .next-code .ensures) ∙ is)
 
 returns : tie.Need-returns
 returns c =
@@ -40,17 +39,13 @@ returns c =
 returns-2 : tie.Need-returns-2
 returns-2 c =
     let a = c .before .before .before .before .before .args in
-    (none-so (a .s .now) (a .ended) _ (sym (c .before .before .before .find-edge .ensures .0) ∙ c .before .enum-told .given .1) (off (a .ended) (c .if1 .taken)) _ refl, omega arith)
+    (none-so (a .s .now) (a .ended) true (sym (c .before .before .before .find-edge .ensures .0) ∙ c .before .enum-told .given .1) (c .if1 .taken) _ refl, omega arith)
 
 returns-3 : tie.Need-returns-3
-returns-3 c =
-    let a = c .before .before .before .before .before .before .before .before .args in
-    (none-so (a .s .now) (a .ended) _ (sym (c .before .before .before .before .before .before .find-edge .ensures .0) ∙ c .before .before .before .before .enum-told .given .1) (on (a .ended) (c .before .before .before .if1 .left)) _ (sym (c .before .before .next-code .ensures) ∙ c .enum-told2 .given .1), omega arith)
+returns-3 c = (by-code (c .before .before) _ (c .enum-told2 .given .1), omega arith)
 
 returns-4 : tie.Need-returns-4
-returns-4 c =
-    let a = c .before .before .before .before .before .before .before .before .args in
-    (none-so (a .s .now) (a .ended) _ (sym (c .before .before .before .before .before .before .find-edge .ensures .0) ∙ c .before .before .before .before .enum-told .given .1) (on (a .ended) (c .before .before .before .if1 .left)) _ (sym (c .before .before .next-code .ensures) ∙ c .enum-told3 .given .1), omega arith)
+returns-4 c = (by-code (c .before .before) _ (c .enum-told3 .given .1), omega arith)
 
 pub first-len-spec : {M : Type 1} → statement M
 first-len-spec =

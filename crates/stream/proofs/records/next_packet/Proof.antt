@@ -1,10 +1,7 @@
 -- The step is made in the bytes that were there, or in those behind one more read.
-use mathlib.Core.Path.{_≡_, refl}
-use native.Mathlib.Omega.{arith}
-use lib.ListN.{length}
+use mathlib.Core.Path.{refl}
 use borrow.Author.Needs.{needs}
-use Rattle.stream.specs.Records.{Stepped, here, behind}
-use Rattle.stream.specs.Window.{Within}
+use Rattle.stream.specs.Records.{here, behind}
 use Rattle.stream.proofs.records.next_packet.Statement.{statement}
 use Rattle.stream.proofs.records.next_packet.Tie as tie
 
