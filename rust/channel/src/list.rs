@@ -2,18 +2,19 @@
 
 use std::collections::BTreeMap;
 
+use ::rows::{Fields, FILL, NOTHING};
+
 use crate::joiner::{Joined, Joiner};
 use crate::random::Random;
 use crate::runs::{run, Call, Run, PLACES};
 use crate::worked;
 use crate::Refusal;
 
-/// What the lent buffers hold beforehand.
-const FILL: u8 = 0xA5;
-
 pub struct Row {
     pub question: String,
     pub answer: String,
+    /// Both in the form that crates/replay reads.
+    pub binary: Vec<u8>,
     /// What there is to count of it besides the kind of its answer.
     pub notes: Vec<&'static str>,
 }
@@ -27,6 +28,10 @@ pub fn rows(seed: u64, runs: usize) -> Vec<Row> {
 
 pub fn text(rows: &[Row]) -> String {
     rows.iter().map(|row| format!("{}\t{}\n", row.question, row.answer)).collect()
+}
+
+pub fn binary(rows: &[Row]) -> Vec<u8> {
+    rows.iter().flat_map(|row| row.binary.clone()).collect()
 }
 
 /// How many rows each question has by kind of answer, a refusal's kind being its number, and how many have each note.
@@ -53,19 +58,67 @@ struct Host {
     out_len: usize,
 }
 
+/// What is asked.
+struct Question {
+    text: String,
+    fields: Fields,
+}
+
+/// What a call answers, without the state after it.
+struct Said {
+    text: String,
+    told: [u64; 4],
+    /// What a packet had handed out.
+    out: Option<Vec<u8>>,
+}
+
+impl Said {
+    fn numbers(first: u16, count: u16) -> Self {
+        let told = [0, first.into(), count.into(), 0];
+        Said { text: format!("ok {first} {count}"), told, out: None }
+    }
+
+    fn handed(first: u16, count: u16, out: Vec<u8>) -> Self {
+        let told = [0, first.into(), count.into(), out.len() as u64];
+        Said { text: format!("ok {first} {count} {}", hex(&out)), told, out: Some(out) }
+    }
+
+    fn late() -> Self {
+        Said { text: "late".to_string(), told: [NOTHING, 0, 0, 0], out: Some(vec![]) }
+    }
+
+    fn refused(refusal: &Refusal) -> Self {
+        let carried = refusal.carried.iter().map(|value| format!(" {value}"));
+        let text = format!("refused {}{}", refusal.number, carried.collect::<String>());
+        let mut told = [refusal.number.into(), 0, 0, 0];
+        for (place, value) in refusal.carried.iter().enumerate() {
+            told[1 + place] = *value as u64;
+        }
+        Said { text, told, out: None }
+    }
+
+    fn nothing() -> Self {
+        Said { text: "ok".to_string(), told: [0; 4], out: None }
+    }
+}
+
 fn played(run: &Run) -> Vec<Row> {
     let mut joiner = Joiner::open(run.source, run.first);
     joiner.missed = run.missed.into();
     let mut host =
         Host { joiner, gather: vec![FILL; PLACES], gather_len: run.gather, out_len: run.out };
-    let (source, first, missed) = (run.source, run.first, run.missed);
-    let opened = Row {
-        question: format!("joiner.open {source} {first} {missed} {} {}", run.gather, run.out),
-        answer: format!("ok {}", host.state()),
-        notes: vec![],
-    };
+    let numbers = [run.source.into(), run.first.into(), run.missed.into()];
+    let lens = [run.gather as u64, run.out as u64];
+    let opened = asked("joiner.open", &[&numbers[..], &lens].concat());
+    let opened = host.row(opened, Said::nothing(), vec![]);
     let calls = run.calls.iter().map(|call| host.played(call));
     std::iter::once(opened).chain(calls).collect()
+}
+
+fn asked(name: &str, numbers: &[u64]) -> Question {
+    let each = numbers.iter().map(|number| format!(" {number}"));
+    let fields = Fields::question(name).numbers(numbers.iter().copied());
+    Question { text: format!("{name}{}", each.collect::<String>()), fields }
 }
 
 impl Host {
@@ -75,8 +128,8 @@ impl Host {
             Call::Close(number) => self.closed(*number),
             Call::Room { gather, out } => {
                 (self.gather_len, self.out_len) = (*gather, *out);
-                let question = format!("joiner.room {gather} {out}");
-                Row { question, answer: format!("ok {}", self.state()), notes: vec![] }
+                let question = asked("joiner.room", &[*gather as u64, *out as u64]);
+                self.row(question, Said::nothing(), vec![])
             }
         }
     }
@@ -94,16 +147,17 @@ impl Host {
                 note(&mut notes, "bytes handed out", !out.is_empty());
                 note(&mut notes, "an open run afterwards", self.joiner.run.is_some());
                 note(&mut notes, "a wrap of the number", self.joiner.awaited < awaited);
-                format!("ok {first} {count} {}", hex(&out))
+                Said::handed(first, count, out)
             }
-            Ok(Joined::Late) => "late".to_string(),
+            Ok(Joined::Late) => Said::late(),
             Err(refusal) => {
                 note(&mut notes, "a refusal beside an open run", open);
-                refused(&refusal)
+                Said { out: Some(vec![]), ..Said::refused(&refusal) }
             }
         };
-        let question = format!("joiner.join {}", hex(packet));
-        Row { question, answer: format!("{said} {}", self.state()), notes }
+        let text = format!("joiner.join {}", hex(packet));
+        let question = Question { text, fields: Fields::question("joiner.join").bytes(packet) };
+        self.row(question, said, notes)
     }
 
     fn closed(&mut self, number: u16) -> Row {
@@ -112,24 +166,31 @@ impl Host {
         let said = match self.joiner.close(number) {
             Ok(closed) => {
                 note(&mut notes, "a closing that drops a run", open);
-                format!("ok {} {}", closed.first, closed.count)
+                Said::numbers(closed.first, closed.count)
             }
-            Err(refusal) => refused(&refusal),
+            Err(refusal) => Said::refused(&refusal),
         };
-        let question = format!("joiner.close {number}");
-        Row { question, answer: format!("{said} {}", self.state()), notes }
+        self.row(asked("joiner.close", &[number.into()]), said, notes)
     }
 
-    /// The record, and all of the gather buffer without the places at its end that are as they were lent.
-    fn state(&self) -> String {
-        let Joiner { awaited, missed, closed, .. } = &self.joiner;
+    /// What was said, and behind it the record, and all of the gather buffer without the places at its end that are as they were
+    /// lent.
+    fn row(&self, question: Question, said: Said, notes: Vec<&'static str>) -> Row {
+        let Joiner { source, awaited, missed, closed, .. } = &self.joiner;
         let written = self.gather.iter().rposition(|byte| *byte != FILL).map_or(0, |last| last + 1);
-        let gathered = self.joiner.gathered();
-        format!(
-            "{awaited} {missed} {gathered} {} {}",
-            u8::from(*closed),
-            hex(&self.gather[..written])
-        )
+        let (gathered, gather) = (self.joiner.gathered(), &self.gather[..written]);
+        let closed = u8::from(*closed);
+        let state = format!("{awaited} {missed} {gathered} {closed} {}", hex(gather));
+        let numbers =
+            [(*source).into(), (*awaited).into(), *missed, gathered as u64, closed.into()];
+        let answer = Fields::answer(said.told).bytes(gather).numbers(numbers);
+        let answer = said.out.iter().fold(answer, |fields, out| fields.bytes(out));
+        Row {
+            question: question.text,
+            answer: format!("{} {state}", said.text),
+            binary: ::rows::row(question.fields, answer),
+            notes,
+        }
     }
 }
 
@@ -137,11 +198,6 @@ fn note(notes: &mut Vec<&'static str>, what: &'static str, is: bool) {
     if is {
         notes.push(what);
     }
-}
-
-fn refused(refusal: &Refusal) -> String {
-    let carried = refusal.carried.iter().map(|value| format!(" {value}"));
-    format!("refused {}{}", refusal.number, carried.collect::<String>())
 }
 
 pub fn hex(bytes: &[u8]) -> String {

@@ -1,31 +1,49 @@
 //! Prints runs over seeded channels with the model's answers, the same on every run of the program.
 
+use std::io::{self, Write};
 use std::process::ExitCode;
 
-use channel::list::{counts, rows, text};
+use channel::list::{binary, counts, rows, text};
 use channel::RUNS;
 
 fn main() -> ExitCode {
     let arguments: Vec<String> = std::env::args().skip(1).collect();
-    let Some((seed, runs, counted)) = read(&arguments) else {
-        eprintln!("usage: channel [--seed N] [--runs N] [--counts]");
+    let Some((seed, runs, form)) = read(&arguments) else {
+        eprintln!("usage: channel [--seed N] [--runs N] [--binary|--counts]");
         return ExitCode::from(2);
     };
     let rows = rows(seed, runs);
-    print!("{}", if counted { counts(&rows) } else { text(&rows) });
-    ExitCode::SUCCESS
+    let list = match form {
+        Form::Text => text(&rows).into(),
+        Form::Binary => binary(&rows),
+        Form::Counts => counts(&rows).into(),
+    };
+    match io::stdout().write_all(&list) {
+        Ok(()) => ExitCode::SUCCESS,
+        Err(error) => {
+            eprintln!("channel: {error}");
+            ExitCode::FAILURE
+        }
+    }
 }
 
-fn read(arguments: &[String]) -> Option<(u64, usize, bool)> {
-    let (mut seed, mut runs, mut counted) = (1, RUNS, false);
+enum Form {
+    Text,
+    Binary,
+    Counts,
+}
+
+fn read(arguments: &[String]) -> Option<(u64, usize, Form)> {
+    let (mut seed, mut runs, mut form) = (1, RUNS, Form::Text);
     let mut options = arguments.iter();
     while let Some(option) = options.next() {
         match option.as_str() {
             "--seed" => seed = options.next()?.parse().ok()?,
             "--runs" => runs = options.next()?.parse().ok()?,
-            "--counts" => counted = true,
+            "--binary" => form = Form::Binary,
+            "--counts" => form = Form::Counts,
             _ => return None,
         }
     }
-    Some((seed, runs, counted))
+    Some((seed, runs, form))
 }

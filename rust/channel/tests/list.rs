@@ -1,14 +1,59 @@
 //! The list that is replayed: it is the one of seed 1, and has every answer of the joiner.
 
-use channel::list::{counts, rows, text};
+use ::rows::{number, Row, NOTHING};
+use channel::list::{binary, counts, hex, rows, text};
 use channel::RUNS;
 
 #[test]
 fn the_list_is_the_one_that_is_replayed() {
-    let path = concat!(env!("CARGO_MANIFEST_DIR"), "/../../crates/replay_joiner/data/joiner");
-    let replayed = std::fs::read_to_string(path).unwrap();
-    assert!(replayed == text(&rows(1, RUNS)), "print the list anew");
+    let path = concat!(env!("CARGO_MANIFEST_DIR"), "/../../crates/replay/data/joiner");
+    let replayed = std::fs::read(path).unwrap();
+    assert!(replayed == binary(&rows(1, RUNS)), "print the list anew");
     assert!(replayed.len() < 1_000_000);
+}
+
+#[test]
+fn binary_and_text() {
+    let mut source = vec![];
+    for row in rows(1, RUNS) {
+        let read = &::rows::rows(&row.binary)[0];
+        assert_eq!(question(read), row.question);
+        assert_eq!(answer(read), row.answer);
+        if read.name() == "joiner.open" {
+            source = read.question[1].to_vec();
+        }
+        assert_eq!(read.answer[5], source);
+    }
+}
+
+fn question(row: &Row) -> String {
+    if row.name() == "joiner.join" {
+        return format!("joiner.join {}", hex(row.question[1]));
+    }
+    let numbers = row.question[1..].iter().map(|field| format!(" {}", number(field)));
+    format!("{}{}", row.name(), numbers.collect::<String>())
+}
+
+fn answer(row: &Row) -> String {
+    let a: Vec<u64> = row.answer.iter().map(|field| number(field)).collect();
+    let said = match (a[0], row.name()) {
+        (0, "joiner.join") => {
+            assert_eq!(a[3], row.answer[10].len() as u64);
+            format!("ok {} {} {}", a[1], a[2], hex(row.answer[10]))
+        }
+        (0, "joiner.close") => format!("ok {} {}", a[1], a[2]),
+        (0, _) => "ok".to_string(),
+        (other, _) => {
+            assert!(row.answer.get(10).is_none_or(|out| out.is_empty()));
+            match other {
+                NOTHING => "late".to_string(),
+                17 => format!("refused 17 {} {}", a[1], a[2]),
+                19 => format!("refused 19 {}", a[1]),
+                number => format!("refused {number}"),
+            }
+        }
+    };
+    format!("{said} {} {} {} {} {}", a[6], a[7], a[8], a[9], hex(row.answer[4]))
 }
 
 #[test]

@@ -12,6 +12,7 @@ pub mod packet;
 pub mod packetizer;
 pub mod vp8;
 
+pub mod binary;
 pub mod limits;
 mod questions;
 pub mod record;

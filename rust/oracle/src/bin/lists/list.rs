@@ -1,7 +1,10 @@
 //! The rows of a list.
 
 use std::collections::{BTreeMap, HashSet};
+use std::io::Write;
 use std::process::exit;
+
+use oracle::binary;
 
 use crate::random::Random;
 
@@ -61,6 +64,19 @@ impl List {
             fail(&format!("too long a list: {} bytes", text.len()));
         }
         print!("{text}");
+    }
+
+    /// The rows as crates/replay reads them.
+    pub fn print_binary(&self) {
+        let rows = self.rows.iter();
+        let list: Vec<u8> =
+            rows.flat_map(|(question, answer)| binary::row(question, answer)).collect();
+        if list.len() >= LONGEST_LIST {
+            fail(&format!("too long a list: {} bytes", list.len()));
+        }
+        if let Err(error) = std::io::stdout().write_all(&list) {
+            fail(&error.to_string());
+        }
     }
 
     /// How many rows each question has by kind of answer, a refusal's kind being its number.

@@ -18,8 +18,8 @@ use random::Random;
 
 fn main() -> ExitCode {
     let arguments: Vec<String> = std::env::args().skip(1).collect();
-    let Some((rows, seed, counts)) = read(&arguments) else {
-        eprintln!("usage: lists header|packet|h264|vp8|cases [--seed N] [--counts]");
+    let Some((rows, seed, form)) = read(&arguments) else {
+        eprintln!("usage: lists header|packet|h264|vp8|cases [--seed N] [--binary|--counts]");
         return ExitCode::from(2);
     };
     // Refusals 3 and 18 are panics of the Rust; one of the lists' own is news.
@@ -30,17 +30,23 @@ fn main() -> ExitCode {
     }));
     let mut list = List::new(Random::new(seed));
     rows(&mut list);
-    if counts {
-        list.print_counts();
-    } else {
-        list.print();
+    match form {
+        Form::Text => list.print(),
+        Form::Binary => list.print_binary(),
+        Form::Counts => list.print_counts(),
     }
     ExitCode::SUCCESS
 }
 
 type Rows = fn(&mut List);
 
-fn read(arguments: &[String]) -> Option<(Rows, u64, bool)> {
+enum Form {
+    Text,
+    Binary,
+    Counts,
+}
+
+fn read(arguments: &[String]) -> Option<(Rows, u64, Form)> {
     let (name, options) = arguments.split_first()?;
     let rows = match name.as_str() {
         "header" => header::rows,
@@ -50,14 +56,15 @@ fn read(arguments: &[String]) -> Option<(Rows, u64, bool)> {
         "cases" => cases::rows,
         _ => return None,
     };
-    let (mut seed, mut counts) = (1, false);
+    let (mut seed, mut form) = (1, Form::Text);
     let mut options = options.iter();
     while let Some(option) = options.next() {
         match option.as_str() {
             "--seed" => seed = options.next()?.parse().ok()?,
-            "--counts" => counts = true,
+            "--binary" => form = Form::Binary,
+            "--counts" => form = Form::Counts,
             _ => return None,
         }
     }
-    Some((rows, seed, counts))
+    Some((rows, seed, form))
 }

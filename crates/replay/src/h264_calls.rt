@@ -1,0 +1,129 @@
+// H.264: the start code search, frames sent, payloads read, the partition tests.
+use crate::equal;
+use crate::rows;
+use h264::Found;
+use h264::Search;
+use h264::next_ind;
+use h264::H264Payloader;
+use h264::ParameterSet;
+use h264::Payloads;
+use h264::Sent;
+use h264_packet::Depacketize;
+use h264_packet::Depacketized;
+use h264_packet::H264Packet;
+use h264_packet::Head;
+use h264_packet::Shown;
+use h264_packet::body;
+use h264_packet::is_partition_head;
+use h264_packet::is_partition_tail;
+
+pub fn next<'a>(q: &'a [u8], a: &'a [u8]) -> bool {
+    let search = next_ind(rows::field(q, 1), rows::number(q, 2));
+    match search {
+        Search::Yields(found) => match found {
+            Found::At(place, len) => equal::told(a, 0, place, len, 0),
+            Found::Nothing => equal::told(a, equal::NOTHING, 0, 0, 0),
+        },
+        Search::Refused(e) => equal::refused(a, e),
+    }
+}
+
+pub fn send<'a>(q: &'a [u8], a: &'a [u8]) -> bool {
+    let mut out = [rows::FILL; 2048];
+    let mut ends = [equal::NO_END; 2048];
+    let places = rows::room(rows::number(q, 3));
+    let packets = rows::room(rows::number(q, 4));
+    let r = sender(q).payload(
+        rows::number(q, 1),
+        rows::field(q, 2),
+        &mut out[0..places],
+        &mut ends[0..packets],
+    );
+    let same = equal::buffer(sent(a, r), rows::field(a, 4), rows::FILL, &out);
+    equal::ends(same, rows::field(a, 5), &ends)
+}
+
+fn sender(q: &[u8]) -> H264Payloader {
+    H264Payloader {
+        sps: set(rows::number(q, 5), rows::field(q, 6)),
+        pps: set(rows::number(q, 7), rows::field(q, 8)),
+    }
+}
+
+fn set(len: usize, front: &[u8]) -> ParameterSet {
+    let mut bytes = [rows::FILL; 1024];
+    rows::lay(front, &mut bytes);
+    ParameterSet { bytes, len }
+}
+
+fn sent(a: &[u8], r: Sent) -> bool {
+    let after = r.sender;
+    let answer = r.answer;
+    let same = match answer {
+        Payloads::Written { packets, bytes } => equal::told(a, 0, packets, bytes, 0),
+        Payloads::Refused(e) => equal::refused(a, e),
+    };
+    let same = same_set(same, rows::rest(a, 6), after.sps);
+    same_set(same, rows::rest(a, 9), after.pps)
+}
+
+fn same_set(same: bool, a: &[u8], set: ParameterSet) -> bool {
+    let same = equal::number(same, a, 0, set.len);
+    equal::places(same, rows::field(a, 1), rows::byte(a, 2), &set.bytes)
+}
+
+pub fn read<'a>(q: &'a [u8], a: &'a [u8]) -> bool {
+    let mut gather = [rows::FILL; 2048];
+    let mut out = [rows::FILL; 2048];
+    let payload = rows::field(q, 1);
+    let held = rows::room(rows::number(q, 2));
+    let places = rows::room(rows::number(q, 3));
+    rows::lay(rows::field(q, 6), &mut gather);
+    let r = reader(q).depacketize(payload, &mut gather[0..held], &mut out[0..places]);
+    let shown = r.shown;
+    let same = equal::buffer(heard(a, r), rows::field(a, 4), rows::FILL, &out);
+    gathered(same, a, shown, payload, &gather)
+}
+
+fn reader(q: &[u8]) -> H264Packet {
+    H264Packet {
+        is_avc: rows::flag(q, 4),
+        gathered: rows::number(q, 5),
+    }
+}
+
+fn heard(a: &[u8], r: Depacketized) -> bool {
+    let after = r.packet;
+    let answer = r.answer;
+    let same = match answer {
+        Depacketize::Bytes(count) => equal::told(a, 0, count, 0, 0),
+        Depacketize::Refused(e) => equal::refused(a, e),
+    };
+    let same = equal::flag(same, a, 7, after.is_avc);
+    equal::number(same, a, 8, after.gathered)
+}
+
+// All of the gather buffer, and the body that is shown.
+fn gathered<'a>(
+    same: bool,
+    a: &'a [u8],
+    shown: Shown,
+    payload: &'a [u8],
+    gather: &'a [u8; 2048],
+) -> bool {
+    let same = equal::places(same, rows::field(a, 5), rows::FILL, gather);
+    same && check::same(body(shown, payload, gather), rows::field(a, 6))
+}
+
+pub fn head<'a>(q: &'a [u8], a: &'a [u8]) -> bool {
+    let answer = is_partition_head(rows::field(q, 1));
+    match answer {
+        Head::Is(is) => equal::told(a, 0, is as usize, 0, 0),
+        Head::Refused(e) => equal::refused(a, e),
+    }
+}
+
+pub fn tail<'a>(q: &'a [u8], a: &'a [u8]) -> bool {
+    let is = is_partition_tail(rows::flag(q, 1));
+    equal::told(a, 0, is as usize, 0, 0)
+}

@@ -1,7 +1,0 @@
-pub mod Parts
-pub mod Numbers
-pub mod Hex
-pub mod Same
-pub mod Text
-pub mod Count
-pub mod Report
