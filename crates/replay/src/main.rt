@@ -65,7 +65,7 @@ fn replay(list: &[u8]) -> Tally {
         let row = rows::first(&list[at..]);
         host = played(host, rows::field(row, 0), rows::field(row, 1));
         tally = tally.row(host.same);
-        at = rows::behind(list, at);
+        at = rows::found(list, at).to;
     }
     tally
 }

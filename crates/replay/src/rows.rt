@@ -22,28 +22,38 @@ pub fn wide32(n: u32) -> usize {
     n as usize
 }
 
-// The place behind the field that begins at a place: the end where there is no whole one.
-pub fn behind(s: &[u8], at: usize) -> usize
+// Where a field's bytes stand.
+pub struct Bytes {
+    pub from: usize,
+    pub to: usize,
+}
+
+// The field that begins at a place, without its length: where no whole one does, all that is left.
+pub fn found(s: &[u8], at: usize) -> Bytes
     requires { ⌜ at ≤ length (now s) ⌝ }
-    ensures { λ r. ⌜ (r ≤ length (now (s .entry))) × (at < length (now (s .entry)) → at < r) ⌝ }
+    ensures { λ r. ⌜ (r .from ≤ r .to) × (r .to ≤ length (now (s .entry))) × (at < length (now (s .entry)) → at < r .to) ⌝ }
 {
-    if s.len() - at < 2 {
-        return s.len();
+    if 2 <= s.len() - at {
+        let n = wide16(wire::get_u16(s, at));
+        let from = at + 2;
+        if n <= s.len() - from {
+            return Bytes {
+                from,
+                to: from + n,
+            };
+        }
     }
-    let n = wide16(wire::get_u16(s, at));
-    let from = at + 2;
-    if s.len() - from < n {
-        return s.len();
+    Bytes {
+        from: at,
+        to: s.len(),
     }
-    from + n
 }
 
 pub fn first(s: &[u8]) -> &[u8] {
-    let end = behind(s, 0);
-    if end < 2 {
-        return s;
-    }
-    &s[2..end]
+    let field = found(s, 0);
+    let from = field.from;
+    let to = field.to;
+    &s[from..to]
 }
 
 // What stands behind the first n fields.
@@ -51,7 +61,7 @@ pub fn rest(s: &[u8], n: usize) -> &[u8] {
     let mut at = 0;
     let mut i = 0;
     while i < n {
-        at = behind(s, at);
+        at = found(s, at).to;
         i += 1;
     }
     &s[at..]

@@ -30,6 +30,6 @@ replay-spec =
     (λ c κs. search needs)
     (λ c κs. search needs)
     (λ c κs. search needs)
-    (λ c. omega (arith, c .behind .ensures .1 (search needs)))
+    (λ c. omega (arith, c .found .ensures .2 (search needs)))
     (λ c. search needs)
     (λ c. search needs))
