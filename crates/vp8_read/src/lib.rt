@@ -145,13 +145,6 @@ impl Vp8Packet {
     }
 }
 
-// A byte, as wide as a picture id.
-fn wide(b: u8) -> u16
-    ensures { λ r. ⌜ (r ≡ b) × (r < 256) ⌝ }
-{
-    b as u16
-}
-
 impl Reader {
     fn flags(self, packet: &[u8]) -> Reader
         requires { ⌜ self .at < length (now packet) ⌝ }
@@ -178,7 +171,7 @@ impl Reader {
             return self;
         }
         if packet[at] < 128 {
-            fields.picture_id = wide(packet[at]);
+            fields.picture_id = wire::octet16(packet[at]);
             return Reader {
                 packet: fields,
                 at: at + 1,

@@ -17,7 +17,7 @@ returns-2 c =
     let fields = start .self .packet in
     let at = start .self .at in
     let s = start .packet .now in
-    ap (λ (n : ℕ). stage (putPictureId n fields) (at + 1) s) (c .wide .ensures .0)
+    ap (λ (n : ℕ). stage (putPictureId n fields) (at + 1) s) (c .octet16 .ensures .0)
     ∙ sym (id-short-at fields at s (c .before .before .before .before .if1 .left) (c .before .before .if2 .taken))
 
 returns-3 : tie.Need-returns-3
