@@ -2,12 +2,12 @@
 use crate::equal;
 use crate::rows;
 use h264::Found;
-use h264::Search;
-use h264::next_ind;
 use h264::H264Payloader;
 use h264::ParameterSet;
 use h264::Payloads;
+use h264::Search;
 use h264::Sent;
+use h264::next_ind;
 use h264_packet::Depacketize;
 use h264_packet::Depacketized;
 use h264_packet::H264Packet;

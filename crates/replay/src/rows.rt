@@ -37,10 +37,7 @@ pub fn found(s: &[u8], at: usize) -> Bytes
         let n = wide16(wire::get_u16(s, at));
         let from = at + 2;
         if n <= s.len() - from {
-            return Bytes {
-                from,
-                to: from + n,
-            };
+            return Bytes { from, to: from + n };
         }
     }
     Bytes {

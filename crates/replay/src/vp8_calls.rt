@@ -1,14 +1,14 @@
 // VP8: frames sent, descriptors read, the partition tests.
 use crate::equal;
 use crate::rows;
+use vp8::Vp8Answer;
 use vp8::Vp8Packet;
 use vp8::Vp8PartitionHead;
+use vp8::Vp8Payloaded;
+use vp8::Vp8Payloader;
 use vp8::Vp8Read;
 use vp8::is_partition_head;
 use vp8::is_partition_tail;
-use vp8::Vp8Answer;
-use vp8::Vp8Payloaded;
-use vp8::Vp8Payloader;
 
 pub fn send<'a>(q: &'a [u8], a: &'a [u8]) -> bool {
     let mut out = [rows::FILL; 2048];

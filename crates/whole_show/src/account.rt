@@ -1,100 +1,76 @@
-// The account of a show.
+// The account of shows: a table of figures.
+use crate::list;
+use crate::list::Table;
 use crate::list::plus;
-use crate::theorem::Calls;
 use libc::STDOUT_FILENO;
 
-pub struct Account {
-    // packets and groups that were sent
-    pub sent: usize,
-    pub groups: usize,
-    pub arrived: usize,
-    // what the calls answered
-    pub calls: Calls,
-    // packets that were missed, by the joiner's count
-    pub missed: usize,
-    // groups that were handed out, and their bytes
-    pub handed: usize,
-    pub bytes: usize,
-    // everything is as the theorem says
-    pub as_said: bool,
+// packets and groups that were sent
+pub const SENT: usize = 0;
+
+pub const GROUPS: usize = 1;
+// calls, and what they answered
+const ARRIVED: usize = 2;
+
+const ACCEPTED: usize = 3;
+
+const LATE: usize = 4;
+
+const FOREIGN: usize = 5;
+
+const UNREADABLE: usize = 6;
+// packets that were missed, by the joiner's count
+const MISSED: usize = 7;
+// groups that were handed out, and their bytes
+const HANDED: usize = 8;
+
+const BYTES: usize = 9;
+// what is not as the theorem says
+const UNLIKE: usize = 10;
+// of the show at hand: the largest that arrived so far, and the packet after which all were accepted up to it
+pub const NEWEST: usize = 11;
+
+pub const AFTER: usize = 12;
+
+pub fn add(account: &mut Table, figure: usize, n: usize) {
+    let sum = plus(list::entry(account, figure), n);
+    list::enter(account, figure, sum);
 }
 
-pub fn both(a: bool, b: bool) -> bool {
-    if a { b } else { false }
-}
-
-impl Calls {
-    fn with(self, other: Calls) -> Calls {
-        Calls {
-            accepted: plus(self.accepted, other.accepted),
-            late: plus(self.late, other.late),
-            foreign: plus(self.foreign, other.foreign),
-            unreadable: plus(self.unreadable, other.unreadable),
-            as_said: both(self.as_said, other.as_said),
-        }
+pub fn check(account: &mut Table, right: bool) {
+    if !right {
+        add(account, UNLIKE, 1);
     }
 }
 
-impl Account {
-    pub fn none() -> Account {
-        Account {
-            sent: 0,
-            groups: 0,
-            arrived: 0,
-            calls: Calls::none(),
-            missed: 0,
-            handed: 0,
-            bytes: 0,
-            as_said: true,
-        }
-    }
-
-    // Two accounts as one.
-    pub fn with(self, other: Account) -> Account {
-        let calls = self.calls;
-        let more = other.calls;
-        Account {
-            sent: plus(self.sent, other.sent),
-            groups: plus(self.groups, other.groups),
-            arrived: plus(self.arrived, other.arrived),
-            calls: calls.with(more),
-            missed: plus(self.missed, other.missed),
-            handed: plus(self.handed, other.handed),
-            bytes: plus(self.bytes, other.bytes),
-            as_said: both(self.as_said, other.as_said),
-        }
-    }
-
-    pub fn report(self, name: &[u8]) {
-        io::write_all(STDOUT_FILENO, name);
-        put(b": sent ", self.sent);
-        put(b" packets in ", self.groups);
-        put(b" groups; arrived ", self.arrived);
-        report_calls(self.calls);
-        put(b"; missed ", self.missed);
-        put(b"; groups handed out ", self.handed);
-        put(b", of ", self.bytes);
-        report_truth(self.as_said);
+fn figure_of(kind: usize) -> usize {
+    match kind {
+        0 => ACCEPTED,
+        1 => LATE,
+        21 => FOREIGN,
+        _ => UNREADABLE,
     }
 }
 
-fn put(what: &[u8], n: usize) {
-    io::write_all(STDOUT_FILENO, what);
-    io::print_decimal(STDOUT_FILENO, n as u64);
+// A call's answer, and how many bytes it handed out.
+pub fn call(account: &mut Table, kind: usize, n: usize) {
+    add(account, ARRIVED, 1);
+    add(account, figure_of(kind), 1);
+    add(account, BYTES, n);
+    add(account, HANDED, (0 < n) as usize);
 }
 
-fn report_calls(calls: Calls) {
-    put(b": accepted ", calls.accepted);
-    put(b", late ", calls.late);
-    put(b", foreign ", calls.foreign);
-    put(b", unreadable ", calls.unreadable);
+// The missed total at a show's closing.
+pub fn closed(account: &mut Table, missed: usize) {
+    add(account, MISSED, missed);
+    let sum = plus(list::entry(account, ACCEPTED), list::entry(account, MISSED));
+    check(account, sum == list::entry(account, SENT));
 }
 
-fn report_truth(as_said: bool) {
-    io::write_all(STDOUT_FILENO, b" bytes; as the theorem says: ");
-    if as_said {
-        io::write_all(STDOUT_FILENO, b"yes\n");
-        return;
+pub fn report(name: &[u8], account: &Table) {
+    io::write_all(STDOUT_FILENO, name);
+    for k in 0..11 {
+        io::write_all(STDOUT_FILENO, b" ");
+        io::print_decimal(STDOUT_FILENO, list::entry(account, k) as u64);
     }
-    io::write_all(STDOUT_FILENO, b"NO\n");
+    io::write_all(STDOUT_FILENO, b"\n");
 }

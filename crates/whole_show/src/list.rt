@@ -1,58 +1,29 @@
-// A list of byte strings: one behind the other in a store, their ends in a table. What does not fit falls away.
+// The list of byte strings of a show: one behind the other in a store, their ends in a table, and their count in its last entry. String 0
+// is empty. The store and the table have room for every show; a place beyond them counts from their start again.
 
-pub type Store = [u8; 131072];
+pub type Store = [u8; 262144];
 
 pub type Table = [usize; 4096];
 
-// How far a list is filled.
-pub struct Filled {
-    // how many strings it has
-    pub count: usize,
-    // where the last one ends
-    pub end: usize,
+pub fn byte(bytes: &Store, at: usize) -> u8 {
+    bytes[at % 262144]
 }
 
-impl Filled {
-    pub fn none() -> Filled {
-        Filled { count: 0, end: 0 }
-    }
+pub fn put(bytes: &mut Store, at: usize, b: u8) {
+    bytes[at % 262144] = b;
+}
 
-    // One string more: what stands in the store from the last one's end up to a place.
-    pub fn up_to(self, end: usize, ends: &mut Table) -> Filled {
-        enter(ends, self.count, end);
-        Filled {
-            count: more(self.count),
-            end,
-        }
-    }
+pub fn entry(table: &Table, i: usize) -> usize {
+    table[i % 4096]
+}
+
+pub fn enter(table: &mut Table, i: usize, n: usize) {
+    table[i % 4096] = n;
 }
 
 // Sums that are far from the largest number.
 pub fn plus(a: usize, b: usize) -> usize {
     std::num::wrapping_add_usize(a, b)
-}
-
-pub fn more(n: usize) -> usize {
-    plus(n, 1)
-}
-
-// The entry at a place of a table, 0 beyond it.
-pub fn entry(table: &Table, i: usize) -> usize {
-    if i < 4096 { table[i] } else { 0 }
-}
-
-pub fn enter(table: &mut Table, i: usize, n: usize) {
-    if i < 4096 {
-        table[i] = n;
-    }
-}
-
-// Where string i starts.
-pub fn start(ends: &Table, i: usize) -> usize {
-    if i == 0 {
-        return 0;
-    }
-    entry(ends, i - 1)
 }
 
 // The bytes from a place up to another: none where there are none such.
@@ -65,30 +36,29 @@ pub fn part(bytes: &[u8], from: usize, to: usize) -> &[u8] {
     &bytes[0..0]
 }
 
-// String i.
+// Where string i starts.
+pub fn start(ends: &Table, i: usize) -> usize {
+    entry(ends, std::num::wrapping_sub_usize(i, 1))
+}
+
+// String i: none where there is none such.
 pub fn item<'a>(bytes: &'a Store, ends: &Table, i: usize) -> &'a [u8] {
     part(bytes, start(ends, i), entry(ends, i))
 }
 
-pub fn put(bytes: &mut Store, at: usize, b: u8) {
-    if at < 131072 {
-        bytes[at] = b;
-    }
+// How long string i is.
+pub fn len(ends: &Table, i: usize) -> usize {
+    std::num::wrapping_sub_usize(entry(ends, i), start(ends, i))
 }
 
-// Puts bytes at a place: where they end.
-pub fn put_all(bytes: &mut [u8], at: usize, string: &[u8]) -> usize {
-    if bytes.len() < at {
-        return at;
-    }
-    if bytes.len() - at < string.len() {
-        return at;
-    }
-    wire::copy_at(string, bytes, at);
-    at + string.len()
+// How many strings there are.
+pub fn count(ends: &Table) -> usize {
+    entry(ends, 4095)
 }
 
-// The byte at a place, 0 beyond the store.
-pub fn byte(bytes: &Store, at: usize) -> u8 {
-    if at < 131072 { bytes[at] } else { 0 }
+// One string more, up to a place.
+pub fn add(ends: &mut Table, end: usize) {
+    let n = count(ends);
+    enter(ends, n, end);
+    enter(ends, 4095, plus(n, 1));
 }

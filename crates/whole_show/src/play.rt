@@ -1,139 +1,126 @@
-// The packets through the joiner, in the order of arrival.
+// The packets through the joiner, in the order of arrival, each call held to what the theorem says of it.
+use crate::account;
+use crate::account::AFTER;
+use crate::account::NEWEST;
+use crate::channel;
 use crate::list;
-use crate::list::Filled;
 use crate::list::Store;
 use crate::list::Table;
+use crate::list::plus;
 use crate::send::SOURCE;
+use crate::show;
+use crate::theorem;
 use joiner::Joined;
 use joiner::Joiner;
 
-pub const ACCEPTED: u8 = 0;
+// An answer as a number: one of ONE for Late, one more than its number of them for a refusal, and for an acceptance how many bytes it
+// handed out.
+const ONE: usize = 4294967296;
 
-pub const LATE: u8 = 255;
-
-// What a call answers, as a number: that of the refusal where it is one.
-fn answer_of(answer: Joined) -> u8 {
-    match answer {
-        Joined::Accepted {
-            first: _,
-            count: _,
-            bytes: _,
-        } => ACCEPTED,
-        Joined::Late => LATE,
-        Joined::Refused(e) => e.number(),
-    }
-}
-
-// How many bytes a call has handed out.
-fn bytes_of(answer: Joined) -> usize {
+fn noted(answer: Joined) -> usize {
     match answer {
         Joined::Accepted {
             first: _,
             count: _,
             bytes,
-        } => bytes,
-        Joined::Late => 0,
-        Joined::Refused(_) => 0,
+        } => bytes % ONE,
+        Joined::Late => ONE,
+        Joined::Refused(e) => ONE * (wire::wide(e.number()) + 1),
     }
 }
 
-// What the calls left: the joiner's record, and the list of what was handed out.
-pub struct Played {
-    pub joiner: Joiner,
-    pub handed: Filled,
-}
-
-// A call's answer into a table, and what it handed out behind the list.
-fn note(
-    i: usize,
-    answer: Joined,
-    list: Filled,
+// A call's answer, held to what is said of it.
+fn judge(
+    index: usize,
+    note: usize,
     out: &Store,
-    answers: &mut Store,
-    handed: &mut Store,
-    handed_ends: &mut Table,
-) -> Filled {
-    list::put(answers, i, answer_of(answer));
-    let n = bytes_of(answer);
-    if n == 0 {
-        return list;
-    }
-    let end = list::put_all(handed, list.end, list::part(out, 0, n));
-    list.up_to(end, handed_ends)
+    rows: &Table,
+    bytes: &Store,
+    ends: &Table,
+    account: &mut Table,
+) {
+    let n = note % ONE;
+    let said = theorem::answer_to(index, list::entry(account, NEWEST));
+    let row = theorem::row_of(index, account, rows);
+    account::call(account, note / ONE, n);
+    account::check(account, note / ONE == said);
+    account::check(
+        account,
+        theorem::is_group(list::part(out, 0, n), row, rows, bytes, ends),
+    );
 }
 
-impl Played {
-    // The call for the arrival at place i.
-    fn call(
-        self,
-        i: usize,
-        packet: &[u8],
-        gather: &mut Store,
-        out: &mut Store,
-        answers: &mut Store,
-        handed: &mut Store,
-        handed_ends: &mut Table,
-    ) -> Played {
-        let before = self.joiner;
-        let list = self.handed;
-        let step = joiner::join_by_value(before, packet, gather, out);
-        let answer = step.answer;
-        let joiner = step.joiner;
-        Played {
-            joiner,
-            handed: note(i, answer, list, out, answers, handed, handed_ends),
-        }
-    }
-}
-
-// A call for each of n arrivals.
-fn play_all(
-    first: u16,
-    n: usize,
-    arrivals: &Table,
-    packets: &Store,
-    places: &Table,
+// Turn t of the channel.
+fn turn(
+    joiner: Joiner,
+    show: usize,
+    t: usize,
+    bytes: &Store,
+    ends: &Table,
+    rows: &Table,
     gather: &mut Store,
     out: &mut Store,
-    answers: &mut Store,
-    handed: &mut Store,
-    handed_ends: &mut Table,
-) -> Played {
-    let mut played = Played {
-        joiner: Joiner::open(SOURCE, first),
-        handed: Filled::none(),
-    };
-    let mut i = 0;
-    while i < n {
-        let packet = list::item(packets, places, list::entry(arrivals, i));
-        played = played.call(i, packet, gather, out, answers, handed, handed_ends);
-        i += 1;
+    account: &mut Table,
+) -> Joiner {
+    let index = channel::arrival(show, t);
+    let packet = list::item(bytes, ends, index);
+    if packet.len() == 0 {
+        return joiner;
     }
-    played
+    let step = joiner::join_by_value(joiner, packet, gather, out);
+    let answer = step.answer;
+    judge(index, noted(answer), out, rows, bytes, ends, account);
+    step.joiner
 }
 
-pub fn play(
-    first: u16,
-    n: usize,
-    arrivals: &Table,
-    packets: &Store,
-    places: &Table,
-    answers: &mut Store,
-    handed: &mut Store,
-    handed_ends: &mut Table,
-) -> Played {
-    let mut gather: Store = [0; 131072];
-    let mut out: Store = [0; 131072];
-    play_all(
-        first,
-        n,
-        arrivals,
-        packets,
-        places,
-        &mut gather,
-        &mut out,
-        answers,
-        handed,
-        handed_ends,
-    )
+// "Closing takes the number after the last sent": the missed total.
+fn missed(joiner: Joiner, number: u16) -> usize {
+    let closing = joiner.close(number);
+    let closed = closing.joiner;
+    if closed.closed {
+        closed.missed as usize
+    } else {
+        ONE
+    }
+}
+
+// All turns of the channel.
+fn turns(
+    opened: Joiner,
+    show: usize,
+    bytes: &Store,
+    ends: &Table,
+    rows: &Table,
+    account: &mut Table,
+) -> Joiner {
+    let mut gather: Store = [0; 262144];
+    let mut out: Store = [0; 262144];
+    let mut joiner = opened;
+    for t in 0..channel::turns(ends) {
+        joiner = turn(
+            joiner,
+            show,
+            t,
+            bytes,
+            ends,
+            rows,
+            &mut gather,
+            &mut out,
+            account,
+        );
+    }
+    joiner
+}
+
+// A show.
+pub fn play(show: usize, bytes: &Store, ends: &Table, rows: &Table, account: &mut Table) {
+    let before = plus(show::units(show), 4);
+    list::enter(account, NEWEST, before);
+    list::enter(account, AFTER, before);
+    let opened = Joiner::open(SOURCE, show::number_of(show, plus(before, 1)));
+    let joiner = turns(opened, show, bytes, ends, rows, account);
+    account::closed(
+        account,
+        missed(joiner, show::number_of(show, list::count(ends))),
+    );
 }

@@ -1,88 +1,66 @@
-// What a show is made of.
-use crate::channel::Chances;
-use crate::random::Random;
+// What a show is made of, by its number. The first three are: clean, everything that is sent arrives, in order; lossy; and everything,
+// lost, repeated, moved, and mixed with what is not the sender's. The others are drawn.
+use crate::list::plus;
+use crate::random::number;
 
-pub struct Show {
-    pub seed: u64,
-    // how many units
-    pub units: usize,
-    // 3 to 65,523
-    pub mtu: u16,
-    // the number of the first packet
-    pub first: u16,
-    pub chances: Chances,
-}
+// Of each: a quarter of its units, the mtu, the number of packet 0, the chances.
+const FIXED: [usize; 24] = [
+    38,
+    400,
+    65350,
+    0,
+    0,
+    0,
+    0,
+    0,
+    60,
+    100,
+    64800,
+    50,
+    0,
+    0,
+    0,
+    0,
+    70,
+    100,
+    65250,
+    20,
+    50,
+    20,
+    100,
+    0,
+];
 
-// Everything that is sent arrives, in order.
-pub fn clean() -> Show {
-    Show {
-        seed: 1,
-        units: 150,
-        mtu: 400,
-        first: 65500,
-        chances: Chances {
-            lost: 0,
-            repeated: 0,
-            others: 0,
-            moved: 0,
-            far: 0,
-        },
+// Number k of a show: where it is drawn, from the least up to so many above it.
+fn drawn(show: usize, k: usize, least: usize, above: usize) -> usize {
+    let fixed = FIXED;
+    if show < 3 {
+        fixed[show * 8 + k % 8]
+    } else {
+        plus(least, number(show, k) % (above % 65536 + 1))
     }
 }
 
-pub fn lossy() -> Show {
-    Show {
-        seed: 2,
-        units: 400,
-        mtu: 100,
-        first: 65000,
-        chances: Chances {
-            lost: 50,
-            repeated: 0,
-            others: 0,
-            moved: 0,
-            far: 0,
-        },
-    }
+// Two frames have four units.
+pub fn frames(show: usize) -> usize {
+    drawn(show, 0, 8, 24) % 1024 * 2
 }
 
-// Lost, repeated, moved, and mixed with what is not the sender's.
-pub fn everything() -> Show {
-    Show {
-        seed: 3,
-        units: 500,
-        mtu: 100,
-        first: 65535,
-        chances: Chances {
-            lost: 20,
-            repeated: 50,
-            others: 100,
-            moved: 20,
-            far: 8,
-        },
-    }
+pub fn units(show: usize) -> usize {
+    drawn(show, 0, 8, 24) % 1024 * 4
 }
 
-// Drawn by its seed.
-pub fn drawn(seed: u64) -> Show {
-    let units = Random::new(seed);
-    let mtu = units.next();
-    let first = mtu.next();
-    let lost = first.next();
-    let repeated = lost.next();
-    let others = repeated.next();
-    let moved = others.next();
-    Show {
-        seed: moved.state,
-        units: 30 + units.below(100),
-        mtu: 3 + mtu.short(300),
-        first: std::num::wrapping_sub_u16(0, first.short(200)),
-        chances: Chances {
-            lost: lost.below(60),
-            repeated: repeated.below(60),
-            others: others.below(60),
-            moved: moved.below(60),
-            far: moved.next().below(20),
-        },
-    }
+pub fn mtu(show: usize) -> usize {
+    drawn(show, 1, 3, 299)
+}
+
+// "packet i bears (first + i) mod 65,536"
+pub fn number_of(show: usize, i: usize) -> u16 {
+    (plus(drawn(show, 2, 65236, 199), i) % 65536) as u16
+}
+
+// Of a thousand packets: how many are lost (0), and with how many comes an earlier one again (1), a later one too early (2), or what is
+// not the sender's (3).
+pub fn chance(show: usize, k: usize) -> usize {
+    drawn(show, 3 + k % 4, 0, 59)
 }

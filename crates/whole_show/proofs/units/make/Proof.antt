@@ -5,10 +5,10 @@ use Rattle.whole_show.proofs.units.make.Statement.{statement}
 use Rattle.whole_show.proofs.units.make.Tie as tie
 
 abbrev Inv-loop : tie.InvT-loop
-Inv-loop seed count mtu bytes₀ ends₀ r₀ units₀ i₀ bytes ends r units i = Unit {0}
+Inv-loop show bytes₀ ends₀ k₀ k-end bytes ends k = Unit {0}
 
 abbrev μ-loop : tie.MeasureT-loop
-μ-loop seed count mtu bytes₀ ends₀ r₀ units₀ i₀ bytes ends r units i = count - i
+μ-loop show bytes₀ ends₀ k₀ k-end bytes ends k = k-end - k
 
 pub make-spec : {M : Type 1} → statement M
 make-spec =
@@ -16,7 +16,6 @@ make-spec =
     (tie.spec
     Inv-loop
     μ-loop
-    (λ c κs. tt)
     (λ c κs. tt)
     (λ c. search needs)
     (λ c κs. tt)
