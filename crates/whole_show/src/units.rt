@@ -6,6 +6,9 @@ use crate::list::plus;
 use crate::random::number;
 use crate::show;
 
+// "Each unit follows 00 00 00 01": with it what is handed out is compared.
+const PREFIX: [u8; 4] = *b"\x00\x00\x00\x01";
+
 // How long a unit is that is sent: few bytes, about those of the mtu, up to it, or far beyond.
 fn coded_len(mtu: usize, d: usize) -> usize {
     let m = mtu % 65536;
@@ -42,7 +45,10 @@ fn put(show: usize, drawn: usize, bytes: &mut Store, at: usize) -> usize {
     let head = (unit_type + drawn / 23 % 8 * 32) as u8;
     let body = plus(at, 4);
     let to = plus(body, len_of(unit_type, show::mtu(show), drawn / 184));
-    list::put(bytes, plus(at, 3), 1);
+    list::put(bytes, at, PREFIX[0]);
+    list::put(bytes, plus(at, 1), PREFIX[1]);
+    list::put(bytes, plus(at, 2), PREFIX[2]);
+    list::put(bytes, plus(at, 3), PREFIX[3]);
     fill(show, head, bytes, body, to);
     to
 }
