@@ -12,7 +12,7 @@ module _ {A : Type 0} where
   joinedTo [] last = last
   joinedTo (s ∷ between) last = s ++ joinedTo between last
 
-module _ {K E P Run O : Type 0} (codec : Codec K E P Run O) (Enough : K → Type 0) {A : Type 0} (gathering : List A → Run)
+module _ {K E P C Run O : Type 0} (codec : Codec K E P C Run O) (Enough : K → Type 0) {A : Type 0} (gathering : List A → Run)
     (start middle end : List A → P) (unit : List A → O) (Piece Fits : List A → Type 0)
     (cuts : Cuts codec Enough gathering start middle end unit Piece Fits) where
   abbrev pub others : List (List A) → List A → List P
@@ -36,7 +36,7 @@ module _ {K E P Run O : Type 0} (codec : Codec K E P Run O) (Enough : K → Type
   goes-on : (before : List A) (between : List (List A)) (last : List A) → Each Piece between → Piece last →
       Fits (before ++ joinedTo between last) →
       HandsOut codec Enough (gathering before) (others between last) (unit (before ++ joinedTo between last))
-  goes-on before [] last ps p fits = (codec .idle, cuts .ends before last p fits)
+  goes-on before [] last ps p fits = cuts .ends before last p fits
   goes-on before (s ∷ between) last ps p fits =
       subst (λ (l : List A). HandsOut codec Enough (gathering before) (others (s ∷ between) last) (unit l)) joined
       (behind (gathering before) (gathering (before ++ s)) (middle s) (before ++ s) between last

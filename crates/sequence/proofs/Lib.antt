@@ -4,4 +4,6 @@ pub mod Ruling
 pub mod Feeding
 pub mod Cutting
 pub mod Joining
+pub mod Calling
 pub mod InOrder
+pub mod Knowing

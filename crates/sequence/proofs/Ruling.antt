@@ -2,7 +2,7 @@
 -- awaited is always the number of one more than the largest index so far. Assumes nothing.
 use mathlib.Core.Path.{_≡_, refl, sym, ap, ap₂, subst, subst₂, _∙_}
 use mathlib.Core.Bool.{Bool, true, false, cond, _&&_, _||_}
-use mathlib.Core.List.{List, [], _∷_, _++_}
+use mathlib.Core.List.{List, [], _∷_, _++_, map, map-append}
 use Prim.Native.Nat.{ℕ, zero, suc, _+_, _-_, _≤_, _<_}
 use native.Mathlib.Nat.{lt-of-not-le, not-suc-le-zero}
 use native.Mathlib.Decide.{decLe}
@@ -13,8 +13,8 @@ use lib.Seq.{getD-drop, drop-drop}
 use borrow.Author.Tests.{le-leb, lt-leb, eq-eqb, ne-eqb}
 use Rattle.sequence.specs.Number.{numberOf, distanceOf, Near, Closable}
 use Rattle.sequence.specs.Arrival.{Arrival, ours, other, aboveAll, acceptedCalls, acceptedAmong, accepted, raised, Window}
-use Rattle.sequence.specs.Event.{Event, lost, got, holes, gotIn, eventOf, seen}
-use Rattle.sequence.specs.Rule.{Ruled, late, onward, ended, Rule, arriveBy, closeBy, plain, stateAfter, eventsOf, isOnward, endedEvents, isEnded, ruling, lastState, allEvents, onwardCalls, JoinsAtMost, Follows}
+use Rattle.sequence.specs.Event.{Event, lost, got, holes, gotIn, eventOf, seen, asGot}
+use Rattle.sequence.specs.Rule.{Ruled, late, onward, Ended, ended, Rule, arriveBy, closeBy, plain, stateAfter, eventsOf, isOnward, endedEvents, isEnded, ruling, lastState, allEvents, onwardCalls, JoinsAtMost, Follows}
 use Rattle.sequence.proofs.Numbers.{first-number, next-number, ahead, ahead-near, late-far, closing, closing-near}
 use Rattle.sequence.proofs.Accepting.{Tops, tops-none, tops-ours, not-later}
 
@@ -30,6 +30,10 @@ module _ {P : Type 0} where
   seen-none : (i : ℕ) (ps : List P) → seen (λ (j : ℕ). false) i ps ≡ holes (length ps) []
   seen-none i [] = refl
   seen-none i (p ∷ ps) = ap (λ (es : List (Event P)). lost ∷ es) (seen-none (suc i) ps)
+
+  asGot-holes : (d : ℕ) (es : List (Event P)) → map asGot (holes d es) ≡ holes d (map asGot es)
+  asGot-holes zero es = refl
+  asGot-holes (suc d) es = ap (λ (l : List (Event P)). lost ∷ l) (asGot-holes d es)
 
   -- holes join nothing
   got-behind : (d c : ℕ) (es : List (Event P)) → gotIn es ≤ c → gotIn (holes d es) ≤ c
@@ -54,12 +58,13 @@ module _ {P : Type 0} (rule : Rule P) (number : ℕ → ℕ) (packet : ℕ → P
     (later : List (Arrival B)) (events : List (Event P)) (calls : List Bool) where
   follow-onward : (next : rule .State) (es : List (Event P)) → ruling rule number packet n s i ≡ onward next es → gotIn es ≤ c →
       Follows rule number packet n c next later events calls →
-      Follows rule number packet n c s (ours i ∷ later) (es ++ events) (true ∷ calls)
+      Follows rule number packet n c s (ours i ∷ later) (map asGot es ++ events) (true ∷ calls)
   follow-onward next es e few f =
       record {
         sees =
-            ap (λ (r : Ruled (rule .State) P). eventsOf r ++ allEvents rule number packet n (stateAfter s r) later) e
-            ∙ ap (λ (l : List (Event P)). es ++ l) (f .sees);
+            ap (λ (r : Ruled (rule .State) P). map asGot (eventsOf r ++ allEvents rule number packet n (stateAfter s r) later)) e
+            ∙ map-append asGot es (allEvents rule number packet n next later)
+            ∙ ap (λ (l : List (Event P)). map asGot es ++ l) (f .sees);
         goes =
             ap (λ (r : Ruled (rule .State) P). isOnward r ∷ onwardCalls rule number packet n (stateAfter s r) later) e
             ∙ ap (λ (l : List Bool). true ∷ l) (f .goes);
@@ -76,7 +81,8 @@ module _ {P : Type 0} (rule : Rule P) (number : ℕ → ℕ) (packet : ℕ → P
   follow-late e f =
       record {
         sees =
-            ap (λ (r : Ruled (rule .State) P). eventsOf r ++ allEvents rule number packet n (stateAfter s r) later) e ∙ f .sees;
+            ap (λ (r : Ruled (rule .State) P). map asGot (eventsOf r ++ allEvents rule number packet n (stateAfter s r) later)) e
+            ∙ f .sees;
         goes =
             ap (λ (r : Ruled (rule .State) P). isOnward r ∷ onwardCalls rule number packet n (stateAfter s r) later) e
             ∙ ap (λ (l : List Bool). false ∷ l) (f .goes);
@@ -107,7 +113,8 @@ module _ {P : Type 0} (first : ℕ) (ps : List P) (z : P) (B : Type 0) where
   at-end m before h w =
       record {
         sees =
-            ap endedEvents closed
+            ap (λ (x : Ended P). map asGot (endedEvents x)) closed
+            ∙ asGot-holes (length ps - m) []
             ∙ ap (λ (d : ℕ). holes d []) (sym (length-drop m ps))
             ∙ sym (seen-none m (drop m ps));
         goes = refl;
@@ -125,7 +132,10 @@ module _ {P : Type 0} (first : ℕ) (ps : List P) (z : P) (B : Type 0) where
       Goal (suc i) (ours i ∷ before) later → Goal m before (ours i ∷ later)
   above m i before later h inside near tops f =
       subst₂ (λ (es : List (Event P)) (cs : List Bool). Follows (plain P) number packet (length ps) 1 (number m) (ours i ∷ later) es cs)
-      sees (ap (λ (b : Bool). b ∷ acceptedCalls (ours i ∷ before) later) (sym this))
+      (ap (λ (es : List (Event P)). es ++ seen (acceptedAmong (ours i ∷ before) later) (suc i) (drop (suc i) ps))
+      (asGot-holes (i - m) (got (packet i) ∷ []))
+      ∙ sees)
+      (ap (λ (b : Bool). b ∷ acceptedCalls (ours i ∷ before) later) (sym this))
       (follow-onward (plain P) number packet (length ps) 1 (number m) i later
       (seen (acceptedAmong (ours i ∷ before) later) (suc i) (drop (suc i) ps)) (acceptedCalls (ours i ∷ before) later)
       (number (suc i)) (holes (i - m) (got (packet i) ∷ [])) ruled (got-behind (i - m) 1 (got (packet i) ∷ []) (omega arith)) f)

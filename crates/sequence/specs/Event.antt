@@ -6,8 +6,10 @@ use Prim.Native.Nat.{ℕ, zero, suc, _+_}
 pub data Event (P : Type 0) : Type 0 where
   -- the next number was passed over
   lost : Event P
-  -- the packet of the next number
+  -- the packet of the next number, which is that of this call
   got : P → Event P
+  -- the packet of the next number, out of a hold
+  held : P → Event P
 
 module _ {P : Type 0} where
   -- d holes in front
@@ -19,11 +21,20 @@ module _ {P : Type 0} where
   lostIn [] = 0
   lostIn (lost ∷ es) = 1 + lostIn es
   lostIn (got p ∷ es) = lostIn es
+  lostIn (held p ∷ es) = lostIn es
 
+  -- how many packets are joined
   abbrev pub gotIn : List (Event P) → ℕ
   gotIn [] = 0
   gotIn (lost ∷ es) = gotIn es
   gotIn (got p ∷ es) = 1 + gotIn es
+  gotIn (held p ∷ es) = 1 + gotIn es
+
+  -- the same events, wherever a packet came from
+  abbrev pub asGot : Event P → Event P
+  asGot lost = lost
+  asGot (got p) = got p
+  asGot (held p) = got p
 
   abbrev pub eventOf : Bool → P → Event P
   eventOf came p = cond came (got p) lost

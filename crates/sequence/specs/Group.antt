@@ -1,6 +1,6 @@
 -- Packets that belong together, and what they are handed out as. Assumes nothing.
 use mathlib.Core.Bool.{Bool, true, false, _&&_}
-use mathlib.Core.List.{List, [], _∷_, _++_}
+use mathlib.Core.List.{List, [], _∷_, _++_, map}
 use Prim.Native.Nat.{ℕ, suc, _+_}
 use lib.ListN.{length}
 use Rattle.wire.specs.Each.{Each}
@@ -22,6 +22,10 @@ module _ {P O : Type 0} where
   abbrev pub handedOf : List (Group P O) → List O
   handedOf [] = []
   handedOf (g ∷ gs) = g .handed ∷ handedOf gs
+
+-- the same group, of whose packets something else is known
+abbrev pub mapGroup : {P Q O : Type 0} → (P → Q) → Group P O → Group Q O
+mapGroup f g = record { first = f (g .first); others = map f (g .others); handed = g .handed }
 
 -- what each group is handed out as is so
 abbrev pub EachHanded : {P O : Type 0} → (O → Type 0) → List (Group P O) → Type 0

@@ -6,3 +6,5 @@ pub mod Group
 pub mod Codec
 pub mod Joiner
 pub mod Demand
+pub mod Refines
+pub mod Plain

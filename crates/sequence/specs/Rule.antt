@@ -1,11 +1,11 @@
 -- A sequence rule turns numbered packets into events, and the plain rule of the paper. Assumes nothing.
 use mathlib.Core.Path.{_≡_}
 use mathlib.Core.Bool.{Bool, true, false, cond}
-use mathlib.Core.List.{List, [], _∷_, _++_}
+use mathlib.Core.List.{List, [], _∷_, _++_, map}
 use Prim.Native.Nat.{ℕ, _≤_}
 use Rattle.sequence.specs.Number.{distanceOf, nextOf, isLate}
 use Rattle.sequence.specs.Arrival.{Arrival, ours, other}
-use Rattle.sequence.specs.Event.{Event, got, holes, gotIn}
+use Rattle.sequence.specs.Event.{Event, got, holes, gotIn, asGot}
 
 -- what a rule says of a numbered packet: nothing is done with it, or the rule goes on and yields events
 pub data Ruled (S P : Type 0) : Type 0 where
@@ -97,10 +97,10 @@ module _ {P : Type 0} (rule : Rule P) (number : ℕ → ℕ) (packet : ℕ → P
   JoinsAtMost c s (other b ∷ later) = JoinsAtMost c s later
   JoinsAtMost c s (ours i ∷ later) = (gotIn (eventsOf (ruling s i)) ≤ c) × JoinsAtMost c (stateAfter s (ruling s i)) later
 
-  -- what a rule owes over arrivals: its events are the n packets in order, with a hole for each that was not accepted; it goes on
-  -- at the calls that accept; closing is not refused; and no call joins more than c packets
+  -- what a rule owes over arrivals: its events are the n packets in order, those of a call or out of a hold, with a hole for each that was
+  -- not accepted; it goes on at the calls that accept; closing is not refused; and no call joins more than c packets
   pub record Follows (c : ℕ) {B : Type 0} (s : rule .State) (later : List (Arrival B)) (events : List (Event P)) (calls : List Bool) : Type 0 where
-    pub sees : allEvents s later ≡ events
+    pub sees : map asGot (allEvents s later) ≡ events
     pub goes : onwardCalls s later ≡ calls
     pub ends : isEnded (rule .close (lastState s later) (number n)) ≡ true
     pub joins : JoinsAtMost c s later
