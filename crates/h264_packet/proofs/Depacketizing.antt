@@ -9,8 +9,8 @@ use lib.ListN.{length, take}
 use lib.Seq.{length-take-le}
 use borrow.Author.Tests.{lt-ltb, le-ltb, eqb-true}
 use Rattle.error.specs.Said.{refuse}
-use Rattle.nal.specs.Fed.{none, gathering, gathered, runOf}
 use Rattle.nal.specs.Ran.{layRun}
+use Rattle.h264_packet.specs.Run.{none, gathering, gathered, runOf, recorded}
 use Rattle.h264_packet.specs.Depacketize.{outside, readPayload, depacketized}
 
 -- the run that n bytes stand for is those bytes
@@ -31,7 +31,7 @@ module _ (avc : Bool) (n : ℕ) (payload gather out : List ℕ) where
       depacketized avc n payload gather out ≡ record { answer = refuse 8; gather = gather; out = out }
   unfolding depacketized
   read-outside h =
-      ap (λ (b : Bool). cond b (record { answer = refuse 8; gather = gather; out = out }) (layRun avc gather out (readPayload (runOf n gather) payload)))
+      ap (λ (b : Bool). cond b (record { answer = refuse 8; gather = gather; out = out }) (layRun recorded avc gather out (readPayload (runOf n gather) payload)))
       (far h)
     where
       far : (65535 < length payload) ⊎ ((length gather < n) ⊎ (16777215 < n)) → outside n payload gather ≡ true
@@ -41,6 +41,6 @@ module _ (avc : Bool) (n : ℕ) (payload gather out : List ℕ) where
           rw (lt-ltb 16777215 n h, or-true (ltb (length gather) n)) (or-true (ltb 65535 (length payload)))
 
   pub read-inside : length payload ≤ 65535 → n ≤ length gather → n ≤ 16777215 →
-      depacketized avc n payload gather out ≡ layRun avc gather out (readPayload (runOf n gather) payload)
+      depacketized avc n payload gather out ≡ layRun recorded avc gather out (readPayload (runOf n gather) payload)
   unfolding depacketized
   read-inside h g k = rw (le-ltb 65535 (length payload) h, le-ltb (length gather) n g, le-ltb 16777215 n k)

@@ -15,7 +15,7 @@ use Rattle.wire.specs.Turns.{run}
 use Rattle.wire.specs.Net.{bit}
 use Rattle.nal_read.specs.Kind.{Shape, short, unknown, plain, aggregate, fragment, shape}
 use Rattle.nal_read.specs.Unpack.{unpack}
-use Rattle.nal.specs.Fed.{Run, gathered, runOf, Fed, Laid}
+use Rattle.nal.specs.Fed.{Fed, Laid}
 use Rattle.nal.specs.Ran.{RanOn, layRun}
 use Rattle.nal_read.proofs.Sayable.{unpack-sayable}
 use Rattle.nal.proofs.Sayable.{handing-sayable, run-sayable}
@@ -27,6 +27,7 @@ use Rattle.h264_packet.specs.declared.Depacketize.the-variants as dep
 use Rattle.h264_packet.specs.declared.Depacketized.{Depacketized}
 use Rattle.h264_packet.specs.declared.Head.{Head}
 use Rattle.h264_packet.specs.declared.Head.the-variants as head
+use Rattle.h264_packet.specs.Run.{Run, gathered, runOf, recorded}
 use Rattle.h264_packet.specs.Depacketize.{readBy, readPayload, outside, depacketized, Showing, nowhere, in-packet, in-gather, shownOf, bodyOf, headTest}
 use Rattle.h264_packet.specs.Said.{saidShown, saidDepacketize, Heard, heard, readingHeard, depacketizedHeard, saidHead}
 
@@ -43,9 +44,9 @@ shape-sayable (fragment first last head) run payload = refl
 read-sayable : (avc : Bool) (n : ℕ) (payload gather out : List ℕ) → Sayable (depacketized avc n payload gather out .answer)
 unfolding depacketized readPayload
 read-sayable avc n payload gather out =
-    let x : Said Fed = readBy (shape payload) (runOf n gather) payload in
-    tested (λ (l : Laid RanOn). l .answer) (record { answer = refuse 8; gather = gather; out = out }) (layRun avc gather out x)
-    (outside n payload gather) refl (run-sayable avc gather out x (shape-sayable (shape payload) (runOf n gather) payload))
+    let x : Said (Fed Run) = readBy (shape payload) (runOf n gather) payload in
+    tested (λ (l : Laid (RanOn ℕ)). l .answer) (record { answer = refuse 8; gather = gather; out = out }) (layRun recorded avc gather out x)
+    (outside n payload gather) refl (run-sayable recorded avc gather out x (shape-sayable (shape payload) (runOf n gather) payload))
 
 -- ---- depacketize
 
@@ -89,20 +90,20 @@ back-view x i = (
   x .2,
 )
 
-view-back : (p : H264Packet) (payload gather out : List ℕ) (x : Said RanOn) → Sayable x →
+view-back : (p : H264Packet) (payload gather out : List ℕ) (x : Said (RanOn ℕ)) → Sayable x →
     view (back (readingHeard p payload gather out x)) ≡ readingHeard p payload gather out x
 view-back p payload gather out (says r) e =
     ap
-    (λ (s : Showing). record { packet = record { «is_avc» = p .«is_avc»; gathered = r .gathered }; answer = says (r .bytes); showing = s; gather = gather; out = out })
+    (λ (s : Showing). record { packet = record { «is_avc» = p .«is_avc»; gathered = r .run }; answer = says (r .bytes); showing = s; gather = gather; out = out })
     (said-shownBy (shownOf (shape payload) (p .gathered) (length payload)))
 view-back p payload gather out (refused r) e =
     ap (λ (k : Refusal). record { packet = p; answer = refused k; showing = nowhere; gather = gather; out = out })
-    (known {A = RanOn} {r = r} e)
+    (known {A = RanOn ℕ} {r = r} e)
 
 pub depacketize-only : (p : H264Packet) (payload gather out : List ℕ) →
     Determined (λ (x : Handed). heard (x .0) (x .1) (x .2) ≡ depacketizedHeard p payload (depacketized (p .«is_avc») (p .gathered) payload gather out))
 depacketize-only p payload gather out =
-    let l : Laid RanOn = depacketized (p .«is_avc») (p .gathered) payload gather out in
+    let l : Laid (RanOn ℕ) = depacketized (p .«is_avc») (p .gathered) payload gather out in
     by-view view back back-view (back (depacketizedHeard p payload l)) (depacketizedHeard p payload l)
     (view-back p payload (l .gather) (l .out) (l .answer) (read-sayable (p .«is_avc») (p .gathered) payload gather out))
 

@@ -10,19 +10,20 @@ use Rattle.error.specs.Said.{Said, says, refused, refuse}
 use Rattle.wire.specs.Net.{bit}
 use Rattle.nal_read.specs.Kind.{Shape, short, unknown, plain, aggregate, fragment, shape}
 use Rattle.nal_read.specs.Unpack.{unpack}
-use Rattle.nal.specs.Fed.{Run, gathered, runOf, Fed, ongoing, finished, Laid}
+use Rattle.nal.specs.Fed.{Fed, Laid}
 use Rattle.nal.specs.Ran.{handing, RanOn, layRun}
+use Rattle.h264_packet.specs.Run.{Run, gathered, runOf, recorded, ongoing, finished}
 
 -- units that leave the run as it is
-abbrev pub beside : Run → Said (List (List ℕ)) → Said Fed
+abbrev pub beside : Run → Said (List (List ℕ)) → Said (Fed Run)
 beside run units = handing run (gathered run) units
 
 -- a fragment's data behind what was gathered, "regardless of the start bit"
-abbrev pub gatheredOn : List ℕ → Bool → ℕ → Fed
+abbrev pub gatheredOn : List ℕ → Bool → ℕ → Fed Run
 gatheredOn bytes false head = ongoing bytes
 gatheredOn bytes true head = finished head bytes
 
-abbrev pub readBy : Shape → Run → List ℕ → Said Fed
+abbrev pub readBy : Shape → Run → List ℕ → Said (Fed Run)
 readBy short run payload = refuse 4
 readBy (unknown t) run payload = refused (record { number = 19; carried = t ∷ [] })
 readBy plain run payload = beside run (says (payload ∷ []))
@@ -30,7 +31,7 @@ readBy aggregate run payload = beside run (unpack payload)
 readBy (fragment first last head) run payload = says (gatheredOn (gathered run ++ drop 2 payload) last head)
 
 -- "H.264 reading: 4, 19, 17 or 18 at the first place"
-unfoldable pub readPayload : Run → List ℕ → Said Fed
+unfoldable pub readPayload : Run → List ℕ → Said (Fed Run)
 readPayload run payload = readBy (shape payload) run payload
 
 -- ---- the call
@@ -40,10 +41,10 @@ abbrev pub outside : ℕ → List ℕ → List ℕ → Bool
 outside n payload gather = ltb 65535 (length payload) || (ltb (length gather) n || ltb 16777215 n)
 
 -- 8 first; then the checks; then "6, 5"
-unfoldable pub depacketized : Bool → ℕ → List ℕ → List ℕ → List ℕ → Laid RanOn
+unfoldable pub depacketized : Bool → ℕ → List ℕ → List ℕ → List ℕ → Laid (RanOn ℕ)
 depacketized avc n payload gather out =
     cond (outside n payload gather) (record { answer = refuse 8; gather = gather; out = out })
-    (layRun avc gather out (readPayload (runOf n gather) payload))
+    (layRun recorded avc gather out (readPayload (runOf n gather) payload))
 
 -- ---- the body
 

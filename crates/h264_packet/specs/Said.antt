@@ -8,6 +8,8 @@ use Rattle.error.specs.Said.{Said, says, refused}
 use Rattle.nal_read.specs.Kind.{shape}
 use Rattle.nal.specs.Fed.{Laid}
 use Rattle.nal.specs.Ran.{RanOn}
+use Rattle.h264_packet.specs.declared.Ran.{Ran}
+use Rattle.h264_packet.specs.declared.Ran.the-variants as ran
 use Rattle.h264_packet.specs.declared.H264Packet.{H264Packet}
 use Rattle.h264_packet.specs.declared.Shown.{Shown}
 use Rattle.h264_packet.specs.declared.Shown.the-variants as shown
@@ -17,6 +19,14 @@ use Rattle.h264_packet.specs.declared.Depacketized.{Depacketized}
 use Rattle.h264_packet.specs.declared.Head.{Head}
 use Rattle.h264_packet.specs.declared.Head.the-variants as head
 use Rattle.h264_packet.specs.Depacketize.{Showing, nowhere, in-packet, in-gather, shownOf}
+
+-- what became of a payload, inside
+abbrev pub ranSaid : Ran → Said (RanOn ℕ)
+ranSaid (ran.On gathered bytes) = says (record { run = gathered; bytes = bytes })
+ranSaid (ran.Refused e) = refused (refusalOf e)
+
+abbrev pub ranHeard : Ran → List ℕ → List ℕ → Laid (RanOn ℕ)
+ranHeard r gather out = record { answer = ranSaid r; gather = gather; out = out }
 
 abbrev pub saidShown : Shown → Showing
 saidShown shown.Nowhere = nowhere
@@ -40,10 +50,10 @@ heard d gather out =
     record { packet = d .packet; answer = saidDepacketize (d .answer); showing = saidShown (d .shown); gather = gather; out = out }
 
 -- "a refusal .. changes no buffer and no state"; its body is an empty part
-abbrev pub readingHeard : H264Packet → List ℕ → List ℕ → List ℕ → Said RanOn → Heard
+abbrev pub readingHeard : H264Packet → List ℕ → List ℕ → List ℕ → Said (RanOn ℕ) → Heard
 readingHeard p payload gather out (says r) =
     record {
-      packet = record { «is_avc» = p .«is_avc»; gathered = r .gathered };
+      packet = record { «is_avc» = p .«is_avc»; gathered = r .run };
       answer = says (r .bytes);
       showing = shownOf (shape payload) (p .gathered) (length payload);
       gather = gather;
@@ -52,7 +62,7 @@ readingHeard p payload gather out (says r) =
 readingHeard p payload gather out (refused r) =
     record { packet = p; answer = refused r; showing = nowhere; gather = gather; out = out }
 
-abbrev pub depacketizedHeard : H264Packet → List ℕ → Laid RanOn → Heard
+abbrev pub depacketizedHeard : H264Packet → List ℕ → Laid (RanOn ℕ) → Heard
 depacketizedHeard p payload l = readingHeard p payload (l .gather) (l .out) (l .answer)
 
 abbrev pub saidHead : Head → Said Bool

@@ -39,6 +39,13 @@ pub struct Depacketized {
     pub shown: Shown,
 }
 
+// What became of a payload.
+enum Ran {
+    // the run that is now open has `gathered` bytes, 0 for none, and `bytes` bytes were handed out
+    On { gathered: usize, bytes: usize },
+    Refused(Error),
+}
+
 // Whether a payload begins a partition.
 pub enum Head {
     Is(bool),

@@ -6,18 +6,30 @@ ghost use lib.ListN.{length, take, drop};
 ghost use Rattle.error.specs.Refusal.{refusalOf};
 ghost use Rattle.error.specs.Said.{says, refused};
 ghost use Rattle.nal_read.specs.Said.{shapeSaid};
-ghost use Rattle.nal.specs.Ran.{ranHeard, layRun};
-ghost use Rattle.nal.specs.Fed.{runOf};
+ghost use Rattle.nal.specs.Said.{saidHanded};
+ghost use Rattle.nal.specs.Ran.{withRun, layRun};
+ghost use Rattle.h264_packet.specs.Run.{runOf, recorded};
 ghost use Rattle.h264_packet.specs.Depacketize.{gatheredOn, readPayload, depacketized, shownOf};
-ghost use Rattle.h264_packet.specs.Said.{saidShown, saidDepacketize, heard, depacketizedHeard};
+ghost use Rattle.h264_packet.specs.Said.{ranSaid, ranHeard, saidShown, saidDepacketize, heard, depacketizedHeard};
 ghost use Rattle.h264_packet.specs.Depacketize.{nowhere};
 use crate::Depacketize;
 use crate::Depacketized;
 use crate::H264Packet;
+use crate::Ran;
 use crate::Shown;
 use error::Error;
-use nal::Ran;
+use nal::Handed;
 use nal_read::Kind;
+
+// The answer of handing out, where a run of `gathered` bytes is open afterwards.
+fn with_run(handed: Handed, gathered: usize) -> Ran
+    ensures { λ r. ⌜ ranSaid r ≡ withRun gathered (saidHanded handed) ⌝ }
+{
+    match handed {
+        Handed::Bytes(bytes) => Ran::On { gathered, bytes },
+        Handed::Refused(e) => Ran::Refused(e),
+    }
+}
 
 // A fragment behind the `run` bytes gathered before it, regardless of the start bit.
 fn read_fragment(
@@ -30,27 +42,28 @@ fn read_fragment(
     out: &mut [u8],
 ) -> Ran
     requires { ⌜ (3 ≤ length (now payload)) × (length (now payload) ≤ 65535) × (run ≤ length (now gather)) ⌝ }
-    ensures { λ r. ⌜ ranHeard r (now (gather .exit)) (now (out .exit)) ≡ layRun avc (now (gather .entry)) (now (out .entry)) (says (gatheredOn (take run (now (gather .entry)) ++ drop 2 (now (payload .entry))) last head)) ⌝ }
+    ensures { λ r. ⌜ ranHeard r (now (gather .exit)) (now (out .exit)) ≡ layRun recorded avc (now (gather .entry)) (now (out .entry)) (says (gatheredOn (take run (now (gather .entry)) ++ drop 2 (now (payload .entry))) last head)) ⌝ }
 {
     if last {
-        return nal::with_run(nal::finish(payload, run, head, avc, gather, out), 0);
+        let first = [head];
+        return with_run(nal::finish(&payload[2..], run, &first, avc, gather, out), 0);
     }
-    nal::with_run(
-        nal::gather_on(payload, run, gather),
+    with_run(
+        nal::gather_on(&payload[2..], run, gather),
         run + (payload.len() - 2),
     )
 }
 
 fn read_payload(avc: bool, run: usize, payload: &[u8], gather: &mut [u8], out: &mut [u8]) -> Ran
     requires { ⌜ (length (now payload) ≤ 65535) × (run ≤ length (now gather)) × (run ≤ 16777215) ⌝ }
-    ensures { λ r. ⌜ ranHeard r (now (gather .exit)) (now (out .exit)) ≡ layRun avc (now (gather .entry)) (now (out .entry)) (readPayload (runOf run (now (gather .entry))) (now (payload .entry))) ⌝ }
+    ensures { λ r. ⌜ ranHeard r (now (gather .exit)) (now (out .exit)) ≡ layRun recorded avc (now (gather .entry)) (now (out .entry)) (readPayload (runOf run (now (gather .entry))) (now (payload .entry))) ⌝ }
 {
     let kind = nal_read::kind_of(payload);
     match kind {
         Kind::Short => Ran::Refused(Error::ErrShortPacket),
         Kind::Unknown(t) => Ran::Refused(Error::NaluTypeIsNotHandled(t)),
-        Kind::Plain => nal::run_plain(payload, avc, run, out),
-        Kind::Aggregate => nal::run_units(payload, avc, run, out),
+        Kind::Plain => with_run(nal::hand_plain(payload, avc, out), run),
+        Kind::Aggregate => with_run(nal_read::hand_stap_a(payload, avc, out), run),
         Kind::Fragment {
             first: _,
             last,

@@ -25,8 +25,8 @@ module _ (read : Reader) (avc : Bool) where
       calls read avc s outs (ps ++ qs) ≡ calls read avc s outs ps ++ calls read avc (behind read avc s outs ps) (later ps outs) qs
   calls-append [] qs s outs = refl
   calls-append (p ∷ ps) qs s outs =
-      let l : Laid RanOn = read avc (s .gathered) p (s .gather) (outs 0) in
-      ap (λ (ls : List (Laid RanOn)). l ∷ ls) (calls-append ps qs (next s l) (λ i. outs (suc i)))
+      let l : Laid (RanOn ℕ) = read avc (s .gathered) p (s .gather) (outs 0) in
+      ap (λ (ls : List (Laid (RanOn ℕ))). l ∷ ls) (calls-append ps qs (next s l) (λ i. outs (suc i)))
 
   behind-append : (ps qs : List (List ℕ)) (s : State) (outs : ℕ → List ℕ) →
       behind read avc s outs (ps ++ qs) ≡ behind read avc (behind read avc s outs ps) (later ps outs) qs
@@ -37,8 +37,8 @@ module _ (read : Reader) (avc : Bool) where
   pub hears-append : (s : State) (outs : ℕ → List ℕ) (ps qs xs ys : List (List ℕ)) → Hears read avc s outs ps xs →
       Hears read avc (behind read avc s outs ps) (later ps outs) qs ys → Hears read avc s outs (ps ++ qs) (xs ++ ys)
   hears-append s outs ps qs xs ys one two =
-      let first : List (Laid RanOn) = calls read avc s outs ps in
-      let second : List (Laid RanOn) = calls read avc (behind read avc s outs ps) (later ps outs) qs in
+      let first : List (Laid (RanOn ℕ)) = calls read avc s outs ps in
+      let second : List (Laid (RanOn ℕ)) = calls read avc (behind read avc s outs ps) (later ps outs) qs in
       record {
         answered = subst (Each Answered) (sym (calls-append ps qs s outs)) (each-append Answered first second (one .answered) (two .answered));
         handed =

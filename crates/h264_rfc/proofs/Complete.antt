@@ -12,9 +12,10 @@ use Rattle.wire.specs.Net.{be16}
 use Rattle.wire.specs.Packets.{joined}
 use Rattle.wire.proofs.Net.{length-be16}
 use Rattle.nal_read.specs.Kind.{Shape, plain, shape}
-use Rattle.nal_read.specs.Unpack.{sizedUnits}
-use Rattle.nal_read.specs.Unpack as unpacking
-use Rattle.nal.specs.Fed.{none, Fed, prefixed}
+use Rattle.nal.specs.Unpack.{sizedUnits}
+use Rattle.nal.specs.Unpack as unpacking
+use Rattle.nal.specs.Fed.{Fed, prefixed}
+use Rattle.h264_packet.specs.Run.{Run, none}
 use Rattle.nal_read.proofs.Shapes.{shape-plain, shape-delimiter, shape-aggregate, unpack-sized}
 use Rattle.wire.proofs.Packets.{joined-append}
 use Rattle.nal.proofs.Handing.{prefixed-append}
@@ -28,7 +29,7 @@ use Rattle.h264_rfc.proofs.Steps.{taken, hears-none, hears-one}
 use Rattle.h264_rfc.proofs.Fragments.{hears-fragmented}
 
 -- units that leave no run
-abbrev given : List (List ℕ) → Fed
+abbrev given : List (List ℕ) → Fed Run
 given us = record { run = none; kept = []; handed = us }
 
 -- one payload that is units

@@ -19,23 +19,23 @@ abbrev recordOf : Bool → State → H264Packet
 recordOf avc s = record { «is_avc» = avc; gathered = s .gathered }
 
 module _ (avc : Bool) (n : ℕ) (payload gather out : List ℕ) where
-  packet-heard : (x : Said RanOn) →
+  packet-heard : (x : Said (RanOn ℕ)) →
       readingHeard (record { «is_avc» = avc; gathered = n }) payload gather out x .packet ≡ record { «is_avc» = avc; gathered = gatheredThen n x }
   packet-heard (says r) = refl
   packet-heard (refused r) = refl
 
-  gather-heard : (x : Said RanOn) → readingHeard (record { «is_avc» = avc; gathered = n }) payload gather out x .gather ≡ gather
+  gather-heard : (x : Said (RanOn ℕ)) → readingHeard (record { «is_avc» = avc; gathered = n }) payload gather out x .gather ≡ gather
   gather-heard (says r) = refl
   gather-heard (refused r) = refl
 
-  handed-heard : (x : Said RanOn) →
+  handed-heard : (x : Said (RanOn ℕ)) →
       let h : Heard = readingHeard (record { «is_avc» = avc; gathered = n }) payload gather out x in takenFrom (h .answer) (h .out) ≡ handedIn x out
   handed-heard (says r) = refl
   handed-heard (refused r) = refl
 
-  answer-heard : (x : Said RanOn) (r : RanOn) → x ≡ says r →
+  answer-heard : (x : Said (RanOn ℕ)) (r : RanOn ℕ) → x ≡ says r →
       readingHeard (record { «is_avc» = avc; gathered = n }) payload gather out x .answer ≡ says (r .bytes)
-  answer-heard x r e = ap (λ (y : Said RanOn). readingHeard (record { «is_avc» = avc; gathered = n }) payload gather out y .answer) e
+  answer-heard x r e = ap (λ (y : Said (RanOn ℕ)). readingHeard (record { «is_avc» = avc; gathered = n }) payload gather out y .answer) e
 
 -- the results are those of the definition's calls
 pub record SameCalls (avc : Bool) (ps : List (List ℕ)) (rs : List Result) (s : State) (outs : ℕ → List ℕ) : Type 0 where
@@ -50,7 +50,7 @@ module _ (avc : Bool) where
   same-calls [] (r ∷ rs) s outs m = absurd m
   same-calls (p ∷ ps) [] s outs m = absurd m
   same-calls (p ∷ ps) (r ∷ rs) s outs m =
-      let l : Laid RanOn = depacketized avc (s .gathered) p (s .gather) (outs 0) in
+      let l : Laid (RanOn ℕ) = depacketized avc (s .gathered) p (s .gather) (outs 0) in
       let packet : r .answer .packet ≡ recordOf avc (next s l) =
       ap (λ (h : Heard). h .packet) (m .0) ∙ packet-heard avc (s .gathered) p (l .gather) (l .out) (l .answer) in
       let gather : r .gather ≡ l .gather =

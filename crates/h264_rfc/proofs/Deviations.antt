@@ -10,11 +10,12 @@ use Rattle.error.specs.Refusal.{Refusal}
 use Rattle.error.specs.Said.{refused}
 use Rattle.wire.specs.Packets.{joined}
 use Rattle.nal_read.specs.Kind.{Shape, short, unknown, shape}
-use Rattle.nal_read.specs.Unpack.{sizedUnits}
-use Rattle.nal_read.specs.Unpack as unpacking
-use Rattle.nal.specs.Fed.{runOf, prefixed, Laid}
+use Rattle.nal.specs.Unpack.{sizedUnits}
+use Rattle.nal.specs.Unpack as unpacking
+use Rattle.nal.specs.Fed.{prefixed, Laid}
+use Rattle.h264_packet.specs.Run.{runOf}
 use Rattle.nal.specs.Ran.{RanOn}
-use Rattle.nal_read.proofs.Unpacking.{Units}
+use Rattle.nal.proofs.Unpacking.{Units}
 use Rattle.nal_read.proofs.Shapes.{shape-short, shape-unknown}
 use Rattle.rfc6184.specs.Sending.{Each, Nal, octet, octetsOf, Part, Fragmented, single, fuA, fragment, payloadsOf, bodyOf, unitsOf, UnitType, Formed, FormedPart, FormedSending, Lawful}
 use Rattle.rfc6184.proofs.Octets.{fields-of-octet}
@@ -145,7 +146,7 @@ stray-taken avc gather outs a us t z h few room =
 
 module _ (avc : Bool) (n : ℕ) (gather out : List ℕ) (within : n ≤ length gather) (run : n ≤ 16777215) where
   -- a refusal changes nothing
-  abbrev refusing : Refusal → Laid RanOn
+  abbrev refusing : Refusal → Laid (RanOn ℕ)
   refusing r = record { answer = refused r; gather = gather; out = out }
 
   by-shape : (p : List ℕ) (s : Shape) (r : Refusal) → shape p ≡ s → readBy s (runOf n gather) p ≡ refused r → length p ≤ 65535 →

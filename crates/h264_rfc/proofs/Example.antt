@@ -9,8 +9,10 @@ use Rattle.wire.specs.Net.{be16}
 use Rattle.wire.specs.Part.{splice}
 use Rattle.wire.specs.Turns.{run}
 use Rattle.nal_read.specs.Kind.{shape}
-use Rattle.nal_read.specs.Unpack.{unpackTurn, unpack}
-use Rattle.nal.specs.Fed.{layBytes, layFed}
+use Rattle.nal_read.specs.Unpack.{unpack}
+use Rattle.nal.specs.Unpack.{unpackTurn}
+use Rattle.nal.specs.Unpack as unpacking
+use Rattle.nal.specs.Fed.{layBytes, layBoth}
 use Rattle.rfc6184.specs.Sending.{Each, octet, octetsOf}
 use Rattle.annexb.specs.Units.{units, unitsAt}
 use Rattle.h264_put.specs.Groups.{keep, stapA, fragment, pairFor, unitFor, groupsFor, packetsOf}
@@ -60,5 +62,5 @@ pub outcome : map handedBy (calls depacketized false (fresh gather) outs (packet
     ∷ []
     ∷ (0 ∷ 0 ∷ 0 ∷ 1 ∷ 0x65 ∷ 1 ∷ 2 ∷ 3 ∷ 4 ∷ 5 ∷ 6 ∷ 7 ∷ 8 ∷ 9 ∷ [])
     ∷ []
-unfolding frames units unitsAt keep stapA fragment pairFor unitFor groupsFor be16 depacketized readPayload shape unpack unpackTurn run layFed layBytes splice
+unfolding frames units unitsAt keep stapA fragment pairFor unitFor groupsFor be16 depacketized readPayload shape unpack unpacking.unpack unpackTurn run layBoth layBytes splice
 outcome = refl

@@ -14,7 +14,8 @@ use Rattle.wire.specs.Packets.{joined}
 use Rattle.wire.proofs.Part.{length-splice, part-of-splice}
 use Rattle.nal_read.specs.Kind.{Shape, headOf, shape}
 use Rattle.nal_read.specs.Kind as kind
-use Rattle.nal.specs.Fed.{runOf, ongoing, finished, prefixed}
+use Rattle.nal.specs.Fed.{prefixed}
+use Rattle.h264_packet.specs.Run.{runOf, ongoing, finished}
 use Rattle.nal.proofs.Handing.{length-one}
 use Rattle.nal_read.proofs.Shapes.{shape-fragment}
 use Rattle.rfc6184.specs.Sending.{Each, Nal, octet, octetsOf, Part, Fragmented, fragment, fuA, payloadsOf, bodyOf, FormedPart, FormedSending}

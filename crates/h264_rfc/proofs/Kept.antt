@@ -10,11 +10,12 @@ use Rattle.error.specs.Said.{Said, says, refused, refuse}
 use Rattle.nal_read.specs.Kind.{Shape, short, unknown, plain, aggregate, shape}
 use Rattle.nal_read.specs.Kind as kind
 use Rattle.nal_read.specs.Unpack.{unpack}
-use Rattle.nal.specs.Fed.{gathered, runOf, Fed, prefixed, OutLaid, layBytes, Laid, tooLong, gatherAfter, layFed}
+use Rattle.nal.specs.Fed.{Fed, prefixed, OutLaid, layBytes, Laid, tooLong, gatherAfter, layBoth}
 use Rattle.nal.specs.Ran.{RanOn, withRun, layRun}
 use Rattle.error.proofs.Refusing.{not-says}
 use Rattle.nal.proofs.Running.{run-beside}
 use Rattle.nal_read.proofs.Shapes.{Facts, told}
+use Rattle.h264_packet.specs.Run.{Run, runOf, recorded}
 use Rattle.h264_packet.specs.Depacketize.{beside, readBy, readPayload, depacketized}
 use Rattle.h264_packet.proofs.Depacketizing.{gathered-run, length-run}
 use Rattle.h264_rfc.specs.Reading.{State, gatheredThen, next, calls}
@@ -32,19 +33,19 @@ same-count n m (says bytes) e = e
 same-count n m (refused r) e = refl
 
 module _ (avc : Bool) (n : ℕ) (gather out : List ℕ) (within : n ≤ length gather) (small : n ≤ 16777215) where
-  units-kept : (x : Said (List (List ℕ))) → RunKept n gather (layRun avc gather out (beside (runOf n gather) x))
+  units-kept : (x : Said (List (List ℕ))) → RunKept n gather (layRun recorded avc gather out (beside (runOf n gather) x))
   units-kept (says units) =
-      let done = ap (λ (k : List ℕ). layRun avc gather out (says (record { run = runOf n gather; kept = k; handed = units }))) (gathered-run n gather)
-      ∙ run-beside avc gather out n (runOf n gather) units within small in
+      let done = ap (λ (k : List ℕ). layRun recorded avc gather out (says (record { run = runOf n gather; kept = k; handed = units }))) (gathered-run n gather)
+      ∙ run-beside recorded avc gather out n (runOf n gather) units within small in
       record {
         count =
-            ap (λ (l : Laid RanOn). gatheredThen n (l .answer)) done
-            ∙ same-count n (length (gathered (runOf n gather))) (layBytes out (prefixed avc units) .answer) (length-run n gather within);
-        bytes = ap (λ (l : Laid RanOn). l .gather) done;
+            ap (λ (l : Laid (RanOn ℕ)). gatheredThen n (l .answer)) done
+            ∙ same-count n (recorded (runOf n gather)) (layBytes out (prefixed avc units) .answer) (length-run n gather within);
+        bytes = ap (λ (l : Laid (RanOn ℕ)). l .gather) done;
       }
   units-kept (refused r) = nothing-done n gather out r
 
-  shape-kept : (s : Shape) (p : List ℕ) → Facts p s → (getD p 0 0 % 32 ≡ 28 → ⊥) → RunKept n gather (layRun avc gather out (readBy s (runOf n gather) p))
+  shape-kept : (s : Shape) (p : List ℕ) → Facts p s → (getD p 0 0 % 32 ≡ 28 → ⊥) → RunKept n gather (layRun recorded avc gather out (readBy s (runOf n gather) p))
   shape-kept short p k other = nothing-done n gather out (record { number = 4; carried = [] })
   shape-kept (unknown t) p k other = nothing-done n gather out (record { number = 19; carried = t ∷ [] })
   shape-kept plain p k other = units-kept (says (p ∷ []))
@@ -63,8 +64,8 @@ tested : (P : Laid ℕ → Type 0) (x y : Laid ℕ) (b : Bool) → P x → P y �
 tested P x y true h g = h
 tested P x y false h g = g
 
-refused-fed : (avc : Bool) (gather out : List ℕ) (f : Fed) (r : Refusal) → layFed avc gather out f .answer ≡ refused r → layFed avc gather out f .gather ≡ gather
-unfolding layFed
+refused-fed : (avc : Bool) (gather out : List ℕ) (f : Fed Run) (r : Refusal) → layBoth avc gather out (f .kept) (f .handed) .answer ≡ refused r → layBoth avc gather out (f .kept) (f .handed) .gather ≡ gather
+unfolding layBoth
 refused-fed avc gather out f r =
     let l : OutLaid = layBytes out (prefixed avc (f .handed)) in
     tested (λ (x : Laid ℕ). x .answer ≡ refused r → x .gather ≡ gather) (record { answer = refuse 6; gather = gather; out = out })
@@ -75,11 +76,11 @@ refused-fed avc gather out f r =
     stays (says n) e = absurd (not-says (sym e))
     stays (refused q) e = refl
 
-refused-run : (avc : Bool) (gather out : List ℕ) (x : Said Fed) (r : Refusal) → layRun avc gather out x .answer ≡ refused r → layRun avc gather out x .gather ≡ gather
+refused-run : (avc : Bool) (gather out : List ℕ) (x : Said (Fed Run)) (r : Refusal) → layRun recorded avc gather out x .answer ≡ refused r → layRun recorded avc gather out x .gather ≡ gather
 refused-run avc gather out (refused q) r e = refl
-refused-run avc gather out (says f) r e = refused-fed avc gather out f r (unrun (layFed avc gather out f .answer) e)
+refused-run avc gather out (says f) r e = refused-fed avc gather out f r (unrun (layBoth avc gather out (f .kept) (f .handed) .answer) e)
   where
-    unrun : (x : Said ℕ) → withRun (length (gathered (f .run))) x ≡ refused r → x ≡ refused r
+    unrun : (x : Said ℕ) → withRun (recorded (f .run)) x ≡ refused r → x ≡ refused r
     unrun (says n) q = absurd (not-says (sym q))
     unrun (refused w) q = let same : w ≡ r = cc in ap refused same
 
@@ -90,7 +91,7 @@ refusals-keep avc n p gather out r e =
     record {
       count = ap (gatheredThen n) e;
       bytes =
-          by-domain (λ (l : Laid RanOn). l .answer ≡ refused r → l .gather ≡ gather) avc n p gather out (λ q. refl)
+          by-domain (λ (l : Laid (RanOn ℕ)). l .answer ≡ refused r → l .gather ≡ gather) avc n p gather out (λ q. refl)
           (λ few within small. refused-run avc gather out (readPayload (runOf n gather) p) r) e;
     }
 
@@ -102,6 +103,6 @@ pub goes-on : (avc : Bool) (s : State) (outs : ℕ → List ℕ) (p : List ℕ) 
     calls depacketized avc s outs (p ∷ ps)
     ≡ depacketized avc (s .gathered) p (s .gather) (outs 0) ∷ calls depacketized avc s (λ i. outs (suc i)) ps
 goes-on avc s outs p ps k =
-    let l : Laid RanOn = depacketized avc (s .gathered) p (s .gather) (outs 0) in
+    let l : Laid (RanOn ℕ) = depacketized avc (s .gathered) p (s .gather) (outs 0) in
     let same : next s l ≡ s = λ i. record { gathered = k .count i; gather = k .bytes i } in
     ap (λ (t : State). l ∷ calls depacketized avc t (λ i. outs (suc i)) ps) same

@@ -9,21 +9,23 @@ use Rattle.error.specs.Said.{Said, says, refused, refuse}
 use Rattle.wire.specs.Part.{splice}
 use Rattle.wire.specs.Turns.{run}
 use Rattle.nal_read.specs.Kind.{shape}
-use Rattle.nal_read.specs.Unpack.{unpackTurn, unpack}
-use Rattle.nal.specs.Fed.{layBytes, Laid, layFed}
+use Rattle.nal_read.specs.Unpack.{unpack}
+use Rattle.nal.specs.Unpack.{unpackTurn}
+use Rattle.nal.specs.Unpack as unpacking
+use Rattle.nal.specs.Fed.{layBytes, Laid, layBoth}
 use Rattle.nal.specs.Ran.{RanOn}
 use Rattle.rfc6184.specs.Sending.{Nal, octet, octetsOf, Fragmented, single, fuA, fragment, payloadsOf, Lawful}
 use Rattle.h264_packet.specs.Depacketize.{readPayload, depacketized}
 use Rattle.h264_rfc.specs.Reading.{fresh, calls}
 
 -- what a call says: the bytes handed out, or the refusal
-abbrev saidIn : Said RanOn → List ℕ → Said (List ℕ)
+abbrev saidIn : Said (RanOn ℕ) → List ℕ → Said (List ℕ)
 saidIn (says r) out = says (take (r .bytes) out)
 saidIn (refused why) out = refused why
 
 -- the payloads fed in order, as Annex B
 abbrev fed : List (List ℕ) → List (Said (List ℕ))
-fed ps = map (λ (l : Laid RanOn). saidIn (l .answer) (l .out)) (calls depacketized false (fresh (replicate 8 0)) (λ i. replicate 16 0) ps)
+fed ps = map (λ (l : Laid (RanOn ℕ)). saidIn (l .answer) (l .out)) (calls depacketized false (fresh (replicate 8 0)) (λ i. replicate 16 0) ps)
 
 -- a unit behind its start code
 abbrev unit : List ℕ → Said (List ℕ)
@@ -80,7 +82,7 @@ table =
     ∷ []
 
 pub rows : map (λ (row : List (List ℕ) × List (Said (List ℕ))). fed (row .0)) table ≡ map (λ (row : List (List ℕ) × List (Said (List ℕ))). row .1) table
-unfolding table depacketized readPayload shape unpack unpackTurn run layFed layBytes splice
+unfolding table depacketized readPayload shape unpack unpacking.unpack unpackTurn run layBoth layBytes splice
 rows = refl
 
 -- ---- 9 and 10 are lawful

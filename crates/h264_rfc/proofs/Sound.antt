@@ -11,23 +11,27 @@ use lib.Dec.{ltb}
 use lib.ListN.{length, take, drop, getD, length-map, take-append-drop}
 use lib.Seq.{length-take-le}
 use borrow.Author.Tests.{ltb-false, eqb-true, eqb-false}
-use Rattle.error.specs.Said.{Said, says, refused, refuse}
+use Rattle.error.specs.Said.{Said, says, refused}
 use Rattle.wire.specs.Net.{be16, bit}
 use Rattle.wire.specs.Turns.{more, done, after, run}
 use Rattle.wire.proofs.Net.{be16-of-u16}
 use Rattle.wire.proofs.Part.{part-of-splice}
 use Rattle.nal_read.specs.Kind.{Shape, short, unknown, plain, aggregate, shape}
 use Rattle.nal_read.specs.Kind as kind
-use Rattle.nal_read.specs.Unpack.{Unpacking, unpackTurn, unpack, sizedUnits}
-use Rattle.nal.specs.Fed.{gathered, runOf, Fed, ongoing, finished, prefixed, Laid}
+use Rattle.nal_read.specs.Unpack.{unpack}
+use Rattle.nal.specs.Unpack.{right, past, lone, Unpacking, unpackTurn, sizedUnits}
+use Rattle.nal.specs.Unpack as unpacking
+use Rattle.nal.specs.Fed.{Fed, prefixed, Laid}
 use Rattle.nal.specs.Ran.{RanOn, layRun}
 use Rattle.error.proofs.Refusing.{not-says}
 use Rattle.nal.proofs.Running.{run-beside}
-use Rattle.nal_read.proofs.Unpacking.{Units}
+use Rattle.nal.proofs.Unpacking.{Units, past-not-right, lone-not-right}
+use Rattle.nal_read.proofs.Stap.{sizes-right}
 use Rattle.nal_read.proofs.Shapes.{Facts, PlainFacts, FragmentFacts, told}
 use Rattle.rfc6184.specs.Sending.{Each, Nal, octet, octetsOf, nalOf, fragment, UnitType, Sized}
 use Rattle.rfc6184.proofs.Octets.{formed-fields, octets-of-nal}
 use Rattle.h264.specs.Conformance.{Octets}
+use Rattle.h264_packet.specs.Run.{Run, gathered, runOf, recorded, ongoing, finished}
 use Rattle.h264_packet.specs.Depacketize.{beside, gatheredOn, readBy, readPayload, depacketized}
 use Rattle.h264_packet.proofs.Depacketizing.{gathered-run, length-run}
 use Rattle.h264_rfc.specs.Reading.{gatheredThen, handedBy}
@@ -99,13 +103,13 @@ record Ahead (rest : List ℕ) (units all : Units) : Type 0 where
   kinds : Each Inner others
 
 ahead : (fuel : ℕ) (rest : List ℕ) (units all : Units) → Octets rest →
-    run unpackTurn (refuse 18) fuel (record { rest = rest; units = units }) ≡ says all → Ahead rest units all
+    run unpackTurn lone fuel (record { rest = rest; units = units }) ≡ right all → Ahead rest units all
 unfolding run unpackTurn
-ahead zero rest units all o e = absurd (not-says e)
+ahead zero rest units all o e = absurd (lone-not-right e)
 ahead (suc fuel) [] units all o e =
     let same : units ≡ all = cc in
     record { others = []; are = sym same ∙ sym (append-nil units); octets = refl; kinds = tt }
-ahead (suc fuel) (a ∷ []) units all o e = absurd (not-says e)
+ahead (suc fuel) (a ∷ []) units all o e = absurd (lone-not-right e)
 ahead (suc fuel) (a ∷ b ∷ rest) units all o e =
     go (ltb (length rest) (a * 256 + b)) refl e
     (ahead fuel (drop (a * 256 + b) rest) (units ++ (take (a * 256 + b) rest ∷ [])) all (octets-drop (a * 256 + b) rest (o .1 .1)))
@@ -133,16 +137,16 @@ ahead (suc fuel) (a ∷ b ∷ rest) units all o e =
         }
 
     go : (t : Bool) → ltb (length rest) n ≡ t →
-        after (cond t (done (refused (record { number = 17; carried = n ∷ length rest ∷ [] }))) (more on)) (run unpackTurn (refuse 18) fuel) ≡ says all →
-        (run unpackTurn (refuse 18) fuel on ≡ says all → Ahead (drop n rest) (units ++ (take n rest ∷ [])) all) → Ahead (a ∷ b ∷ rest) units all
-    go true q f rec = absurd (not-says f)
+        after (cond t (done (past n (length rest))) (more on)) (run unpackTurn lone fuel) ≡ right all →
+        (run unpackTurn lone fuel on ≡ right all → Ahead (drop n rest) (units ++ (take n rest ∷ [])) all) → Ahead (a ∷ b ∷ rest) units all
+    go true q f rec = absurd (past-not-right f)
     go false q f rec = longer (ltb-false (length rest) n q) (rec f)
 
 aggregation : (p : List ℕ) (units : Units) → Octets p → length p ≤ 65535 → (3 ≤ length p) × (getD p 0 0 % 32 ≡ 24) → unpack p ≡ says units → Aggregation p units
-unfolding unpack octet
+unfolding unpacking.unpack octet
 aggregation [] units o h k e = absurd (omega (arith, k .0))
 aggregation (a ∷ s) units o h k e =
-    let i : Ahead s [] units = ahead (length (a ∷ s) + 1) s [] units (o .1) e in
+    let i : Ahead s [] units = ahead (length s + 1) s [] units (o .1) (sizes-right (a ∷ s) units e) in
     let all : s ≡ sizedUnits units = i .octets ∙ ap sizedUnits (sym (i .are)) in
     let ha : a < 256 = o .0 in
     let t : a % 32 ≡ 24 = k .1 in
@@ -238,67 +242,67 @@ module _ (a b : ℕ) (s : List ℕ) (ha : a < 256) (hb : b < 256) where
 
 module _ (avc : Bool) (n : ℕ) (gather out : List ℕ) (within : n ≤ length gather) (small : n ≤ 16777215) where
   -- units beside the run
-  beside-means : (units : Units) (r : RanOn) → layRun avc gather out (beside (runOf n gather) (says units)) .answer ≡ says r →
-      RunKept n gather (layRun avc gather out (beside (runOf n gather) (says units)))
-      × (handedBy (layRun avc gather out (beside (runOf n gather) (says units))) ≡ prefixed avc units)
+  beside-means : (units : Units) (r : RanOn ℕ) → layRun recorded avc gather out (beside (runOf n gather) (says units)) .answer ≡ says r →
+      RunKept n gather (layRun recorded avc gather out (beside (runOf n gather) (says units)))
+      × (handedBy (layRun recorded avc gather out (beside (runOf n gather) (says units))) ≡ prefixed avc units)
   beside-means units r e =
-      let f : Fed = record { run = runOf n gather; kept = gathered (runOf n gather); handed = units } in
-      let done : layRun avc gather out (says f) ≡ laid avc gather out f = laid-run avc gather out f (fits-if avc gather out f r e) in (
+      let f : Fed Run = record { run = runOf n gather; kept = gathered (runOf n gather); handed = units } in
+      let done : layRun recorded avc gather out (says f) ≡ laid avc gather out f = laid-run avc gather out f (fits-if avc gather out f r e) in (
         record {
-          count = ap (λ (l : Laid RanOn). gatheredThen n (l .answer)) done ∙ length-run n gather within;
+          count = ap (λ (l : Laid (RanOn ℕ)). gatheredThen n (l .answer)) done ∙ length-run n gather within;
           bytes =
-              ap (λ (k : List ℕ). layRun avc gather out (says (record { run = runOf n gather; kept = k; handed = units })) .gather) (gathered-run n gather)
-              ∙ ap (λ (l : Laid RanOn). l .gather) (run-beside avc gather out n (runOf n gather) units within small);
+              ap (λ (k : List ℕ). layRun recorded avc gather out (says (record { run = runOf n gather; kept = k; handed = units })) .gather) (gathered-run n gather)
+              ∙ ap (λ (l : Laid (RanOn ℕ)). l .gather) (run-beside recorded avc gather out n (runOf n gather) units within small);
         },
         ap handedBy done ∙ handed-laid avc gather out f,
       )
 
-  aggregate-means : (p : List ℕ) (x : Said Units) (r : RanOn) → Octets p → length p ≤ 65535 → (3 ≤ length p) × (getD p 0 0 % 32 ≡ 24) → unpack p ≡ x →
-      layRun avc gather out (beside (runOf n gather) x) .answer ≡ says r → Means avc n gather p (layRun avc gather out (beside (runOf n gather) x))
+  aggregate-means : (p : List ℕ) (x : Said Units) (r : RanOn ℕ) → Octets p → length p ≤ 65535 → (3 ≤ length p) × (getD p 0 0 % 32 ≡ 24) → unpack p ≡ x →
+      layRun recorded avc gather out (beside (runOf n gather) x) .answer ≡ says r → Means avc n gather p (layRun recorded avc gather out (beside (runOf n gather) x))
   aggregate-means p (says units) r o h k u e =
       let b = beside-means units r e in units-together units (aggregation p units o h k u) (b .0) (b .1)
   aggregate-means p (refused why) r o h k u e = absurd (not-says e)
 
-  fragment-means : (p : List ℕ) (first last : Bool) (head : ℕ) (r : RanOn) → Octets p → length p ≤ 65535 → FragmentFacts p first last head →
-      layRun avc gather out (says (gatheredOn (gathered (runOf n gather) ++ drop 2 p) last head)) .answer ≡ says r →
-      Means avc n gather p (layRun avc gather out (says (gatheredOn (gathered (runOf n gather) ++ drop 2 p) last head)))
+  fragment-means : (p : List ℕ) (first last : Bool) (head : ℕ) (r : RanOn ℕ) → Octets p → length p ≤ 65535 → FragmentFacts p first last head →
+      layRun recorded avc gather out (says (gatheredOn (gathered (runOf n gather) ++ drop 2 p) last head)) .answer ≡ says r →
+      Means avc n gather p (layRun recorded avc gather out (says (gatheredOn (gathered (runOf n gather) ++ drop 2 p) last head)))
   unfolding looseOf
   fragment-means [] first last head r o h k e = absurd (omega (arith, k .long))
   fragment-means (a ∷ []) first last head r o h k e = absurd (omega (arith, k .long))
   fragment-means (a ∷ b ∷ s) first false head r o h k e =
       let bytes : List ℕ = gathered (runOf n gather) ++ s in
       let room : Fits avc gather out (ongoing bytes) = fits-if avc gather out (ongoing bytes) r e in
-      let done : layRun avc gather out (says (ongoing bytes)) ≡ laid avc gather out (ongoing bytes) = laid-run avc gather out (ongoing bytes) room in
+      let done : layRun recorded avc gather out (says (ongoing bytes)) ≡ laid avc gather out (ongoing bytes) = laid-run avc gather out (ongoing bytes) room in
       let w : LooseFormed (looseOf (a ∷ b ∷ s)) = loose-formed a b s (o .0) (o .1 .0) (k .long) h in
       part-gathered w (loose-octets a b s (o .0) (o .1 .0) 0 (k .type-is) (not-one (b / 64) (sym (k .last-is))))
       (fragment-kind 0 (looseOf (a ∷ b ∷ s)) w (omega arith))
       (ap handedBy done ∙ handed-laid avc gather out (ongoing bytes))
-      (ap (λ (l : Laid RanOn). take (gatheredThen n (l .answer)) (l .gather)) done
+      (ap (λ (l : Laid (RanOn ℕ)). take (gatheredThen n (l .answer)) (l .gather)) done
       ∙ part-of-splice gather 0 bytes (omega arith)
       ∙ ap (λ (x : List ℕ). x ++ s) (gathered-run n gather))
   fragment-means (a ∷ b ∷ s) first true head r o h k e =
       let bytes : List ℕ = gathered (runOf n gather) ++ s in
       let room : Fits avc gather out (finished head bytes) = fits-if avc gather out (finished head bytes) r e in
-      let done : layRun avc gather out (says (finished head bytes)) ≡ laid avc gather out (finished head bytes) = laid-run avc gather out (finished head bytes) room in
+      let done : layRun recorded avc gather out (says (finished head bytes)) ≡ laid avc gather out (finished head bytes) = laid-run avc gather out (finished head bytes) room in
       let w : LooseFormed (looseOf (a ∷ b ∷ s)) = loose-formed a b s (o .0) (o .1 .0) (k .long) h in
       unit-joined w (loose-octets a b s (o .0) (o .1 .0) 1 (k .type-is) (eqb-true (b / 64 % 2) 1 (sym (k .last-is))))
       (fragment-kind 1 (looseOf (a ∷ b ∷ s)) w (omega arith))
       (ap handedBy done
       ∙ handed-laid avc gather out (finished head bytes)
       ∙ ap₂ (λ (x : ℕ) (l : List ℕ). prefixed avc ((x ∷ (l ++ s)) ∷ [])) (k .head-is ∙ loose-head a b s (o .0) (o .1 .0)) (gathered-run n gather))
-      (ap (λ (l : Laid RanOn). gatheredThen n (l .answer)) done)
+      (ap (λ (l : Laid (RanOn ℕ)). gatheredThen n (l .answer)) done)
 
-  means : (s : Shape) (p : List ℕ) (r : RanOn) → Octets p → length p ≤ 65535 → Facts p s → layRun avc gather out (readBy s (runOf n gather) p) .answer ≡ says r →
-      Means avc n gather p (layRun avc gather out (readBy s (runOf n gather) p))
+  means : (s : Shape) (p : List ℕ) (r : RanOn ℕ) → Octets p → length p ≤ 65535 → Facts p s → layRun recorded avc gather out (readBy s (runOf n gather) p) .answer ≡ says r →
+      Means avc n gather p (layRun recorded avc gather out (readBy s (runOf n gather) p))
   means short p r o h k e = absurd (not-says e)
   means (unknown t) p r o h k e = absurd (not-says e)
   means plain p r o h k e = let b = beside-means (p ∷ []) r e in unit-alone (single-unit p o k) (b .0) (b .1)
   means aggregate p r o h k e = aggregate-means p (unpack p) r o h k refl e
   means (kind.fragment first last head) p r o h k e = fragment-means p first last head r o h k e
 
-pub sound-one : (avc : Bool) (n : ℕ) (p gather out : List ℕ) (r : RanOn) → Octets p → depacketized avc n p gather out .answer ≡ says r →
+pub sound-one : (avc : Bool) (n : ℕ) (p gather out : List ℕ) (r : RanOn ℕ) → Octets p → depacketized avc n p gather out .answer ≡ says r →
     Means avc n gather p (depacketized avc n p gather out)
 unfolding readPayload
 sound-one avc n p gather out r o =
-    by-domain (λ (l : Laid RanOn). l .answer ≡ says r → Means avc n gather p l) avc n p gather out (λ e. absurd (not-says e))
+    by-domain (λ (l : Laid (RanOn ℕ)). l .answer ≡ says r → Means avc n gather p l) avc n p gather out (λ e. absurd (not-says e))
     (λ few within small. means avc n gather out within small (shape p) p r o few (told p))

@@ -81,7 +81,7 @@ parts-append xs x =
     ∙ joined-append (map octetsIn xs) (octetsIn x ∷ [])
     ∙ ap (λ (l : List ℕ). partsOf xs ++ l) (append-nil (octetsIn x))
 
-module _ (cs : List Came) (s : State) (stands : Stands cs s) (p : List ℕ) (l : Laid RanOn) where
+module _ (cs : List Came) (s : State) (stands : Stands cs s) (p : List ℕ) (l : Laid (RanOn ℕ)) where
   -- the run stays
   stays : RunKept (s .gathered) (s .gather) l → Stands (cs ++ (passing p ∷ [])) (next s l)
   stays k =
@@ -121,31 +121,31 @@ module _ (cs : List Came) (s : State) (stands : Stands cs s) (p : List ℕ) (l :
 
 -- what a call leaves, accepted or not
 goes-on : (avc : Bool) (cs : List Came) (s : State) (p out : List ℕ) → Octets p → Stands cs s →
-    let l : Laid RanOn = depacketized avc (s .gathered) p (s .gather) out in Stands (cameThen cs p (l .answer)) (next s l)
+    let l : Laid (RanOn ℕ) = depacketized avc (s .gathered) p (s .gather) out in Stands (cameThen cs p (l .answer)) (next s l)
 goes-on avc cs s p out o stands = by (l .answer) refl
   where
-    l : Laid RanOn
+    l : Laid (RanOn ℕ)
     l = depacketized avc (s .gathered) p (s .gather) out
 
-    by : (a : Said RanOn) → l .answer ≡ a → Stands (cameThen cs p (l .answer)) (next s l)
+    by : (a : Said (RanOn ℕ)) → l .answer ≡ a → Stands (cameThen cs p (l .answer)) (next s l)
     by (says r) e =
-        subst (λ (a : Said RanOn). Stands (cameThen cs p a) (next s l)) (sym e)
+        subst (λ (a : Said (RanOn ℕ)). Stands (cameThen cs p a) (next s l)) (sym e)
         (goes cs s stands p l avc (sound-one avc (s .gathered) p (s .gather) out r o e))
     by (refused r) e =
-        subst (λ (a : Said RanOn). Stands (cameThen cs p a) (next s l)) (sym e)
+        subst (λ (a : Said (RanOn ℕ)). Stands (cameThen cs p a) (next s l)) (sym e)
         (stays cs s stands p l (refusals-keep avc (s .gathered) p (s .gather) out r e))
 
 all-calls : (avc : Bool) (ps : List (List ℕ)) (cs : List Came) (s : State) (outs : ℕ → List ℕ) → Each Octets ps → Stands cs s →
     Stands (since depacketized avc s outs cs ps) (behind depacketized avc s outs ps)
 all-calls avc [] cs s outs o stands = stands
 all-calls avc (p ∷ ps) cs s outs o stands =
-    let l : Laid RanOn = depacketized avc (s .gathered) p (s .gather) (outs 0) in
+    let l : Laid (RanOn ℕ) = depacketized avc (s .gathered) p (s .gather) (outs 0) in
     all-calls avc ps (cameThen cs p (l .answer)) (next s l) (λ i. outs (suc i)) (o .1) (goes-on avc cs s p (outs 0) (o .0) stands)
 
 -- ---- a unit is joined
 
 -- the tests tell which of an accepted payload's meanings it is
-joins : (avc : Bool) (cs : List Came) (s : State) (p : List ℕ) (l : Laid RanOn) → Stands cs s → isFuA p ≡ true → hasEnd p ≡ true →
+joins : (avc : Bool) (cs : List Came) (s : State) (p : List ℕ) (l : Laid (RanOn ℕ)) → Stands cs s → isFuA p ≡ true → hasEnd p ≡ true →
     Means avc (s .gathered) (s .gather) p l → Joined avc cs (looseOf p) (handedBy l)
 joins avc cs s p l stands fu end (unit-alone k kept h) = absurd (differ (single-no p k) fu)
 joins avc cs s p l stands fu end (units-together us k kept h) = absurd (differ (aggregation-no p us k) fu)

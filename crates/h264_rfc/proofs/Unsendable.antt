@@ -7,9 +7,10 @@ use Prim.Native.Nat.{ℕ, _+_, _*_, _%_, _≤_}
 use native.Mathlib.Omega.{arith}
 use lib.ListN.{length, drop, getD}
 use Rattle.error.specs.Said.{says}
-use Rattle.nal_read.specs.Unpack.{unpack, sizedUnits}
-use Rattle.nal_read.specs.Unpack as unpacking
-use Rattle.nal_read.proofs.Unpacking.{Units}
+use Rattle.nal_read.specs.Unpack.{unpack}
+use Rattle.nal.specs.Unpack.{sizedUnits}
+use Rattle.nal.specs.Unpack as unpacking
+use Rattle.nal.proofs.Unpacking.{Units}
 use Rattle.nal_read.proofs.Shapes.{unpack-sized}
 use Rattle.rfc6184.specs.Sending.{Each, Nal, octet, octetsOf, Part, Fragmented, single, stapA, fuA, aggregated, fragment, UnitType, Sized, Lawful}
 use Rattle.rfc6184.proofs.Octets.{fields-of-octet}

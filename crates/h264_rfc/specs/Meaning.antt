@@ -7,7 +7,7 @@ use Prim.Native.Nat.{ℕ, _%_, _<_}
 use lib.ListN.{length, take, getD}
 use Rattle.nal.specs.Fed.{prefixed, Laid}
 use Rattle.nal.specs.Ran.{RanOn}
-use Rattle.nal_read.specs.Unpack.{sizedUnits}
+use Rattle.nal.specs.Unpack.{sizedUnits}
 use Rattle.rfc6184.specs.Sending.{Each, Nal, octet, octetsOf, Fragmented, Sending, single, stapA, fuA, payloadsOf, UnitType, Formed, Sized, FormedSending, Lawful}
 use Rattle.h264_rfc.specs.Reading.{gatheredThen, handedBy, TakenUnit}
 use Rattle.h264_rfc.specs.Loose.{Loose, looseOctets, looseOf, LooseFormed, headFrom, unreserved}
@@ -80,12 +80,12 @@ abbrev pub Unsendable : List ℕ → Type 0
 Unsendable payload = (s : Sending) → Lawful s → Each (λ (p : List ℕ). p ≡ payload → ⊥) (payloadsOf s)
 
 -- the run is as it was
-pub record RunKept (n : ℕ) (gather : List ℕ) (l : Laid RanOn) : Type 0 where
+pub record RunKept (n : ℕ) (gather : List ℕ) (l : Laid (RanOn ℕ)) : Type 0 where
   pub count : gatheredThen n (l .answer) ≡ n
   pub bytes : l .gather ≡ gather
 
 -- what the payload is, and what the call then did; the first n bytes of the gather buffer are the run before it
-pub data Means (avc : Bool) (n : ℕ) (gather payload : List ℕ) (l : Laid RanOn) : Type 0 where
+pub data Means (avc : Bool) (n : ℕ) (gather payload : List ℕ) (l : Laid (RanOn ℕ)) : Type 0 where
   -- it is handed out
   unit-alone : SingleUnit payload → RunKept n gather l → handedBy l ≡ prefixed avc (payload ∷ []) → Means avc n gather payload l
   -- its units are handed out

@@ -14,7 +14,7 @@ use Rattle.rfc6184.specs.Sending.{Each, Nal, octetsOf, Part, Fragmented, Sendin
 
 -- a reader's call: `is_avc`, how many bytes are gathered, the payload, the gather buffer and the output; its answer and both buffers
 abbrev pub Reader : Type 0
-Reader = Bool → ℕ → List ℕ → List ℕ → List ℕ → Laid RanOn
+Reader = Bool → ℕ → List ℕ → List ℕ → List ℕ → Laid (RanOn ℕ)
 
 -- what goes from call to call: how many bytes are gathered, and the gather buffer
 pub record State : Type 0 where
@@ -26,16 +26,16 @@ abbrev pub fresh : List ℕ → State
 fresh gather = record { gathered = 0; gather = gather }
 
 -- a refusal "changes no buffer and no state"
-abbrev pub gatheredThen : ℕ → Said RanOn → ℕ
-gatheredThen n (says r) = r .gathered
+abbrev pub gatheredThen : ℕ → Said (RanOn ℕ) → ℕ
+gatheredThen n (says r) = r .run
 gatheredThen n (refused r) = n
 
 -- the state that a call leaves
-abbrev pub next : State → Laid RanOn → State
+abbrev pub next : State → Laid (RanOn ℕ) → State
 next s l = record { gathered = gatheredThen (s .gathered) (l .answer); gather = l .gather }
 
 -- what each call leaves; each brings an output of its own
-abbrev pub calls : Reader → Bool → State → (ℕ → List ℕ) → List (List ℕ) → List (Laid RanOn)
+abbrev pub calls : Reader → Bool → State → (ℕ → List ℕ) → List (List ℕ) → List (Laid (RanOn ℕ))
 calls read avc s outs [] = []
 calls read avc s outs (p ∷ ps) =
     read avc (s .gathered) p (s .gather) (outs 0)
@@ -48,17 +48,17 @@ behind read avc s outs (p ∷ ps) =
     behind read avc (next s (read avc (s .gathered) p (s .gather) (outs 0))) (λ i. outs (suc i)) ps
 
 -- the bytes that a call handed out: as many as it says, from the front of its output on
-abbrev pub handedIn : Said RanOn → List ℕ → List ℕ
+abbrev pub handedIn : Said (RanOn ℕ) → List ℕ → List ℕ
 handedIn (says r) out = take (r .bytes) out
 handedIn (refused r) out = []
 
 -- the same of all that a call leaves
-abbrev pub handedBy : Laid RanOn → List ℕ
+abbrev pub handedBy : Laid (RanOn ℕ) → List ℕ
 handedBy l = handedIn (l .answer) (l .out)
 
 -- a call that is not refused
-abbrev pub Answered : Laid RanOn → Type 0
-Answered l = (r : RanOn) × (l .answer ≡ says r)
+abbrev pub Answered : Laid (RanOn ℕ) → Type 0
+Answered l = (r : RanOn ℕ) × (l .answer ≡ says r)
 
 -- payloads ps from state s on: no call is refused, each hands out what is expected of it, and no run is left
 pub record Hears (read : Reader) (avc : Bool) (s : State) (outs : ℕ → List ℕ) (ps expected : List (List ℕ)) : Type 0 where

@@ -48,7 +48,7 @@ cameBy false end cs p = cs ++ (passing p ∷ [])
 cameBy true false cs p = cs ++ (piece (looseOf p) ∷ [])
 cameBy true true cs p = []
 
-abbrev pub cameThen : List Came → List ℕ → Said RanOn → List Came
+abbrev pub cameThen : List Came → List ℕ → Said (RanOn ℕ) → List Came
 cameThen cs p (says r) = cameBy (isFuA p) (hasEnd p) cs p
 cameThen cs p (refused r) = cs ++ (passing p ∷ [])
 
@@ -113,11 +113,11 @@ pub record Joined (avc : Bool) (cs : List Came) (l : Loose) (handed : List ℕ) 
 -- Whatever is accepted is a payload of RFC 6184, but for the deviations, and is answered as its kind says.
 pub record Sound (read : Reader) : Type 0 where
   -- a payload, whatever record and buffers come with it
-  pub one : (avc : Bool) (n : ℕ) (payload gather out : List ℕ) (r : RanOn) → Octets payload →
+  pub one : (avc : Bool) (n : ℕ) (payload gather out : List ℕ) (r : RanOn ℕ) → Octets payload →
       read avc n payload gather out .answer ≡ says r → Means avc n gather payload (read avc n payload gather out)
   -- an FU-A with End bit, behind whatever payloads ps came from a record without a run on, some of them perhaps refused
-  pub run : (avc : Bool) (gather : List ℕ) (outs : ℕ → List ℕ) (ps : List (List ℕ)) (p out : List ℕ) (r : RanOn) → Each Octets ps → Octets p →
+  pub run : (avc : Bool) (gather : List ℕ) (outs : ℕ → List ℕ) (ps : List (List ℕ)) (p out : List ℕ) (r : RanOn ℕ) → Each Octets ps → Octets p →
       isFuA p ≡ true → hasEnd p ≡ true →
       let s : State = behind read avc (fresh gather) outs ps in
-      let l : Laid RanOn = read avc (s .gathered) p (s .gather) out in
+      let l : Laid (RanOn ℕ) = read avc (s .gathered) p (s .gather) out in
       l .answer ≡ says r → Joined avc (since read avc (fresh gather) outs [] ps) (looseOf p) (handedBy l)

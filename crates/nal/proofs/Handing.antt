@@ -1,21 +1,20 @@
 -- The bytes that units are handed out as: how long they are, and that they grow unit by unit. Assumes nothing.
-use mathlib.Core.Path.{_≡_, refl, sym, ap, ap₂, _∙_}
+use mathlib.Core.Path.{_≡_, refl, sym, ap, _∙_}
 use mathlib.Core.Bool.{Bool, true, false, or-true}
 use mathlib.Core.Logic.{_⊎_, inl, inr}
 use mathlib.Core.List.{List, [], _∷_, _++_, append-nil, append-assoc}
 use Prim.Native.Nat.{ℕ, _+_, _*_, _-_, _<_, _≤_}
-use native.Mathlib.Numerals.{add-one}
 use native.Mathlib.Omega.{arith}
 use lib.Dec.{ltb}
-use lib.ListN.{length, take, drop, set, length-append, length-drop}
+use lib.ListN.{length, take, drop, length-append, length-drop}
 use lib.Seq.{length-take-le, take-all}
 use borrow.Author.Tests.{lt-ltb, le-ltb}
 use Rattle.error.specs.Said.{says, refuse}
 use Rattle.wire.specs.Part.{splice}
 use Rattle.wire.specs.Packets.{joined}
 use Rattle.wire.proofs.Net.{length-be32}
-use Rattle.wire.proofs.Part.{splice-on, splice-push, splice-from, take-through}
-use Rattle.nal.specs.Fed.{Fed, prefixFor, prefixOf, prefixed, OutLaid, layBytes, tooLong, layGather, gatherAfter, Laid, layFed}
+use Rattle.wire.proofs.Part.{splice-behind, take-through}
+use Rattle.nal.specs.Fed.{prefixFor, prefixOf, prefixed, OutLaid, layBytes, tooLong, layGather, gatherAfter, Laid, layBoth}
 
 pub length-prefixFor : (avc : Bool) (n : ℕ) → length (prefixFor avc n) ≡ 4
 length-prefixFor false n = refl
@@ -77,61 +76,52 @@ pub gather-fits : (gather kept : List ℕ) → length kept ≤ length gather →
 unfolding layGather
 gather-fits gather kept h g = rw (not-long gather kept h g)
 
-module _ (avc : Bool) (gather out : List ℕ) (f : Fed) where
-  pub fed-long : (length gather < length (f .kept)) ⊎ (16777215 < length (f .kept)) →
-      layFed avc gather out f ≡ record { answer = refuse 6; gather = gather; out = out }
-  unfolding layFed
-  fed-long h = rw (too-long gather (f .kept) h)
+module _ (avc : Bool) (gather out kept : List ℕ) (handed : List (List ℕ)) where
+  pub both-long : (length gather < length kept) ⊎ (16777215 < length kept) →
+      layBoth avc gather out kept handed ≡ record { answer = refuse 6; gather = gather; out = out }
+  unfolding layBoth
+  both-long h = rw (too-long gather kept h)
 
   -- the gather buffer is long enough: what the output's answer is decides
-  pub fed-by : (l : OutLaid) → length (f .kept) ≤ length gather → length (f .kept) ≤ 16777215 → layBytes out (prefixed avc (f .handed)) ≡ l →
-      layFed avc gather out f ≡ record { answer = l .answer; gather = gatherAfter gather (f .kept) (l .answer); out = l .out }
-  unfolding layFed
-  fed-by l h g e =
-      rw (not-long gather (f .kept) h g)
-      (ap (λ (x : OutLaid). record { answer = x .answer; gather = gatherAfter gather (f .kept) (x .answer); out = x .out }) e)
+  pub both-by : (l : OutLaid) → length kept ≤ length gather → length kept ≤ 16777215 → layBytes out (prefixed avc handed) ≡ l →
+      layBoth avc gather out kept handed ≡ record { answer = l .answer; gather = gatherAfter gather kept (l .answer); out = l .out }
+  unfolding layBoth
+  both-by l h g e =
+      rw (not-long gather kept h g)
+      (ap (λ (x : OutLaid). record { answer = x .answer; gather = gatherAfter gather kept (x .answer); out = x .out }) e)
 
--- prefix, first byte and body, put one behind the other
-pub joined-unit : (avc : Bool) (out : List ℕ) (head : ℕ) (body : List ℕ) → 5 + length body ≤ length out →
-    splice (set (splice out 0 (prefixFor avc (length body + 1))) 4 head) 5 body ≡ splice out 0 (prefixed avc ((head ∷ body) ∷ []))
+-- prefix, header and body, put one behind the other
+pub joined-unit : (avc : Bool) (out head body : List ℕ) → 4 + length head + length body ≤ length out →
+    splice (splice (splice out 0 (prefixFor avc (length head + length body))) 4 head) (4 + length head) body
+    ≡ splice out 0 (prefixed avc ((head ++ body) ∷ []))
 joined-unit avc out head body h =
-    let four : 4 ≡ 0 + length p = omega (arith, length-prefixFor avc (length body + 1)) in
-    let five : 5 ≡ 0 + length (p ++ (head ∷ [])) = omega (arith, length-append p (head ∷ []), length-prefixFor avc (length body + 1)) in
-    ap (λ (k : ℕ). splice (set (splice out 0 p) k head) 5 body) four
-    ∙ ap (λ (l : List ℕ). splice l 5 body) (splice-push out 0 p head (omega (arith, four)))
-    ∙ ap (λ (k : ℕ). splice (splice out 0 (p ++ (head ∷ []))) k body) five
-    ∙ splice-on out 0 (p ++ (head ∷ [])) body (omega arith)
+    let four : length p ≡ 4 = length-prefixFor avc (length head + length body) in
+    ap (λ (l : List ℕ). splice l (4 + length head) body) (splice-behind out 0 p 4 head (omega arith) (omega (arith, four)))
+    ∙ splice-behind out 0 (p ++ head) (4 + length head) body (omega arith) (omega (arith, length-append p head, four))
     ∙ ap (splice out 0)
-    (append-assoc p (head ∷ []) body
-    ∙ ap (λ (n : ℕ). prefixFor avc n ++ (head ∷ body)) (add-one (length body))
-    ∙ ap (λ (l : List ℕ). prefixOf avc (head ∷ body) ++ l) (sym (append-nil (head ∷ body))))
+    (append-assoc p head body
+    ∙ ap (λ (n : ℕ). prefixFor avc n ++ (head ++ body)) (sym (length-append head body))
+    ∙ sym (prefixed-one avc (head ++ body)))
   where
     p : List ℕ
-    p = prefixFor avc (length body + 1)
+    p = prefixFor avc (length head + length body)
 
 -- ---- a fragment behind what was gathered
 
-pub length-gathered : (gather payload : List ℕ) (at : ℕ) → at ≤ length gather →
-    length (take at gather ++ drop 2 payload) ≡ at + (length payload - 2)
-length-gathered gather payload at h =
-    length-append (take at gather) (drop 2 payload)
-    ∙ ap₂ (λ (m n : ℕ). m + n) (length-take-le at gather h) (length-drop 2 payload)
+-- all of a payload behind its first n bytes, as the code lends it on
+pub rest-of : (n : ℕ) (p : List ℕ) → take (length p - n) (drop n p) ≡ drop n p
+rest-of n p = take-all (length p - n) (drop n p) (rw (length-drop n p) (omega arith))
 
--- all of a fragment behind its two header bytes
-pub rest-of : (p : List ℕ) → take (length p - 2) (drop 2 p) ≡ drop 2 p
-rest-of p = take-all (length p - 2) (drop 2 p) (rw (length-drop 2 p) (omega arith))
+module _ (gather part : List ℕ) (at : ℕ) (h : at ≤ length gather) where
+  pub length-gathered : length (take at gather ++ part) ≡ at + length part
+  length-gathered = length-append (take at gather) part ∙ ap (λ (n : ℕ). n + length part) (length-take-le at gather h)
 
--- the gather buffer when a fragment was put behind the first `at` bytes
-pub gathered-now : (g p : List ℕ) (at : ℕ) → at ≤ length g → splice g at (take (length p - 2) (drop 2 p)) ≡ splice g 0 (take at g ++ drop 2 p)
-gathered-now g p at h = ap (splice g at) (rest-of p) ∙ sym (splice-from g at (drop 2 p) h)
-
--- the run is then in front of it
-pub run-of : (g p : List ℕ) (at : ℕ) → at ≤ length g →
-    take (at + (length p - 2)) (splice g 0 (take at g ++ drop 2 p)) ≡ take at g ++ drop 2 p
-run-of g p at h =
-    let n : at + (length p - 2) ≡ 0 + length (take at g ++ drop 2 p) = omega (arith, length-gathered g p at h) in
-    ap (λ (k : ℕ). take k (splice g 0 (take at g ++ drop 2 p))) n
-    ∙ take-through g 0 (take at g ++ drop 2 p) (omega arith)
+  -- the run is then in front of the gather buffer
+  pub run-of : take (at + length part) (splice gather 0 (take at gather ++ part)) ≡ take at gather ++ part
+  run-of =
+      let n : at + length part ≡ 0 + length (take at gather ++ part) = omega (arith, length-gathered) in
+      ap (λ (k : ℕ). take k (splice gather 0 (take at gather ++ part))) n
+      ∙ take-through gather 0 (take at gather ++ part) (omega arith)
 
 -- an answer with both buffers is its three parts
 pub laid-path : {m n : ℕ} {g g′ o o′ : List ℕ} → m ≡ n → g ≡ g′ → o ≡ o′ →

@@ -1,3 +1,4 @@
+pub mod Unpacking
 pub mod Handing
 pub mod Putting
 pub mod Running

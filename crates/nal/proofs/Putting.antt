@@ -1,16 +1,15 @@
--- The units of a STAP-A while the code writes them: those before a place stand in the output behind their prefixes. Assumes nothing.
+-- The units of an aggregation packet while the code writes them: those before a place stand in the output behind their prefixes. Assumes nothing.
 use mathlib.Core.Path.{_≡_, refl, sym, ap, _∙_}
 use mathlib.Core.Bool.{Bool}
 use mathlib.Core.List.{List, [], _∷_, _++_}
 use Prim.Native.Nat.{ℕ, _+_, _<_, _≤_}
 use native.Mathlib.Omega.{arith}
 use lib.ListN.{length, take, drop, length-append}
-use Rattle.error.specs.Said.{says}
 use Rattle.wire.specs.Net.{u16At}
 use Rattle.wire.specs.Part.{splice}
 use Rattle.wire.proofs.Part.{splice-nothing, splice-on}
-use Rattle.nal_read.specs.Unpack.{unitsIn, unitsOf}
-use Rattle.nal_read.proofs.Unpacking.{Units, Going, going-first, going-unit, Begins, begins, length-unitAt, size-there, size-fits}
+use Rattle.nal.specs.Unpack.{right, unpack, unitsIn}
+use Rattle.nal.proofs.Unpacking.{Units, Going, going-first, going-unit, Begins, begins, length-unitAt, size-there, size-fits}
 use Rattle.nal.specs.Fed.{prefixOf, prefixed}
 use Rattle.nal.specs.Said.{Room}
 use Rattle.nal.proofs.Handing.{prefixed-append, prefixed-one, length-unit}
@@ -27,16 +26,16 @@ part-of-all avc all units b =
 -- the units before `at` stand in the output behind their prefixes
 pub record Putting (s : List ℕ) (avc : Bool) (out₀ : List ℕ) (room : Room s avc (length out₀)) (at to : ℕ) (out : List ℕ) : Type 0 where
   pub units : Units
-  pub going : Going s (says (room .units)) at units
+  pub going : Going s (right (room .units)) at units
   pub placed : to ≡ length (prefixed avc units)
   pub written : out ≡ splice out₀ 0 (prefixed avc units)
   pub long : length out ≡ length out₀
 
-pub putting-first : (s : List ℕ) (avc : Bool) (out : List ℕ) (room : Room s avc (length out)) → Putting s avc out room 1 0 out
+pub putting-first : (s : List ℕ) (avc : Bool) (out : List ℕ) (room : Room s avc (length out)) → Putting s avc out room 0 0 out
 putting-first s avc out room =
     record {
       units = [];
-      going = rw (room .right) at (going-first s);
+      going = rw (room .sizes) at (going-first s);
       placed = refl;
       written = sym (splice-nothing out 0);
       long = refl;
@@ -44,16 +43,16 @@ putting-first s avc out room =
 
 module _ (s : List ℕ) (avc : Bool) (out₀ : List ℕ) (room : Room s avc (length out₀)) (at to : ℕ) (out : List ℕ)
     (p : Putting s avc out₀ room at to out) (h : at < length s) where
-  abbrev here : Going s (says (room .units)) at (p .units)
+  abbrev here : Going s (right (room .units)) at (p .units)
   here = p .going
 
   u : List ℕ
   u = take (u16At s at) (drop (at + 2) s)
 
-  next : Going s (says (room .units)) (at + 2 + u16At s at) (p .units ++ (u ∷ []))
+  next : Going s (right (room .units)) (at + 2 + u16At s at) (p .units ++ (u ∷ []))
   unfolding u
   next =
-      going-unit s (says (room .units)) at (p .units) here (size-there s (room .units) at (p .units) here h)
+      going-unit s (right (room .units)) at (p .units) here (size-there s (room .units) at (p .units) here h)
       (size-fits s (room .units) at (p .units) here h)
 
   longer : prefixed avc (p .units ++ (u ∷ [])) ≡ prefixed avc (p .units) ++ (prefixOf avc u ++ u)
@@ -96,7 +95,7 @@ module _ (s : List ℕ) (avc : Bool) (out₀ : List ℕ) (room : Room s avc (len
       to-is = omega (arith, p .placed)
 
 -- when all is read, the units before are the units
-pub all-written : (s : List ℕ) (avc : Bool) (n : ℕ) (room : Room s avc n) {units : Units} → says (room .units) ≡ says units → units ≡ unitsOf s
+pub all-written : (s : List ℕ) (avc : Bool) (n : ℕ) (room : Room s avc n) {units : Units} → right (room .units) ≡ right units → units ≡ unitsIn (unpack s)
 all-written s avc n room {units} e =
     let same : room .units ≡ units = cc in
-    sym same ∙ sym (ap unitsIn (room .right))
+    sym same ∙ sym (ap unitsIn (room .sizes))

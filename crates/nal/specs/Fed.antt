@@ -1,28 +1,16 @@
--- What a payload does, without buffers: a run goes on or ends, and units are handed out. Then the buffers. Assumes nothing.
+-- What a payload does, without buffers, whatever a run is: the run afterwards, what is gathered and the units handed out. Then the buffers.
+-- Assumes nothing.
 use mathlib.Core.Bool.{Bool, true, false, cond, _||_}
 use mathlib.Core.List.{List, [], _∷_, _++_}
 use Prim.Native.Nat.{ℕ}
-use lib.Dec.{ltb, eqb}
-use lib.ListN.{length, take}
+use lib.Dec.{ltb}
+use lib.ListN.{length}
 use Rattle.error.specs.Said.{Said, says, refused, refuse}
 use Rattle.wire.specs.Net.{be32}
 use Rattle.wire.specs.Part.{splice}
 
--- the fragments gathered of one unit: its bytes behind the first
-pub data Run : Type 0 where
-  none : Run
-  gathering : List ℕ → Run
-
-abbrev pub gathered : Run → List ℕ
-gathered none = []
-gathered (gathering bytes) = bytes
-
--- the run that a record's length and the gather buffer stand for: length 0 for none
-abbrev pub runOf : ℕ → List ℕ → Run
-runOf n gather = cond (eqb n 0) none (gathering (take n gather))
-
 -- what a payload does
-pub record Fed : Type 0 where
+pub record Fed (Run : Type 0) : Type 0 where
   -- the run afterwards
   pub run : Run
   -- what then stands in front of the gather buffer: an end fragment's bytes are gathered too, though its run is none
@@ -30,13 +18,14 @@ pub record Fed : Type 0 where
   -- the units handed out
   pub handed : List (List ℕ)
 
--- a fragment that does not end the unit: these bytes are gathered now
-abbrev pub ongoing : List ℕ → Fed
-ongoing bytes = record { run = gathering bytes; kept = bytes; handed = [] }
+module _ {Run : Type 0} where
+  -- a fragment that does not end the unit: these bytes are gathered now
+  abbrev pub ongoing : Run → List ℕ → Fed Run
+  ongoing run bytes = record { run = run; kept = bytes; handed = [] }
 
--- the last fragment: these bytes were gathered, and the unit is handed out behind its first byte
-abbrev pub finished : ℕ → List ℕ → Fed
-finished head bytes = record { run = none; kept = bytes; handed = (head ∷ bytes) ∷ [] }
+  -- the last fragment: these bytes were gathered, and the unit is handed out behind its header
+  abbrev pub finished : Run → List ℕ → List ℕ → Fed Run
+  finished run head bytes = record { run = run; kept = bytes; handed = (head ++ bytes) ∷ [] }
 
 -- ---- the bytes handed out
 
@@ -65,6 +54,11 @@ layBytes out bytes =
     cond (ltb (length out) (length bytes)) (record { answer = refuse 5; out = out })
     (record { answer = says (length bytes); out = splice out 0 bytes })
 
+-- units, or why there are none
+abbrev pub layUnits : Bool → List ℕ → Said (List (List ℕ)) → OutLaid
+layUnits avc out (says units) = layBytes out (prefixed avc units)
+layUnits avc out (refused r) = record { answer = refused r; out = out }
+
 -- the answer, and both buffers afterwards
 pub record Laid (A : Type 0) : Type 0 where
   pub answer : Said A
@@ -90,12 +84,12 @@ layGather gather kept =
     cond (tooLong gather kept) (record { answer = refuse 6; gather = gather })
     (record { answer = says 0; gather = splice gather 0 kept })
 
--- 6, then 5; "a refusal .. changes no buffer"
-unfoldable pub layFed : Bool → List ℕ → List ℕ → Fed → Laid ℕ
-layFed avc gather out f =
-    cond (tooLong gather (f .kept)) (record { answer = refuse 6; gather = gather; out = out })
+-- these bytes are gathered and these units handed out: 6, then 5; "a refusal .. changes no buffer"
+unfoldable pub layBoth : Bool → List ℕ → List ℕ → (kept : List ℕ) (handed : List (List ℕ)) → Laid ℕ
+layBoth avc gather out kept handed =
+    cond (tooLong gather kept) (record { answer = refuse 6; gather = gather; out = out })
     (record {
-      answer = layBytes out (prefixed avc (f .handed)) .answer;
-      gather = gatherAfter gather (f .kept) (layBytes out (prefixed avc (f .handed)) .answer);
-      out = layBytes out (prefixed avc (f .handed)) .out;
+      answer = layBytes out (prefixed avc handed) .answer;
+      gather = gatherAfter gather kept (layBytes out (prefixed avc handed) .answer);
+      out = layBytes out (prefixed avc handed) .out;
     })

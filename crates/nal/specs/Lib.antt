@@ -1,3 +1,4 @@
 pub mod Fed
+pub mod Unpack
 pub mod Said
 pub mod Ran

@@ -1,52 +1,30 @@
--- What a payload does to the buffers: the run's length afterwards, and how many bytes were handed out. Assumes nothing.
+-- What a payload does to the buffers: what a record then keeps of the run, and how many bytes were handed out. `R` is what a record keeps of
+-- a run. Assumes nothing.
 use mathlib.Core.Bool.{Bool}
 use mathlib.Core.List.{List}
 use Prim.Native.Nat.{ℕ}
-use lib.ListN.{length}
-use Rattle.error.specs.Refusal.{refusalOf}
 use Rattle.error.specs.Said.{Said, says, refused}
-use Rattle.nal.specs.declared.Ran.{Ran}
-use Rattle.nal.specs.declared.Ran.the-variants as ran
-use Rattle.nal.specs.Fed.{Run, gathered, Fed, prefixed, layBytes, Laid, layFed}
+use Rattle.nal.specs.Fed.{Fed, Laid, layBoth}
 
 -- units handed out, or why there are none, with the run and what is kept of the gather buffer
-abbrev pub handing : Run → List ℕ → Said (List (List ℕ)) → Said Fed
+abbrev pub handing : {Run : Type 0} → Run → List ℕ → Said (List (List ℕ)) → Said (Fed Run)
 handing run kept (says units) = says (record { run = run; kept = kept; handed = units })
 handing run kept (refused r) = refused r
 
-pub record RanOn : Type 0 where
-  pub gathered : ℕ
+pub record RanOn (R : Type 0) : Type 0 where
+  pub run : R
   pub bytes : ℕ
 
-abbrev pub ranSaid : Ran → Said RanOn
-ranSaid (ran.On gathered bytes) = says (record { gathered = gathered; bytes = bytes })
-ranSaid (ran.Refused e) = refused (refusalOf e)
+abbrev pub withRun : {R : Type 0} → R → Said ℕ → Said (RanOn R)
+withRun run (says bytes) = says (record { run = run; bytes = bytes })
+withRun run (refused r) = refused r
 
-abbrev pub withRun : ℕ → Said ℕ → Said RanOn
-withRun gathered (says bytes) = says (record { gathered = gathered; bytes = bytes })
-withRun gathered (refused r) = refused r
-
-abbrev pub ranHeard : Ran → List ℕ → List ℕ → Laid RanOn
-ranHeard r gather out = record { answer = ranSaid r; gather = gather; out = out }
-
-abbrev pub layRun : Bool → List ℕ → List ℕ → Said Fed → Laid RanOn
-layRun avc gather out (says f) =
+-- `recorded` says what a record keeps of a run
+abbrev pub layRun : {Run R : Type 0} → (recorded : Run → R) → Bool → List ℕ → List ℕ → Said (Fed Run) → Laid (RanOn R)
+layRun recorded avc gather out (says f) =
     record {
-      answer = withRun (length (gathered (f .run))) (layFed avc gather out f .answer);
-      gather = layFed avc gather out f .gather;
-      out = layFed avc gather out f .out;
+      answer = withRun (recorded (f .run)) (layBoth avc gather out (f .kept) (f .handed) .answer);
+      gather = layBoth avc gather out (f .kept) (f .handed) .gather;
+      out = layBoth avc gather out (f .kept) (f .handed) .out;
     }
-layRun avc gather out (refused r) = record { answer = refused r; gather = gather; out = out }
-
--- the same where only the output is lent
-pub record OutRan : Type 0 where
-  pub answer : Said RanOn
-  pub out : List ℕ
-
-abbrev pub outRan : Ran → List ℕ → OutRan
-outRan r out = record { answer = ranSaid r; out = out }
-
-abbrev pub layUnits : Bool → ℕ → List ℕ → Said (List (List ℕ)) → OutRan
-layUnits avc run out (says units) =
-    record { answer = withRun run (layBytes out (prefixed avc units) .answer); out = layBytes out (prefixed avc units) .out }
-layUnits avc run out (refused r) = record { answer = refused r; out = out }
+layRun recorded avc gather out (refused r) = record { answer = refused r; gather = gather; out = out }

@@ -1,19 +1,17 @@
-// What the H.264 reader and the joiner share of what they do with a payload: gathering fragments and handing units out.
+// What the H.264 reader and the joiner share of what they do with a payload, whatever its codec: gathering fragments, the sizes of an
+// aggregation packet, and handing units out. What a unit's header is, what is refused and what is kept of a run is each caller's own.
 //
 // Only proved code calls this crate, so its functions may ask that the buffers have room.
 use error::Error;
 
 mod aggregate;
 mod buffers;
-mod run;
 
 pub use aggregate::hand_units;
+pub use aggregate::measure;
 pub use buffers::finish;
 pub use buffers::gather_on;
 pub use buffers::hand_plain;
-pub use run::run_plain;
-pub use run::run_units;
-pub use run::with_run;
 
 // The bytes handed out, or the refusal.
 pub enum Handed {
@@ -21,8 +19,12 @@ pub enum Handed {
     Refused(Error),
 }
 
-// What became of a payload: the run that is now open has `gathered` bytes, 0 for none, and `bytes` bytes were handed out.
-pub enum Ran {
-    On { gathered: usize, bytes: usize },
-    Refused(Error),
+// The units of an aggregation packet, or what is wrong at the first place.
+pub enum Measured {
+    // how many, and of how many bytes in all
+    Units { count: usize, bytes: usize },
+    // a size past the packet, and the bytes left
+    Past { size: usize, left: usize },
+    // one byte left where a two-byte size is needed
+    Lone,
 }

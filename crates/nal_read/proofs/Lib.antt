@@ -1,3 +1,3 @@
-pub mod Unpacking
+pub mod Stap
 pub mod Shapes
 pub mod Sayable

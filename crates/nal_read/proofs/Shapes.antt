@@ -1,23 +1,21 @@
 -- Which payloads have which shape, and what a shape tells of its payload: the definition's tests, one by one. Assumes nothing.
-use mathlib.Core.Path.{_≡_, refl, sym, ap, subst, _∙_}
+use mathlib.Core.Path.{_≡_, refl, ap, subst, _∙_}
 use mathlib.Core.Bool.{Bool, true, false, cond}
-use mathlib.Core.List.{List, [], _∷_, _++_, append-nil, append-assoc}
+use mathlib.Core.List.{List, _∷_}
 use mathlib.Core.Logic.{_⊎_, inl, inr}
-use Prim.Native.Nat.{ℕ, _+_, _-_, _*_, _/_, _%_, _≤_, _<_}
+use Prim.Native.Nat.{ℕ, _/_, _%_, _≤_, _<_}
 use native.Mathlib.Decide.{decLe}
 use native.Mathlib.Nat.{lt-of-not-le}
 use native.Mathlib.Omega.{arith}
 use lib.Dec.{leb, eqb}
-use lib.ListN.{length, getD, length-append}
-use lib.Seq.{take-at, drop-at}
-use borrow.Author.Tests.{le-leb, lt-leb, le-ltb, eq-eqb, ne-eqb, eqb-true, eqb-false, leb-true, leb-false}
-use Rattle.error.specs.Said.{says, refuse}
-use Rattle.wire.specs.Net.{be16, bit}
-use Rattle.wire.specs.Turns.{more, run}
-use Rattle.wire.proofs.Turns.{run-more, run-done}
+use lib.ListN.{length, getD}
+use borrow.Author.Tests.{le-leb, lt-leb, eq-eqb, ne-eqb, eqb-true, eqb-false, leb-true, leb-false}
+use Rattle.error.specs.Said.{says}
+use Rattle.wire.specs.Net.{bit}
+use Rattle.nal.specs.Unpack.{sizedUnits, Sized}
+use Rattle.nal.proofs.Unpacking as unpacking
 use Rattle.nal_read.specs.Kind.{Shape, short, unknown, plain, aggregate, fragment, headOf, shapeBy, shape}
-use Rattle.nal_read.specs.Unpack.{unpackTurn, unpack, sizedUnits, Sized}
-use Rattle.nal_read.proofs.Unpacking.{Units}
+use Rattle.nal_read.specs.Unpack.{stapSaid, unpack}
 
 abbrev pub type : List ℕ → ℕ
 type s = getD s 0 0 % 32
@@ -126,33 +124,16 @@ told s = by-length (leb (length s) 1) (leb (length s) 2) refl refl
     by-length false false e f =
         by-type (leb-false (length s) 2 f) (eqb (type s) 24) (eqb (type s) 28) (eqb (type s) 0) (leb (type s) 23) refl refl refl refl
 
--- a fragment has three bytes at least
+-- a STAP-A and a fragment have three bytes at least
+pub aggregate-long : (s : List ℕ) → shape s ≡ aggregate → 3 ≤ length s
+aggregate-long s e = subst (Facts s) e (told s) .0
+
 pub fragment-long : (s : List ℕ) (first last : Bool) (head : ℕ) → shape s ≡ fragment first last head → 3 ≤ length s
 fragment-long s first last head e = subst (Facts s) e (told s) .long
 
 -- ---- a STAP-A's units
 
--- the first of the units, read off
-unpack-one : (u : List ℕ) (us before : Units) → length u < 65536 →
-    unpackTurn (record { rest = sizedUnits (u ∷ us); units = before }) ≡ more (record { rest = sizedUnits us; units = before ++ (u ∷ []) })
-unfolding unpackTurn be16
-unpack-one u us before h =
-    let size : length u / 256 % 256 * 256 + length u % 256 ≡ length u = omega arith in
-    rw (size, le-ltb (length (u ++ sizedUnits us)) (length u) (omega (arith, length-append u (sizedUnits us))), take-at u (sizedUnits us) (length u) refl, drop-at u (sizedUnits us) (length u) refl)
-
-unpack-all : (us before : Units) (fuel : ℕ) → length (sizedUnits us) < fuel → Sized us →
-    run unpackTurn (refuse 18) fuel (record { rest = sizedUnits us; units = before }) ≡ says (before ++ us)
-unfolding unpackTurn be16
-unpack-all [] before fuel h w =
-    run-done unpackTurn (refuse 18) fuel (record { rest = []; units = before }) (says before) (omega arith) refl
-    ∙ ap says (sym (append-nil before))
-unpack-all (u ∷ us) before fuel h w =
-    run-more unpackTurn (refuse 18) fuel (record { rest = sizedUnits (u ∷ us); units = before })
-    (record { rest = sizedUnits us; units = before ++ (u ∷ []) }) (omega arith) (unpack-one u us before (w .0))
-    ∙ unpack-all us (before ++ (u ∷ [])) (fuel - 1) (omega (arith, length-append u (sizedUnits us))) (w .1)
-    ∙ ap says (append-assoc before (u ∷ []) us)
-
 -- whatever the units are, empty ones too, they are read off behind any first byte
-pub unpack-sized : (a : ℕ) (us : Units) → Sized us → unpack (a ∷ sizedUnits us) ≡ says us
+pub unpack-sized : (a : ℕ) (us : List (List ℕ)) → Sized us → unpack (a ∷ sizedUnits us) ≡ says us
 unfolding unpack
-unpack-sized a us w = unpack-all us [] (length (a ∷ sizedUnits us) + 1) (omega arith) w
+unpack-sized a us w = ap stapSaid (unpacking.unpack-sized us w)

@@ -5,6 +5,7 @@ use lib.ListN.{length}
 use Rattle.error.specs.Refusal.{refusalOf}
 use Rattle.error.specs.Said.{Said, says, refused}
 use Rattle.wire.specs.Packets.{joined}
+use Rattle.nal.specs.Said.{Measure}
 use Rattle.nal_read.specs.declared.Kind.{Kind}
 use Rattle.nal_read.specs.declared.Kind.the-variants as kind
 use Rattle.nal_read.specs.declared.Measured.{Measured}
@@ -18,10 +19,7 @@ shapeSaid kind.Plain = plain
 shapeSaid kind.Aggregate = aggregate
 shapeSaid (kind.Fragment first last head) = fragment first last head
 
--- how many units, and of how many bytes in all
-pub record Measure : Type 0 where
-  pub count : ℕ
-  pub bytes : ℕ
+-- ---- a STAP-A
 
 abbrev pub measureSaid : Measured → Said Measure
 measureSaid (measured.Units count bytes) = says (record { count = count; bytes = bytes })

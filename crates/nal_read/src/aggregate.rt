@@ -1,10 +1,14 @@
 // The units of a STAP-A.
 ghost use mathlib.Core.Path.{_≡_};
-ghost use Prim.Native.Nat.{_<_};
+ghost use Prim.Native.Nat.{_≤_};
+ghost use lib.ListN.{length};
+ghost use Rattle.nal.specs.Fed.{layUnits};
+ghost use Rattle.nal.specs.Said.{outHeard};
 ghost use Rattle.nal_read.specs.Said.{measureSaid, measureOf};
 ghost use Rattle.nal_read.specs.Unpack.{unpack};
 use crate::Measured;
 use error::Error;
+use nal::Handed;
 
 // Whether every size lies within the packet; nothing is written.
 //
@@ -18,22 +22,29 @@ use error::Error;
 pub fn measure(payload: &[u8]) -> Measured
     ensures { λ r. ⌜ measureSaid r ≡ measureOf (unpack (now (payload .entry))) ⌝ }
 {
-    let mut at = 1;
-    let mut count = 0;
-    let mut bytes = 0;
-    while at < payload.len() {
-        if payload.len() <= at + 1 {
-            return Measured::Refused(Error::StapASizeCut);
-        }
-        let size = wire::wide16(wire::get_u16(payload, at));
-        let from = at + 2;
-        let left = payload.len() - from;
-        if left < size {
-            return Measured::Refused(Error::StapASizeLargerThanBuffer(size, left));
-        }
-        count += 1;
-        bytes += size;
-        at = from + size;
+    if payload.len() == 0 {
+        return Measured::Units { count: 0, bytes: 0 };
     }
-    Measured::Units { count, bytes }
+    let measured = nal::measure(&payload[1..]);
+    match measured {
+        nal::Measured::Units { count, bytes } => Measured::Units { count, bytes },
+        nal::Measured::Past { size, left } => {
+            Measured::Refused(Error::StapASizeLargerThanBuffer(size, left))
+        }
+        nal::Measured::Lone => Measured::Refused(Error::StapASizeCut),
+    }
+}
+
+// Hands out the units of a STAP-A.
+pub fn hand_stap_a(payload: &[u8], avc: bool, out: &mut [u8]) -> Handed
+    requires { ⌜ (1 ≤ length (now payload)) × (length (now payload) ≤ 65535) ⌝ }
+    ensures { λ r. ⌜ outHeard r (now (out .exit)) ≡ layUnits avc (now (out .entry)) (unpack (now (payload .entry))) ⌝ }
+{
+    let measured = measure(payload);
+    match measured {
+        Measured::Units { count, bytes } => {
+            nal::hand_units(&payload[1..], count, bytes, avc, out)
+        }
+        Measured::Refused(e) => Handed::Refused(e),
+    }
 }

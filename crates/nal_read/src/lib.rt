@@ -4,6 +4,7 @@ use error::Error;
 mod aggregate;
 mod payload;
 
+pub use aggregate::hand_stap_a;
 pub use aggregate::measure;
 pub use payload::FUA_NALU_TYPE;
 pub use payload::kind_of;

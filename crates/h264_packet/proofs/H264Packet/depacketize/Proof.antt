@@ -7,12 +7,11 @@ use lib.ListN.{length}
 use borrow.Author.Needs.{needs}
 use Rattle.error.specs.Refusal.{Refusal}
 use Rattle.error.specs.Said.{Said, says, refused}
-use Rattle.nal.specs.declared.Ran.{Ran}
 use Rattle.nal_read.specs.Kind.{Shape}
-use Rattle.nal.specs.Ran.{ranSaid}
 use Rattle.h264_packet.specs.declared.H264Packet.{H264Packet}
+use Rattle.h264_packet.specs.declared.Ran.{Ran}
 use Rattle.h264_packet.specs.Depacketize.{Showing, nowhere, shownOf}
-use Rattle.h264_packet.specs.Said.{Heard, readingHeard, depacketizedHeard}
+use Rattle.h264_packet.specs.Said.{ranSaid, Heard, readingHeard, depacketizedHeard}
 use Rattle.h264_packet.proofs.Depacketizing.{read-outside, read-inside}
 use Rattle.h264_packet.proofs.H264Packet.depacketize.Statement.{statement}
 use Rattle.h264_packet.proofs.H264Packet.depacketize.Tie as tie

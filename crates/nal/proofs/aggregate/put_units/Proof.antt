@@ -11,7 +11,7 @@ use Rattle.wire.specs.Net.{u16At}
 use Rattle.wire.specs.Part.{splice}
 use Rattle.nal.specs.Fed.{prefixOf, prefixed}
 use Rattle.nal.specs.Said.{Room}
-use Rattle.nal_read.proofs.Unpacking.{Units, size-there, size-fits, going-end, length-unitAt}
+use Rattle.nal.proofs.Unpacking.{Units, size-there, size-fits, going-end, length-unitAt}
 use Rattle.nal.proofs.Putting.{Putting, putting-first, putting-unit, unit-fits, all-written}
 use Rattle.nal.proofs.aggregate.put_units.Statement.{statement}
 use Rattle.nal.proofs.aggregate.put_units.Tie as tie
@@ -22,24 +22,24 @@ record Written (s : List ℕ) (avc : Bool) (out₀ : List ℕ) (at to : ℕ) (ou
   putting : Putting s avc out₀ room at to out
 
 abbrev Inv-loop : tie.InvT-loop
-Inv-loop payload avc out₀ at₀ to₀ out at to = Written payload avc out₀ at to out
+Inv-loop sized avc out₀ at₀ to₀ out at to = Written sized avc out₀ at to out
 
 abbrev μ-loop : tie.MeasureT-loop
-μ-loop payload avc out₀ at₀ to₀ out at to = length payload - at
+μ-loop sized avc out₀ at₀ to₀ out at to = length sized - at
 
 loop-holds : tie.Need-loop-holds Inv-loop μ-loop
 loop-holds c = record { room = c .before .before .pre; putting = putting-first _ _ _ (c .before .before .pre) }
 
 -- there is a size in front of the next unit
-there : (c : tie.In-loop Inv-loop μ-loop) → c .before .loop .at + 1 < length (c .before .before .before .before .args .payload .now)
+there : (c : tie.In-loop Inv-loop μ-loop) → c .before .loop .at + 1 < length (c .before .before .before .before .args .sized .now)
 there c = size-there _ _ _ _ (c .before .loop .inv .putting .going) (c .loop-test .taken)
 
 -- the size that the code reads is the one that the packet says, and lies within the packet
 size : (c : tie.After-wide16 Inv-loop μ-loop) →
-    (c .wide16 .result ≡ u16At (c .before .before .before .before .before .before .args .payload .now) (c .before .before .before .loop .at))
-    × (c .wide16 .result ≤ length (c .before .before .before .before .before .before .args .payload .now) - (c .before .before .before .loop .at + 2))
+    (c .wide16 .result ≡ u16At (c .before .before .before .before .before .before .args .sized .now) (c .before .before .before .loop .at))
+    × (c .wide16 .result ≤ length (c .before .before .before .before .before .before .args .sized .now) - (c .before .before .before .loop .at + 2))
 size c =
-    let e : c .wide16 .result ≡ u16At (c .before .before .before .before .before .before .args .payload .now) (c .before .before .before .loop .at) = c .wide16 .ensures .0 ∙ c .before .get-u16 .ensures in
+    let e : c .wide16 .result ≡ u16At (c .before .before .before .before .before .before .args .sized .now) (c .before .before .before .loop .at) = c .wide16 .ensures .0 ∙ c .before .get-u16 .ensures in
     let f = size-fits _ _ _ _ (c .before .before .before .loop .inv .putting .going) (c .before .before .loop-test .taken) in
     (e, omega (arith, e, f))
 
@@ -51,7 +51,7 @@ fits c =
 
 put-unit-requires : tie.Need-put-unit-requires Inv-loop μ-loop
 put-unit-requires c κs =
-    let s = c .before .before .before .before .before .before .before .before .args .payload .now in
+    let s = c .before .before .before .before .before .before .before .before .args .sized .now in
     let h = c .before .before .before .before .before .loop in
     let e = size (c .before .before) in
     let back : h .at + 2 + c .before .before .wide16 .result - (h .at + 2) ≡ u16At s (h .at) = omega (arith, e .0) in
@@ -61,7 +61,7 @@ put-unit-requires c κs =
 loop-again : tie.Need-loop-again Inv-loop μ-loop
 loop-again c =
     let a = c .before .before .before .before .before .before .before .before .before .before .before .args in
-    let s = a .payload .now in
+    let s = a .sized .now in
     let h = c .before .before .before .before .before .before .before .before .loop in
     let w = h .inv in
     let n = c .before .before .before .before .before .wide16 .result in

@@ -15,13 +15,13 @@ use Rattle.nal.proofs.buffers.hand_plain.Tie as tie
 returns : tie.Need-returns
 returns c =
     let a = c .before .before .before .args in
-    let n : length (prefixed (a .avc) (a .payload .now ∷ [])) ≡ length (a .payload .now) + 4 = length-one (a .avc) (a .payload .now) in
-    sym (bytes-short (a .out .now) (prefixed (a .avc) (a .payload .now ∷ [])) (omega (arith, n, c .if1 .taken)))
+    let n : length (prefixed (a .avc) (a .unit .now ∷ [])) ≡ length (a .unit .now) + 4 = length-one (a .avc) (a .unit .now) in
+    sym (bytes-short (a .out .now) (prefixed (a .avc) (a .unit .now ∷ [])) (omega (arith, n, c .if1 .taken)))
 
 returns-2 : tie.Need-returns-2
 returns-2 c =
     let a = c .before .before .before .before .before .before .before .args in
-    let u = a .payload .now in
+    let u = a .unit .now in
     let n : length (prefixed (a .avc) (u ∷ [])) ≡ length u + 4 = length-one (a .avc) u in
     ap₂ (λ (k : ℕ) (l : List ℕ). record { answer = says k; out = l }) (sym n)
     (c .before .before .put-unit .ensures ∙ ap (splice (a .out .now) 0) (sym (prefixed-one (a .avc) u)))

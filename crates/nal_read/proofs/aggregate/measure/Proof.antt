@@ -1,74 +1,43 @@
--- What is still to be read leads to what `unpack` says of the whole; the counts are those of the units before.
-use mathlib.Core.Path.{_≡_, refl, sym, ap, ap₂, _∙_}
-use mathlib.Core.List.{[], _∷_}
-use Prim.Native.Nat.{ℕ, _+_, _-_}
-use native.Mathlib.Omega.{arith}
-use lib.ListN.{length}
+-- Each arm says what the sizes behind the first byte give, with 17 and 18 for what is wrong.
+use mathlib.Core.Path.{sym, ap, _∙_}
 use borrow.Author.Needs.{needs}
-use Rattle.error.specs.Said.{says, refused}
-use Rattle.wire.specs.Net.{u16At}
-use Rattle.nal_read.specs.Said.{measureOf}
-use Rattle.nal_read.proofs.Unpacking.{going-first, going-end, going-cut, going-past, Measuring, measuring-unit}
+use Rattle.nal.specs.declared.Measured.{Measured}
+use Rattle.nal.specs.Said.{measureSaid}
+use Rattle.nal_read.specs.Unpack.{stapSaid}
+use Rattle.nal_read.proofs.Stap.{measure-nothing, measure-said}
 use Rattle.nal_read.proofs.aggregate.measure.Statement.{statement}
 use Rattle.nal_read.proofs.aggregate.measure.Tie as tie
 
-abbrev Inv-loop : tie.InvT-loop
-Inv-loop payload at₀ count₀ bytes₀ at count bytes = Measuring payload at count bytes
+returns : tie.Need-returns
+returns c = measure-nothing (c .before .before .args .payload .now) (c .if1 .taken)
 
-abbrev μ-loop : tie.MeasureT-loop
-μ-loop payload at₀ count₀ bytes₀ at count bytes = length payload - at
-
-loop-holds : tie.Need-loop-holds Inv-loop μ-loop
-loop-holds c =
-    record { units = []; going = going-first _; many = refl; long = refl; fewer-than = omega arith; shorter = omega arith }
-
-returns : tie.Need-returns Inv-loop μ-loop
-returns c =
-    let m = c .before .before .loop .inv in
-    sym (ap measureOf (going-cut _ _ _ (m .units) (m .going) (search needs) (c .if1 .taken)))
-
--- the size that the code reads is the one that the packet says
-size : (c : tie.After-wide16 Inv-loop μ-loop) →
-    c .wide16 .result ≡ u16At (c .before .before .before .before .before .before .args .payload .now) (c .before .before .before .before .loop .at)
-size c = c .wide16 .ensures .0 ∙ c .before .get-u16 .ensures
-
-returns-2 : tie.Need-returns-2 Inv-loop μ-loop
+returns-2 : tie.Need-returns-2
 returns-2 c =
-    let s = c .before .before .before .before .before .before .before .args .payload .now in
-    let at = c .before .before .before .before .before .loop .at in
-    let m = c .before .before .before .before .before .loop .inv in
-    let e = size (c .before) in
-    ap (λ (n : ℕ). refused (record { number = 17; carried = n ∷ (length s - (at + 2)) ∷ [] })) e
-    ∙ sym (ap measureOf (going-past s _ at (m .units) (m .going) (search needs) (omega (arith, e, c .if2 .taken))))
+    sym (ap (λ (m : Measured). stapSaid (measureSaid m)) (c .before .measured .given .1))
+    ∙ measure-said (c .before .before .before .before .before .before .before .args .payload .now) (c .before .before .before .measure .result) (c .before .before .before .measure .ensures)
 
-loop-again : tie.Need-loop-again Inv-loop μ-loop
-loop-again c =
-    measuring-unit _ _ _ _ _ (c .before .before .before .before .before .loop .inv) (search needs) (size (c .before)) (c .if2 .left)
-
-returns-3 : tie.Need-returns-3 Inv-loop μ-loop
+returns-3 : tie.Need-returns-3
 returns-3 c =
-    let h = c .before .loop in
-    let m = h .inv in
-    ap₂ (λ (n b : ℕ). says (record { count = n; bytes = b })) (m .many) (m .long)
-    ∙ sym (ap measureOf (going-end _ _ _ (m .units) (m .going) (c .loop-test .left)))
+    sym (ap (λ (m : Measured). stapSaid (measureSaid m)) (c .before .measured2 .given .1))
+    ∙ measure-said (c .before .before .before .before .before .before .before .args .payload .now) (c .before .before .before .measure .result) (c .before .before .before .measure .ensures)
+
+returns-4 : tie.Need-returns-4
+returns-4 c =
+    sym (ap (λ (m : Measured). stapSaid (measureSaid m)) (c .enum-told .given .1))
+    ∙ measure-said (c .before .before .before .before .before .before .args .payload .now) (c .before .before .measure .result) (c .before .before .measure .ensures)
 
 pub measure-spec : {M : Type 1} → statement M
 measure-spec =
     tie.close
     (tie.spec
-    Inv-loop
-    μ-loop
-    loop-holds
-    (λ c. search needs)
     returns
+    (λ c. search needs)
+    (λ c. search needs)
+    (λ c. search needs)
     (λ c κs. search needs)
-    (λ c κs. search needs)
+    (λ c. search needs)
     (λ c. search needs)
     (λ c. search needs)
     returns-2
-    (λ c. search needs)
-    (λ c. search needs)
-    (λ c. search needs)
-    (λ c. search needs)
-    loop-again
-    returns-3)
+    returns-3
+    returns-4)

@@ -1,11 +1,11 @@
 -- Each arm says what `withRun` says of the variant it matched.
 use mathlib.Core.Path.{sym, ap}
 use borrow.Author.Needs.{needs}
 use Rattle.nal.specs.declared.Handed.{Handed}
 use Rattle.nal.specs.Said.{saidHanded}
 use Rattle.nal.specs.Ran.{withRun}
-use Rattle.nal.proofs.run.with_run.Statement.{statement}
-use Rattle.nal.proofs.run.with_run.Tie as tie
+use Rattle.h264_packet.proofs.read.with_run.Statement.{statement}
+use Rattle.h264_packet.proofs.read.with_run.Tie as tie
 
 returns : tie.Need-returns
 returns c = sym (ap (λ (h : Handed). withRun (c .before .before .before .args .gathered) (saidHanded h)) (c .before .handed .given .1))
