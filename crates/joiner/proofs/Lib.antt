@@ -1,5 +1,5 @@
 pub mod Joining
+pub mod General
+pub mod Only
 pub mod Records
 pub mod SentGroups
-pub mod OneCall
-pub mod Only

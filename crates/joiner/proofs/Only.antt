@@ -1,25 +1,19 @@
 -- "that no second answer satisfies it is proved": each public call's contract is met by one answer, and by no other. For a call with a
 -- packet an answer is the result, the record where it is lent, and both buffers as they are left. Assumes nothing.
 use mathlib.Core.Path.{_≡_, refl, ap, _∙_}
-use mathlib.Core.Bool.{Bool, true, false, cond}
-use mathlib.Core.List.{List, []}
-use Prim.Native.Nat.{ℕ, _+_}
-use lib.Dec.{ltb, leb, eqb}
-use lib.ListN.{drop}
-use Rattle.error.specs.Said.{Said, says, refused, refuse}
+use mathlib.Core.Bool.{Bool}
+use mathlib.Core.List.{List}
+use Prim.Native.Nat.{ℕ}
+use Rattle.error.specs.Said.{Said, says, refused}
 use Rattle.error.specs.Only.{Determined}
 use Rattle.error.proofs.Inverse.{errorOf, errorOf-refusalOf}
-use Rattle.error.proofs.Only.{by-value, by-view, spoken, Sayable, passed, tested}
-use Rattle.wire.specs.Turns.{run}
-use Rattle.wire.specs.Part.{part}
+use Rattle.error.proofs.Only.{by-value, by-view, spoken, Sayable, passed}
 use Rattle.packet.specs.Read.{PacketReading, readPacket}
 use Rattle.packet.proofs.Only.{packet-sayable}
 use Rattle.sequence.specs.Number.{distanceOf, nextOf}
-use Rattle.nal_read.specs.Kind.{Shape, short, unknown, plain, aggregate, fragment, shape}
-use Rattle.nal_read.specs.Unpack.{unpack}
-use Rattle.nal_read.proofs.Sayable.{unpack-sayable}
-use Rattle.nal.proofs.Sayable.{handing-sayable, fed-sayable}
-use Rattle.nal.specs.Fed.{none, Run, Fed, Laid, layFed}
+use Rattle.joiner_step.specs.Step.{Accepted, Answer, accepted, late}
+use Rattle.joiner_step.proofs.Sayable.{Speaks, step-sayable, closing-cases}
+use Rattle.joiner_feed.proofs.Sayable.{check-sayable}
 use Rattle.joiner.specs.declared.Joiner.{Joiner}
 use Rattle.joiner.specs.declared.Joined.{Joined}
 use Rattle.joiner.specs.declared.Joined.the-variants as joined
@@ -27,10 +21,8 @@ use Rattle.joiner.specs.declared.Step.{Step}
 use Rattle.joiner.specs.declared.Closed.{Closed}
 use Rattle.joiner.specs.declared.Closed.the-variants as closed
 use Rattle.joiner.specs.declared.Closing.{Closing}
-use Rattle.joiner_feed.specs.Codec.{fragmented, feedBy, feed}
-use Rattle.joiner.specs.Join.{outside, Accepted, Answer, accepted, late, Stepped, unchanged, laidBy, fedBy, runAt, byDistance, bySource, byReading, joinStep, ClosingStepped, closeStep, opened}
+use Rattle.joiner.specs.Join.{keptOf, Stepped, ClosingStepped, asClosing, arrivedIn, choice, avcOf, choiceOf, joinStep, closeStep, opened}
 use Rattle.joiner.specs.Said.{saidJoined, stepHeard, placeHeard, saidClosed, closingHeard}
-use Rattle.joiner.proofs.Joining.{closing-cases}
 
 -- ---- numbers, by the crate `sequence`
 
@@ -45,66 +37,27 @@ after-only number = by-value (nextOf number)
 pub open-only : (ssrc first : ℕ) → Determined (λ (r : Joiner). r ≡ opened ssrc first)
 open-only ssrc first = by-value (opened ssrc first)
 
--- ---- what a payload makes a call say
-
-feed-sayable : (run : Run) (payload : List ℕ) → Sayable (feed run payload)
-unfolding feed
-feed-sayable run payload = go (shape payload)
-  where
-    by-bits : (first last : Bool) (head : ℕ) → Sayable (fragmented run first last head (drop 2 payload))
-    by-bits true true head = refl
-    by-bits true false head = refl
-    by-bits false last head = refl
-
-    go : (s : Shape) → Sayable (feedBy s run payload)
-    go short = refl
-    go (unknown t) = refl
-    go plain = refl
-    go aggregate = handing-sayable none [] (unpack payload) (unpack-sayable payload)
-    go (fragment first last head) = by-bits first last head
-
 -- ---- what a call with a packet says
+
+-- the packet's reader and H.264's checks refuse by numbers of the paper
+reads-sayable : (packet : List ℕ) (x : Said PacketReading) → Sayable x → Sayable (arrivedIn packet x)
+reads-sayable packet (refused r) s = passed {A = PacketReading} {r = r} s
+reads-sayable packet (says r) s = refl
+
+speaks : (avc : Bool) → Speaks (choice avc)
+speaks avc =
+    record {
+      reads = λ packet. reads-sayable packet (readPacket packet) (packet-sayable packet);
+      checks = λ p. check-sayable (p .payload);
+      feeds = λ run x. refl;
+    }
 
 abbrev Fine : Stepped → Type 0
 Fine st = Sayable (st .answer)
 
-both-fine : (x y : Stepped) (b : Bool) → Fine x → Fine y → Fine (cond b x y)
-both-fine = tested (λ (st : Stepped). st .answer)
-
-module _ (j : Joiner) (gather out : List ℕ) where
-  fed-fine : (d number : ℕ) (x : Said Fed) → Sayable x → Fine (fedBy j d number gather out x)
-  fed-fine d number (refused r) s = passed {A = Fed} {r = r} s
-  fed-fine d number (says f) s = go (layFed false gather out f) (layFed false gather out f .answer) (fed-sayable false gather out f)
-    where
-      go : (l : Laid ℕ) (a : Said ℕ) → Sayable a → Fine (laidBy j d number (f .run) l a)
-      go l (says n) s = refl
-      go l (refused r) s = passed {A = ℕ} {r = r} s
-
-  distance-fine : (d number : ℕ) (payload : List ℕ) → Fine (byDistance j d number payload gather out)
-  distance-fine d number payload =
-      let on : Stepped = fedBy j d number gather out (feed (runAt j d gather) payload) in
-      both-fine (unchanged j gather out (says late)) (cond (ltb 4294967295 (j .missed + d)) (unchanged j gather out (refuse 24)) on)
-      (leb 32768 d) refl
-      (both-fine (unchanged j gather out (refuse 24)) on (ltb 4294967295 (j .missed + d)) refl
-      (fed-fine d number (feed (runAt j d gather) payload) (feed-sayable (runAt j d gather) payload)))
-
-  reading-fine : (packet : List ℕ) (x : Said PacketReading) → Sayable x → Fine (byReading j packet gather out x)
-  unfolding bySource
-  reading-fine packet (refused r) s = passed {A = PacketReading} {r = r} s
-  reading-fine packet (says r) s =
-      let payload : List ℕ = part packet (r .payload .place) (r .payload .len) in
-      let d : ℕ = distanceOf (r .fields .number) (j .awaited) in
-      both-fine (byDistance j d (r .fields .number) payload gather out) (unchanged j gather out (refuse 20))
-      (eqb (r .fields .source) (j .source)) (distance-fine d (r .fields .number) payload) refl
-
-  join-fine : (packet : List ℕ) → Fine (joinStep j packet gather out)
-  unfolding joinStep
-  join-fine packet =
-      let on : Stepped = byReading j packet gather out (readPacket packet) in
-      both-fine (unchanged j gather out (refuse 22)) (cond (outside (j .gathered) gather) (unchanged j gather out (refuse 8)) on)
-      (j .closed) refl
-      (both-fine (unchanged j gather out (refuse 8)) on (outside (j .gathered) gather) refl
-      (reading-fine packet (readPacket packet) (packet-sayable packet)))
+join-fine : (j : Joiner) (gather out packet : List ℕ) → Fine (joinStep j packet gather out)
+unfolding joinStep
+join-fine j gather out packet = step-sayable (choiceOf j) (speaks (avcOf j)) (keptOf j) gather out packet
 
 -- ---- joining
 
@@ -186,7 +139,9 @@ closingOf-heard : (a : Closing) → closingOf (closingHeard a) ≡ a
 closingOf-heard a = ap (λ (c : Closed). record { joiner = a .joiner; answer = c }) (closedOf-said (a .answer))
 
 heard-closingOf : (j : Joiner) (number : ℕ) → closingHeard (closingOf (closeStep j number)) ≡ closeStep j number
-heard-closingOf j number = closing-cases (λ (st : ClosingStepped). closingHeard (closingOf st) ≡ st) j number refl refl refl refl refl
+unfolding closeStep
+heard-closingOf j number =
+    closing-cases (choiceOf j) (λ st. closingHeard (closingOf (asClosing st)) ≡ asClosing st) (keptOf j) number refl refl refl refl (λ d. refl)
 
 pub close-only : (j : Joiner) (number : ℕ) → Determined (λ (r : Closing). closingHeard r ≡ closeStep j number)
 close-only j number =

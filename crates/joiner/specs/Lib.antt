@@ -1,4 +1,3 @@
 pub mod Join
 pub mod Said
-pub mod General
 pub mod Sent

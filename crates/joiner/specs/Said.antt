@@ -6,6 +6,8 @@ use Rattle.error.specs.Refusal.{refusalOf}
 use Rattle.error.specs.Said.{Said, says, refused}
 use Rattle.sequence.specs.Number.{nextOf}
 use Rattle.nal.specs.Ran.{RanOn}
+use Rattle.joiner_feed.specs.declared.Run.{Run}
+use Rattle.joiner_step.specs.Step.{Accepted, Answer, accepted, late}
 use Rattle.joiner.specs.declared.Joiner.{Joiner}
 use Rattle.joiner.specs.declared.Joined.{Joined}
 use Rattle.joiner.specs.declared.Joined.the-variants as joined
@@ -13,7 +15,7 @@ use Rattle.joiner.specs.declared.Step.{Step}
 use Rattle.joiner.specs.declared.Closed.{Closed}
 use Rattle.joiner.specs.declared.Closed.the-variants as closed
 use Rattle.joiner.specs.declared.Closing.{Closing}
-use Rattle.joiner.specs.Join.{Accepted, Answer, accepted, late, Stepped, ClosingStepped}
+use Rattle.joiner.specs.Join.{Stepped, ClosingStepped}
 
 abbrev pub saidJoined : Joined → Said Answer
 saidJoined (joined.Accepted first count bytes) = says (accepted (record { first = first; count = count; bytes = bytes }))
@@ -28,12 +30,19 @@ abbrev pub placeHeard : Joiner → Joined → List ℕ → List ℕ → Stepped
 placeHeard j r gather out = record { joiner = j; answer = saidJoined r; gather = gather; out = out }
 
 -- what an accepted packet's fate makes of the record and of the answer
-abbrev pub acceptedJoiner : Joiner → ℕ → ℕ → Said RanOn → Joiner
+abbrev pub acceptedJoiner : Joiner → ℕ → ℕ → Said (RanOn Run) → Joiner
 acceptedJoiner j number missed (says r) =
-    record { source = j .source; awaited = nextOf number; missed = missed; gathered = r .gathered; closed = false }
+    record {
+      source = j .source;
+      awaited = nextOf number;
+      missed = missed;
+      running = r .run .running;
+      gathered = r .run .gathered;
+      closed = false;
+    }
 acceptedJoiner j number missed (refused r) = j
 
-abbrev pub acceptedAnswer : Joiner → ℕ → Said RanOn → Said Answer
+abbrev pub acceptedAnswer : Joiner → ℕ → Said (RanOn Run) → Said Answer
 acceptedAnswer j d (says r) = says (accepted (record { first = j .awaited; count = d; bytes = r .bytes }))
 acceptedAnswer j d (refused r) = refused r
 

@@ -1,15 +1,14 @@
 -- Groups of H.264 payloads as RFC 6184 lays them out, from whatever sender. Assumes nothing.
 use mathlib.Core.Path.{_≡_}
-use mathlib.Core.Bool.{Bool}
 use mathlib.Core.List.{List, [], _∷_, _++_, map}
 use Prim.Native.Nat.{ℕ, _+_, _*_, _/_, _%_, _≤_}
 use lib.ListN.{length, getD}
 use Rattle.wire.specs.Each.{Each}
 use Rattle.wire.specs.Packets.{joined}
-use Rattle.nal_read.specs.Unpack.{sizedUnits, Sized}
-use Rattle.nal.specs.Fed.{prefixed}
-use Rattle.sequence.specs.Group.{Group}
-use Rattle.joiner.specs.General.{Units}
+use Rattle.nal.specs.Unpack.{sizedUnits, Sized}
+use Rattle.sequence.specs.Group.{Group, mapGroup}
+use Rattle.joiner_step.specs.Run.{Units}
+use Rattle.joiner.specs.Join.{Known, known}
 
 -- "A group is one STAP-A, one plain unit, or all fragments of one unit"
 pub data Sent : Type 0 where
@@ -43,6 +42,10 @@ groupOf (fragmented head first between last) =
       handed = (head % 128 ∷ body first between last) ∷ [];
     }
 
+-- of which the joiner knows this
+abbrev pub knownGroup : Group (List ℕ) Units → Group Known Units
+knownGroup g = mapGroup known g
+
 abbrev pub groupsOf : List Sent → List (Group (List ℕ) Units)
 groupsOf sents = map groupOf sents
 
@@ -51,10 +54,6 @@ abbrev pub gatheredOf : Sent → ℕ
 gatheredOf (aggregated head unit others) = 0
 gatheredOf (alone unit) = 0
 gatheredOf (fragmented head first between last) = length (body first between last)
-
--- how many bytes are handed out for it, "prefixes included"
-abbrev pub handedLength : Bool → Sent → ℕ
-handedLength avc s = length (prefixed avc (groupOf s .handed))
 
 -- none of the parts is empty
 abbrev pub NoneEmpty : Units → Type 0

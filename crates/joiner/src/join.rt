@@ -1,13 +1,14 @@
 // The joiner's calls.
 ghost use mathlib.Core.Path.{_≡_};
-ghost use mathlib.Core.Bool.{false, cond};
+ghost use mathlib.Core.Bool.{true, false, cond};
 ghost use Prim.Native.Nat.{_+_, _≤_};
 ghost use lib.Dec.{eqb};
 ghost use lib.ListN.{length};
 ghost use Rattle.error.specs.Refusal.{refusalOf};
 ghost use Rattle.error.specs.Said.{refused};
-ghost use Rattle.joiner.specs.Join.{opened, bySource, joinStep, closeStep};
-ghost use Rattle.nal.specs.Ran.{ranSaid};
+ghost use Rattle.joiner_step.specs.Step.{bySource, stray};
+ghost use Rattle.joiner_feed.specs.Ran.{ranSaid};
+ghost use Rattle.joiner.specs.Join.{keptOf, asStep, known, choiceOf, opened, joinStep, closeStep};
 ghost use Rattle.joiner.specs.Said.{saidJoined, stepHeard, acceptedJoiner, acceptedAnswer, closingHeard};
 use crate::Closed;
 use crate::Closing;
@@ -15,10 +16,15 @@ use crate::Joined;
 use crate::Joiner;
 use crate::Step;
 use error::Error;
+use joiner_feed::Ran;
+use joiner_feed::Run;
 use joiner_feed::feed;
+use joiner_feed::no_run;
 use joiner_read::Arrival;
 use joiner_read::arrive;
-use nal::Ran;
+
+// "handed out as Annex B": behind a start code, and not behind a 4-byte length.
+const IS_AVC: bool = false;
 
 fn sum(n: u32, d: u16) -> u64
     ensures { λ r. ⌜ r ≡ n + d ⌝ }
@@ -34,9 +40,23 @@ impl Joiner {
             source: ssrc,
             awaited: first,
             missed: 0,
+            running: false,
             gathered: 0,
             closed: false,
         }
+    }
+
+    // Something of a run is said where none is open: no call makes such a record.
+    fn strays(self) -> bool
+        ensures { λ r. ⌜ r ≡ stray (choiceOf self) (keptOf self .run) ⌝ }
+    {
+        if self.running {
+            return false;
+        }
+        if self.gathered == 0 {
+            return false;
+        }
+        true
     }
 
     // "A refusal .. changes no buffer and no state"; nor does Late.
@@ -49,17 +69,31 @@ impl Joiner {
         }
     }
 
+    // "d > 0 drops the open run"
+    fn run_at(self, d: u16) -> Run
+        ensures { λ r. ⌜ r ≡ cond (eqb d 0) (record { running = self .running; gathered = self .gathered }) (record { running = false; gathered = 0 }) ⌝ }
+    {
+        if d == 0 {
+            return Run {
+                running: self.running,
+                gathered: self.gathered,
+            };
+        }
+        no_run()
+    }
+
     // A packet of the sender's was accepted after `d` numbers were passed over.
     fn accept(self, d: u16, number: u16, missed: u32, ran: Ran) -> Step
         ensures { λ r. ⌜ (r .joiner ≡ acceptedJoiner self number missed (ranSaid ran)) × (saidJoined (r .answer) ≡ acceptedAnswer self d (ranSaid ran)) ⌝ }
     {
         match ran {
-            Ran::On { gathered, bytes } => Step {
+            Ran::On { run, bytes } => Step {
                 joiner: Joiner {
                     source: self.source,
                     awaited: sequence::after(number),
                     missed,
-                    gathered,
+                    running: run.running,
+                    gathered: run.gathered,
                     closed: false,
                 },
                 answer: Joined::Accepted {
@@ -82,7 +116,7 @@ impl Joiner {
         out: &mut [u8],
     ) -> Step
         requires { ⌜ (length (now payload) ≤ 65535) × (self .gathered ≤ length (now gather)) × (self .closed ≡ false) ⌝ }
-        ensures { λ r. ⌜ stepHeard r (now (gather .exit)) (now (out .exit)) ≡ bySource self source number (now (payload .entry)) (now (gather .entry)) (now (out .entry)) ⌝ }
+        ensures { λ r. ⌜ stepHeard r (now (gather .exit)) (now (out .exit)) ≡ asStep (bySource (choiceOf self) (keptOf self) (record { source = source; number = number; known = known (now (payload .entry)) }) (now (gather .entry)) (now (out .entry))) ⌝ }
     {
         if source != self.source {
             return self.unchanged(Joined::Refused(Error::OtherSource));
@@ -95,8 +129,7 @@ impl Joiner {
         if 4294967295 < missed {
             return self.unchanged(Joined::Refused(Error::MissedTotalFull));
         }
-        let run = held(self.gathered, d);
-        let ran = feed(run, payload, gather, out);
+        let ran = feed(self.run_at(d), IS_AVC, payload, gather, out);
         self.accept(d, number, missed as u32, ran)
     }
 
@@ -111,6 +144,9 @@ impl Joiner {
             return self.unchanged(Joined::Refused(Error::OutsideDomain));
         }
         if 16777215 < gathered {
+            return self.unchanged(Joined::Refused(Error::OutsideDomain));
+        }
+        if self.strays() {
             return self.unchanged(Joined::Refused(Error::OutsideDomain));
         }
         let arrival = arrive(packet);
@@ -134,6 +170,9 @@ impl Joiner {
         if 16777215 < self.gathered {
             return still_open(self, Error::OutsideDomain);
         }
+        if self.strays() {
+            return still_open(self, Error::OutsideDomain);
+        }
         let d = sequence::distance(number, self.awaited);
         if 32768 <= d {
             return still_open(self, Error::ClosingTooFar);
@@ -147,6 +186,7 @@ impl Joiner {
                 source: self.source,
                 awaited: self.awaited,
                 missed: missed as u32,
+                running: false,
                 gathered: 0,
                 closed: true,
             },
@@ -156,13 +196,6 @@ impl Joiner {
             },
         }
     }
-}
-
-// "d > 0 drops the open run"
-fn held(gathered: usize, d: u16) -> usize
-    ensures { λ r. ⌜ r ≡ cond (eqb d 0) gathered 0 ⌝ }
-{
-    if d == 0 { gathered } else { 0 }
 }
 
 fn still_open(joiner: Joiner, e: Error) -> Closing

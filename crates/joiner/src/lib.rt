@@ -16,6 +16,8 @@ pub struct Joiner {
     pub awaited: u16,
     // how many packets were passed over
     pub missed: u32,
+    // a run is open: fragments of a unit were gathered, and its last is still to come
+    pub running: bool,
     // how many bytes of the open run stand in front of the gather buffer; 0 where no run is open: 0 to 16,777,215
     pub gathered: usize,
     // closed: every call answers 22

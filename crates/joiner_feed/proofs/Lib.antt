@@ -1,1 +1,4 @@
 pub mod Feeding
+pub mod Owing
+pub mod Sayable
+pub mod Toy

@@ -1,1 +1,3 @@
-pub mod Codec
+pub mod Content
+pub mod H264
+pub mod Ran

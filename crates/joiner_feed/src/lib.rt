@@ -1,21 +1,66 @@
-// What a payload does to the open run.
+// What a payload holds, and what that does to the open run.
 //
 // Only proved code calls this crate, so its function may ask that the run lies in the gather buffer.
 ghost use mathlib.Core.Path.{_≡_};
+ghost use mathlib.Core.Bool.{true, false};
 ghost use Prim.Native.Nat.{_≤_};
 ghost use lib.ListN.{length, drop};
-ghost use mathlib.Core.Bool.{false};
-ghost use Rattle.nal.specs.Ran.{ranHeard, layRun};
-ghost use Rattle.joiner_feed.specs.Codec.{fragmented};
-ghost use Rattle.joiner_feed.specs.Codec.{feed as feedOf};
-ghost use Rattle.nal.specs.Fed.{runOf};
+ghost use Rattle.nal.specs.Said.{saidHanded};
+ghost use Rattle.nal.specs.Ran.{withRun};
+ghost use Rattle.joiner_feed.specs.Content.{fedAfter};
+ghost use Rattle.joiner_feed.specs.H264.{fragmented, check};
+ghost use Rattle.joiner_feed.specs.Ran.{runOf, ranSaid, ranHeard, layDoes};
 use error::Error;
-use nal::Ran;
+use nal::Handed;
 use nal_read::Kind;
 
-// A fragment. `run` bytes are gathered, 0 for no run.
+// A run as a record keeps it; its bytes stand in front of the gather buffer.
+pub struct Run {
+    // a run is open
+    pub running: bool,
+    // how many bytes are gathered; 0 where no run is open
+    pub gathered: usize,
+}
+
+// What became of a payload: the run that is now open, and how many bytes were handed out.
+pub enum Ran {
+    On { run: Run, bytes: usize },
+    Refused(Error),
+}
+
+// No run is open.
+pub fn no_run() -> Run
+    ensures { λ r. ⌜ r ≡ record { running = false; gathered = 0 } ⌝ }
+{
+    Run {
+        running: false,
+        gathered: 0,
+    }
+}
+
+fn open_run(gathered: usize) -> Run
+    ensures { λ r. ⌜ r ≡ record { running = true; gathered = gathered } ⌝ }
+{
+    Run {
+        running: true,
+        gathered,
+    }
+}
+
+// The answer of gathering or handing out, where this run is open afterwards.
+fn with_run(handed: Handed, run: Run) -> Ran
+    ensures { λ r. ⌜ ranSaid r ≡ withRun run (saidHanded handed) ⌝ }
+{
+    match handed {
+        Handed::Bytes(bytes) => Ran::On { run, bytes },
+        Handed::Refused(e) => Ran::Refused(e),
+    }
+}
+
+// A fragment, whose data follow two bytes.
 fn feed_fragment(
-    run: usize,
+    run: Run,
+    avc: bool,
     first: bool,
     last: bool,
     head: u8,
@@ -23,40 +68,45 @@ fn feed_fragment(
     gather: &mut [u8],
     out: &mut [u8],
 ) -> Ran
-    requires { ⌜ (3 ≤ length (now payload)) × (length (now payload) ≤ 65535) × (run ≤ length (now gather)) ⌝ }
-    ensures { λ r. ⌜ ranHeard r (now (gather .exit)) (now (out .exit)) ≡ layRun false (now (gather .entry)) (now (out .entry)) (fragmented (runOf run (now (gather .entry))) first last head (drop 2 (now (payload .entry)))) ⌝ }
+    requires { ⌜ (2 ≤ length (now payload)) × (length (now payload) ≤ 65535) × (run .gathered ≤ length (now gather)) ⌝ }
+    ensures { λ r. ⌜ ranHeard r (now (gather .exit)) (now (out .exit)) ≡ layDoes avc (now (gather .entry)) (now (out .entry)) (fedAfter (runOf run (now (gather .entry))) (fragmented first last head (drop 2 (now (payload .entry))))) ⌝ }
 {
+    let at = run.gathered;
     let n = payload.len() - 2;
     if first {
         if last {
             return Ran::Refused(Error::StartAndEnd);
         }
-        return nal::with_run(nal::gather_on(payload, 0, gather), n);
+        return with_run(nal::gather_on(&payload[2..], 0, gather), open_run(n));
     }
-    if run == 0 {
+    if !run.running {
         return Ran::On {
-            gathered: 0,
+            run: no_run(),
             bytes: 0,
         };
     }
     if last {
-        return nal::with_run(nal::finish(payload, run, head, false, gather, out), 0);
+        let header = [head];
+        return with_run(
+            nal::finish(&payload[2..], at, &header, avc, gather, out),
+            no_run(),
+        );
     }
-    nal::with_run(nal::gather_on(payload, run, gather), run + n)
+    with_run(nal::gather_on(&payload[2..], at, gather), open_run(at + n))
 }
 
-pub fn feed(run: usize, payload: &[u8], gather: &mut [u8], out: &mut [u8]) -> Ran
-    requires { ⌜ (length (now payload) ≤ 65535) × (run ≤ length (now gather)) ⌝ }
-    ensures { λ r. ⌜ ranHeard r (now (gather .exit)) (now (out .exit)) ≡ layRun false (now (gather .entry)) (now (out .entry)) (feedOf (runOf run (now (gather .entry))) (now (payload .entry))) ⌝ }
+pub fn feed(run: Run, avc: bool, payload: &[u8], gather: &mut [u8], out: &mut [u8]) -> Ran
+    requires { ⌜ (length (now payload) ≤ 65535) × (run .gathered ≤ length (now gather)) ⌝ }
+    ensures { λ r. ⌜ ranHeard r (now (gather .exit)) (now (out .exit)) ≡ layDoes avc (now (gather .entry)) (now (out .entry)) (fedAfter (runOf run (now (gather .entry))) (check (now (payload .entry)))) ⌝ }
 {
     let kind = nal_read::kind_of(payload);
     match kind {
         Kind::Short => Ran::Refused(Error::ErrShortPacket),
         Kind::Unknown(t) => Ran::Refused(Error::NaluTypeIsNotHandled(t)),
-        Kind::Plain => nal::run_plain(payload, false, 0, out),
-        Kind::Aggregate => nal::run_units(payload, false, 0, out),
+        Kind::Plain => with_run(nal::hand_plain(payload, avc, out), no_run()),
+        Kind::Aggregate => with_run(nal_read::hand_stap_a(payload, avc, out), no_run()),
         Kind::Fragment { first, last, head } => {
-            feed_fragment(run, first, last, head, payload, gather, out)
+            feed_fragment(run, avc, first, last, head, payload, gather, out)
         }
     }
 }

@@ -1,72 +1,91 @@
--- Each way is one of the four ways of `fragmented`.
-use mathlib.Core.Path.{_≡_, sym, ap, ap₂, _∙_}
-use mathlib.Core.Bool.{Bool, false}
-use mathlib.Core.List.{List, _++_}
-use Prim.Native.Nat.{ℕ, _+_, _-_}
-use lib.ListN.{length, take, drop, length-drop}
+-- Each way is one of the ways of `fragmented`, and of `fed` behind it.
+use mathlib.Core.Path.{_≡_, refl, sym, ap, _∙_}
+use mathlib.Core.Bool.{Bool, true, false, not, Bool·not-not}
+use mathlib.Core.List.{List, [], _∷_, _++_}
+use Prim.Native.Nat.{ℕ}
+use native.Mathlib.Omega.{arith}
+use lib.ListN.{take, drop, length-drop}
 use borrow.Author.Needs.{needs}
-use borrow.Author.Tests.{eq-eqb, ne-eqb}
 use Rattle.error.specs.Said.{says}
-use Rattle.nal.specs.Fed.{Run, none, gathering, runOf}
-use Rattle.nal.specs.Ran.{layRun}
-use Rattle.nal.proofs.Handing.{length-gathered}
+use Rattle.nal.specs.Fed.{layGather, layBoth, Laid}
+use Rattle.nal.specs.Said.{saidHanded}
+use Rattle.nal.specs.Ran.{RanOn, withRun}
+use Rattle.nal.proofs.Handing.{rest-of, length-gathered}
 use Rattle.nal.proofs.Running.{ongoing-heard, finished-heard}
-use Rattle.joiner_feed.specs.Codec.{fragmented, continued}
+use Rattle.joiner_step.specs.Run.{none, gathering, hands}
+use Rattle.joiner_feed.specs.declared.Run.{Run}
+use Rattle.joiner_feed.specs.Content.{fedAfter}
+use Rattle.joiner_feed.specs.H264.{fragmented}
+use Rattle.joiner_feed.specs.Ran.{runOf, recorded, layDoes}
 use Rattle.joiner_feed.proofs.Feeding.{run-idle}
 use Rattle.joiner_feed.proofs.feed_fragment.Statement.{statement}
 use Rattle.joiner_feed.proofs.feed_fragment.Tie as tie
 
+-- what a fragment does, laid into both buffers, by the three things that the code tests
+abbrev laid : tie.Start → (first last running : Bool) → Laid (RanOn Run)
+laid c first last running =
+    layDoes (c .args .avc) (c .args .gather .now) (c .args .out .now)
+    (fedAfter (runOf (record { running = running; gathered = c .args .run .gathered }) (c .args .gather .now)) (fragmented first last (c .args .head) (drop 2 (c .args .payload .now))))
+
+tested : (c : tie.Start) (first last running : Bool) → c .args .first ≡ first → c .args .last ≡ last → c .args .run .running ≡ running →
+    laid c first last running ≡ laid c (c .args .first) (c .args .last) (c .args .run .running)
+tested c first last running e f g = sym (λ i. laid c (e i) (f i) (g i))
+
+-- a later fragment without a run, the last or not
+without-run : (c : tie.Start) (last : Bool) →
+    laid c false last false ≡ layDoes (c .args .avc) (c .args .gather .now) (c .args .out .now) (says (hands []))
+without-run c true = refl
+without-run c false = refl
+
+not-back : {a b : Bool} → not a ≡ b → a ≡ not b
+not-back {a} e = sym (Bool·not-not a) ∙ ap not e
+
 returns : tie.Need-returns
-returns c =
-    let a = c .before .before .before .before .before .args in
-    sym
-    (ap₂ (λ (f l : Bool). layRun false (a .gather .now) (a .out .now) (fragmented (runOf (a .run) (a .gather .now)) f l (a .head) (drop 2 (a .payload .now))))
-    (c .before .if1 .taken) (c .if2 .taken))
+returns c = tested (c .before .before .before .before .before) true true _ (c .before .if1 .taken) (c .if2 .taken) refl
 
 returns-2 : tie.Need-returns-2
 returns-2 c =
-    let a = c .before .before .before .before .before .before .before .before .before .before .args in
-    let g = a .gather .now in
-    let o = a .out .now in
-    let p = a .payload .now in
-    ongoing-heard false g o (drop 2 p) (length p - 2) _ _ _ (c .with-run .ensures) (c .before .before .before .gather-on .ensures) (sym (length-drop 2 p))
-    ∙ sym
-    (ap₂ (λ (f l : Bool). layRun false g o (fragmented (runOf (a .run) g) f l (a .head) (drop 2 p))) (c .before .before .before .before .before .before .if1 .taken) (c .before .before .before .before .before .if2 .left))
-
--- not the first fragment: the run decides
-later : (g o p : List ℕ) (run : ℕ) (first last : Bool) (head : ℕ) (r : Run) → first ≡ false → runOf run g ≡ r →
-    layRun false g o (fragmented (runOf run g) first last head (drop 2 p)) ≡ layRun false g o (says (continued r last head (drop 2 p)))
-later g o p run first last head r e k =
-    ap₂ (λ (f : Bool) (x : Run). layRun false g o (fragmented x f last head (drop 2 p))) e k
+    let s = c .before .before .before .before .before .before .before .before .before .before .before .before in
+    let g = s .args .gather .now in
+    let p = s .args .payload .now in
+    let part = drop 2 p in
+    ongoing-heard recorded (s .args .avc) g (s .args .out .now) (gathering tt part) part _ _ _ _ (c .with-run .ensures)
+    (c .before .before .before .before .gather-on .ensures ∙ ap (layGather g) (rest-of 2 p))
+    (c .before .open-run .ensures ∙ ap (λ (n : ℕ). record { running = true; gathered = n }) (sym (length-drop 2 p)))
+    ∙ tested s true false _ (c .before .before .before .before .before .before .before .before .if1 .taken) (c .before .before .before .before .before .before .before .if2 .left) refl
 
 returns-3 : tie.Need-returns-3
 returns-3 c =
-    let a = c .before .before .before .before .before .args in
-    sym
-    (later (a .gather .now) (a .out .now) (a .payload .now) (a .run) (a .first) (a .last) (a .head) none (c .before .if1 .left) (rw (eq-eqb _ 0 (c .if3 .taken)))
-    ∙ run-idle (a .gather .now) (a .out .now))
+    let s = c .before .before .before .before .before .before .before in
+    ap (λ (k : Run). record { answer = says (record { run = k; bytes = 0 }); gather = s .args .gather .now; out = s .args .out .now }) (c .no-run .ensures)
+    ∙ sym (run-idle (s .args .avc) (s .args .gather .now) (s .args .out .now))
+    ∙ sym (without-run s (s .args .last))
+    ∙ tested s false _ false (c .before .before .before .if1 .left) refl (not-back (c .before .if3 .taken))
 
 returns-4 : tie.Need-returns-4
 returns-4 c =
-    let a = c .before .before .before .before .before .before .before .before .before .before .before .before .before .before .args in
-    let g = a .gather .now in
-    let o = a .out .now in
-    let p = a .payload .now in
-    finished-heard false g o (a .head) (take (a .run) g ++ drop 2 p) _ _ _ _ (c .with-run2 .ensures) (c .before .before .before .before .before .finish .ensures)
-    ∙ sym
-    (later g o p (a .run) (a .first) (a .last) (a .head) (gathering (take (a .run) g)) (c .before .before .before .before .before .before .before .before .before .before .if1 .left) (rw (ne-eqb _ 0 (c .before .before .before .before .before .before .before .before .before .if3 .left)))
-    ∙ ap (λ (l : Bool). layRun false g o (says (continued (gathering (take (a .run) g)) l (a .head) (drop 2 p)))) (c .before .before .before .before .before .before .before .before .if4 .taken))
+    let s = c .before .before .before .before .before .before .before .before .before .before .before .before .before .before .before .before .before .before in
+    let g = s .args .gather .now in
+    let o = s .args .out .now in
+    let p = s .args .payload .now in
+    let at = s .args .run .gathered in
+    let bytes = take at g ++ drop 2 p in
+    finished-heard recorded (s .args .avc) g o none (s .args .head ∷ []) bytes _ (saidHanded (c .before .before .before .before .before .before .finish .result)) _ _
+    (c .with-run2 .ensures ∙ ap (λ (k : Run). withRun k (saidHanded (c .before .before .before .before .before .before .finish .result))) (c .before .no-run2 .ensures))
+    (c .before .before .before .before .before .before .finish .ensures ∙ ap (λ (l : List ℕ). layBoth (s .args .avc) g o (take at g ++ l) ((s .args .head ∷ take at g ++ l) ∷ [])) (rest-of 2 p))
+    ∙ tested s false true true (c .before .before .before .before .before .before .before .before .before .before .before .before .before .before .if1 .left) (c .before .before .before .before .before .before .before .before .before .before .before .if4 .taken) (not-back (c .before .before .before .before .before .before .before .before .before .before .before .before .if3 .left))
 
 returns-5 : tie.Need-returns-5
 returns-5 c =
-    let a = c .before .before .before .before .before .before .before .before .before .before .before .args in
-    let g = a .gather .now in
-    let o = a .out .now in
-    let p = a .payload .now in
-    ongoing-heard false g o (take (a .run) g ++ drop 2 p) (a .run + (length p - 2)) _ _ _ (c .with-run3 .ensures) (c .before .before .before .gather-on2 .ensures) (sym (length-gathered g p (a .run) (search needs)))
-    ∙ sym
-    (later g o p (a .run) (a .first) (a .last) (a .head) (gathering (take (a .run) g)) (c .before .before .before .before .before .before .before .if1 .left) (rw (ne-eqb _ 0 (c .before .before .before .before .before .before .if3 .left)))
-    ∙ ap (λ (l : Bool). layRun false g o (says (continued (gathering (take (a .run) g)) l (a .head) (drop 2 p)))) (c .before .before .before .before .before .if4 .left))
+    let s = c .before .before .before .before .before .before .before .before .before .before .before .before .before .before in
+    let g = s .args .gather .now in
+    let p = s .args .payload .now in
+    let at = s .args .run .gathered in
+    let bytes = take at g ++ drop 2 p in
+    ongoing-heard recorded (s .args .avc) g (s .args .out .now) (gathering tt bytes) bytes _ _ _ _ (c .with-run3 .ensures)
+    (c .before .before .before .before .gather-on2 .ensures ∙ ap (λ (l : List ℕ). layGather g (take at g ++ l)) (rest-of 2 p))
+    (c .before .open-run2 .ensures ∙ ap (λ (n : ℕ). record { running = true; gathered = n }) (omega (arith, length-gathered g (drop 2 p) at (search needs), length-drop 2 p)))
+    ∙ tested s false false true (c .before .before .before .before .before .before .before .before .before .before .if1 .left) (c .before .before .before .before .before .before .before .if4 .left) (not-back (c .before .before .before .before .before .before .before .before .if3 .left))
 
 pub feed-fragment-spec : {M : Type 1} → statement M
 feed-fragment-spec =
@@ -74,18 +93,32 @@ feed-fragment-spec =
     (tie.spec
     (λ c. search needs)
     returns
+    (λ c. search needs)
+    (λ c. search needs)
+    (λ c. search needs)
+    (λ c κs. search needs)
     (λ c κs. search needs)
     (λ c κs. search needs)
     (λ c. search needs)
     returns-2
+    (λ c κs. search needs)
     returns-3
+    (λ c. search needs)
+    (λ c. search needs)
+    (λ c. search needs)
+    (λ c. search needs)
+    (λ c κs. search needs)
     (λ c κs. search needs)
     (λ c κs. search needs)
     (λ c. search needs)
     (λ c. search needs)
     returns-4
+    (λ c. search needs)
+    (λ c. search needs)
+    (λ c. search needs)
     (λ c κs. search needs)
     (λ c. search needs)
+    (λ c κs. search needs)
     (λ c κs. search needs)
     (λ c. search needs)
     returns-5)

@@ -3,8 +3,8 @@ use mathlib.Core.Path.{sym, ap, _∙_}
 use mathlib.Core.Bool.{false}
 use Prim.Native.Nat.{ℕ}
 use borrow.Author.Needs.{needs}
-use Rattle.nal.specs.declared.Ran.{Ran}
-use Rattle.nal.specs.Ran.{ranSaid}
+use Rattle.joiner_feed.specs.declared.Ran.{Ran}
+use Rattle.joiner_feed.specs.Ran.{ranSaid}
 use Rattle.joiner.specs.declared.Step.{Step}
 use Rattle.joiner.specs.Said.{saidJoined, acceptedJoiner, acceptedAnswer}
 use Rattle.joiner.proofs.Joiner.accept.Statement.{statement}
@@ -14,7 +14,7 @@ returns : tie.Need-returns
 returns c =
     let a = c .before .before .before .before .args in
     let told = c .before .before .ran .given .1 in (
-      ap (λ (n : ℕ). record { source = a .self .source; awaited = n; missed = a .missed; gathered = c .before .before .ran .given .0 .0; closed = false }) (c .after .ensures)
+      ap (λ (n : ℕ). record { source = a .self .source; awaited = n; missed = a .missed; running = c .before .before .ran .given .0 .0 .running; gathered = c .before .before .ran .given .0 .0 .gathered; closed = false }) (c .after .ensures)
           ∙ sym (ap (λ (r : Ran). acceptedJoiner (a .self) (a .number) (a .missed) (ranSaid r)) told),
       sym (ap (λ (r : Ran). acceptedAnswer (a .self) (a .d) (ranSaid r)) told),
     )

@@ -2,20 +2,24 @@
 use mathlib.Core.Path.{_≡_, sym, ap, ap₂, _∙_}
 use mathlib.Core.Bool.{false}
 use mathlib.Core.List.{List}
-use Prim.Native.Nat.{ℕ, _+_, _≤_, _<_}
+use Prim.Native.Nat.{ℕ, _+_, _<_}
 use native.Mathlib.Omega.{arith}
-use lib.Dec.{eqb}
 use borrow.Author.Needs.{needs}
 use Rattle.error.specs.Said.{Said}
 use Rattle.sequence.specs.Number.{distanceOf}
-use Rattle.nal.specs.Fed.{Run, runOf}
-use Rattle.nal.specs.Ran.{layRun}
-use Rattle.joiner_feed.specs.Codec.{feed}
+use Rattle.joiner_step.specs.Run.{Run}
+use Rattle.joiner_step.specs.Choice.{Arrived}
+use Rattle.joiner_step.specs.Step.{Answer, runAt, byDistance, bySource}
+use Rattle.joiner_step.proofs.Stages.{source-own, source-other, distance-late, distance-full, distance-near}
+use Rattle.joiner_feed.specs.declared.Run as feed
+use Rattle.joiner_feed.specs.Content.{Note, fedAfter}
+use Rattle.joiner_feed.specs.H264.{check}
+use Rattle.joiner_feed.specs.Ran.{runOf, layDoes}
 use Rattle.joiner.specs.declared.Joiner.{Joiner}
 use Rattle.joiner.specs.declared.Step.{Step}
-use Rattle.joiner.specs.Join.{Answer, Stepped, runAt, byDistance, bySource}
+use Rattle.joiner.specs.Join.{keptOf, Stepped, asStep, Known, known, choiceOf}
 use Rattle.joiner.specs.Said.{stepHeard}
-use Rattle.joiner.proofs.Joining.{steppedWith, run-held, held-le, source-other, source-own, distance-late, distance-full, distance-fed}
+use Rattle.joiner.proofs.Joining.{stepped, checked-is, held-is, held-le}
 use Rattle.joiner.proofs.Joiner.arrived.Statement.{statement}
 use Rattle.joiner.proofs.Joiner.arrived.Tie as tie
 
@@ -36,23 +40,28 @@ room-start c = own-start (near-own (room-near c))
 abbrev joiner : tie.Start → Joiner
 joiner s = s .args .self
 
+-- what is known of the packet
+abbrev came : tie.Start → Arrived Known
+came s = record { source = s .args .source; number = s .args .number; known = known (s .args .payload .now) }
+
 abbrev far : tie.Start → ℕ
 far s = distanceOf (s .args .number) (joiner s .awaited)
 
 -- what the call is to leave
 abbrev asked : tie.Start → Stepped
-asked s = bySource (joiner s) (s .args .source) (s .args .number) (s .args .payload .now) (s .args .gather .now) (s .args .out .now)
+asked s = asStep (bySource (choiceOf (joiner s)) (keptOf (joiner s)) (came s) (s .args .gather .now) (s .args .out .now))
 
 abbrev by-distance : tie.Start → ℕ → Stepped
-by-distance s d = byDistance (joiner s) d (s .args .number) (s .args .payload .now) (s .args .gather .now) (s .args .out .now)
+by-distance s d =
+    asStep (byDistance (choiceOf (joiner s)) (keptOf (joiner s)) d (s .args .number) (known (s .args .payload .now)) (s .args .gather .now) (s .args .out .now))
 
 abbrev heard : tie.Start → Step → Stepped
 heard s r = stepHeard r (s .args .gather .now) (s .args .out .now)
 
 own : (c : tie.Else1) → asked (own-start c) ≡ by-distance (own-start c) (far (own-start c))
 own c =
-    let a = own-start c .args in
-    source-own (a .self) (a .number) (a .payload .now) (a .gather .now) (a .out .now) (a .source) (c .if1 .left)
+    let s = own-start c in
+    ap asStep (source-own (choiceOf (joiner s)) (keptOf (joiner s)) (s .args .gather .now) (s .args .out .now) (came s) (c .if1 .left))
 
 near : (c : tie.Else2) → far (own-start (near-own c)) < 32768
 near c = omega (arith, c .before .distance .ensures, c .if2 .left)
@@ -66,7 +75,7 @@ returns : tie.Need-returns
 returns c =
     let s = c .before .before .before .before .before .before in
     ap (heard s) (c .unchanged .ensures)
-    ∙ sym (source-other (joiner s) (s .args .number) (s .args .payload .now) (s .args .gather .now) (s .args .out .now) (s .args .source) (c .before .if1 .taken))
+    ∙ sym (ap asStep (source-other (choiceOf (joiner s)) (keptOf (joiner s)) (s .args .gather .now) (s .args .out .now) (came s) (c .before .if1 .taken)))
 
 returns-2 : tie.Need-returns-2
 returns-2 c =
@@ -74,7 +83,8 @@ returns-2 c =
     ap (heard s) (c .unchanged2 .ensures)
     ∙ sym
     (own (c .before .before .before)
-    ∙ distance-late (joiner s) (s .args .number) (s .args .payload .now) (s .args .gather .now) (s .args .out .now) (far s) (omega (arith, c .before .before .distance .ensures, c .before .if2 .taken)))
+    ∙ ap asStep
+    (distance-late (choiceOf (joiner s)) (keptOf (joiner s)) (s .args .gather .now) (s .args .out .now) (far s) (s .args .number) (known (s .args .payload .now)) (omega (arith, c .before .before .distance .ensures, c .before .if2 .taken))))
 
 returns-3 : tie.Need-returns-3
 returns-3 c =
@@ -83,7 +93,8 @@ returns-3 c =
     ap (heard s) (c .unchanged3 .ensures)
     ∙ sym
     (own (near-own n)
-    ∙ distance-full (joiner s) (s .args .number) (s .args .payload .now) (s .args .gather .now) (s .args .out .now) (far s) (near n) (omega (arith, n .before .distance .ensures, c .before .before .sum .ensures, c .before .if3 .taken)))
+    ∙ ap asStep
+    (distance-full (choiceOf (joiner s)) (keptOf (joiner s)) (s .args .gather .now) (s .args .out .now) (far s) (s .args .number) (known (s .args .payload .now)) (near n) (omega (arith, n .before .distance .ensures, c .before .before .sum .ensures, c .before .if3 .taken))))
 
 -- ---- the payload
 
@@ -91,7 +102,7 @@ feed-requires : tie.Need-feed-requires
 feed-requires c κs =
     let room = c .before .before .before in
     let s = room-start room in
-    (search needs, omega (arith, c .before .before .held .ensures, held-le (eqb (room-near room .before .distance .result) 0) (joiner s .gathered), s .pre .1))
+    (search needs, omega (arith, ap (λ (r : feed.Run). r .gathered) (c .before .before .run-at .ensures), held-le (joiner s) (room-near room .before .distance .result), s .pre .1))
 
 returns-4 : tie.Need-returns-4
 returns-4 c =
@@ -106,16 +117,19 @@ returns-4 c =
     let o : List ℕ = s .args .out .now in
     let n = far s in
     let dist = room-near room .before .distance in
-    let run : runOf (held .held .result) g ≡ runAt j n g =
-    ap (λ (k : ℕ). runOf k g) (held .held .ensures)
-    ∙ run-held (eqb (dist .result) 0) (j .gathered) g
-    ∙ ap (λ (k : ℕ). runAt j k g) (dist .ensures) in
-    ap₂ (λ (x : Joiner) (y : Said Answer). record { joiner = x; answer = y; gather = fed .last .1 .1 .0; out = fed .last .1 .1 .1 .0 })
+    let run : runOf (held .run-at .result) g ≡ runAt (choiceOf j) (keptOf j) n g =
+    ap (λ (r : feed.Run). runOf r g) (held .run-at .ensures)
+    ∙ held-is j (dist .result) g
+    ∙ ap (λ (k : ℕ). runAt (choiceOf j) (keptOf j) k g) (dist .ensures) in
+    ap₂ (λ (x : Joiner) (y : Said Answer). record { joiner = x; answer = y; gather = fed .last .1 .1 .1 .0; out = fed .last .1 .1 .1 .1 .0 })
     (c .accept .ensures .0) (c .accept .ensures .1)
-    ∙ ap (steppedWith j number (room .before .sum .result) (dist .result)) (fed .ensures)
-    ∙ ap₂ (λ (k e : ℕ). steppedWith j number k e (layRun false g o (feed (runOf (held .held .result) g) payload))) (total room) (dist .ensures)
-    ∙ ap (λ (r : Run). steppedWith j number (j .missed + n) n (layRun false g o (feed r payload))) run
-    ∙ sym (own (near-own (room-near room)) ∙ distance-fed j number payload g o n (near (room-near room)) (omega (arith, total room, room .if3 .left)))
+    ∙ ap (stepped j number (room .before .sum .result) (dist .result)) (fed .ensures)
+    ∙ ap₂ (λ (k e : ℕ). stepped j number k e (layDoes false g o (fedAfter (runOf (held .run-at .result) g) (check payload)))) (total room) (dist .ensures)
+    ∙ ap (λ (r : Run Note). stepped j number (j .missed + n) n (layDoes false g o (fedAfter r (check payload)))) run
+    ∙ sym
+    (own (near-own (room-near room))
+    ∙ ap asStep (distance-near (choiceOf j) (keptOf j) g o n number (known payload) (near (room-near room)) (omega (arith, total room, room .if3 .left)))
+    ∙ checked-is j n number g o (check payload))
 
 pub arrived-spec : {M : Type 1} → statement M
 arrived-spec =

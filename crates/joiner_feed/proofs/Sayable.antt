@@ -1,0 +1,33 @@
+-- Each refusal of an H.264 payload's checks is one of `Error`: 4, 19, 17, 18 and 21 are. Assumes nothing.
+use mathlib.Core.Path.{refl}
+use mathlib.Core.Bool.{Bool, true, false}
+use mathlib.Core.List.{List}
+use Prim.Native.Nat.{ℕ}
+use Rattle.error.specs.Said.{Said, says, refused}
+use Rattle.error.proofs.Only.{Sayable, passed}
+use Rattle.nal_read.specs.Kind.{Shape, short, unknown, plain, aggregate, fragment, shape}
+use Rattle.nal_read.specs.Unpack.{unpack}
+use Rattle.nal_read.proofs.Sayable.{unpack-sayable}
+use Rattle.joiner_step.specs.Run.{Units}
+use Rattle.joiner_feed.specs.H264.{wholeSaid, fragmented, checkBy, check}
+
+whole-sayable : (x : Said Units) → Sayable x → Sayable (wholeSaid x)
+whole-sayable (says units) s = refl
+whole-sayable (refused r) s = passed {A = Units} {r = r} s
+
+fragmented-sayable : (first last : Bool) (head : ℕ) (part : List ℕ) → Sayable (fragmented first last head part)
+fragmented-sayable true true head part = refl
+fragmented-sayable true false head part = refl
+fragmented-sayable false true head part = refl
+fragmented-sayable false false head part = refl
+
+pub check-sayable : (payload : List ℕ) → Sayable (check payload)
+unfolding check
+check-sayable payload = go (shape payload)
+  where
+    go : (s : Shape) → Sayable (checkBy s payload)
+    go short = refl
+    go (unknown t) = refl
+    go plain = refl
+    go aggregate = whole-sayable (unpack payload) (unpack-sayable payload)
+    go (fragment first last head) = fragmented-sayable first last head _
