@@ -8,10 +8,10 @@ use Prim.Native.Nat.{ℕ, _<_}
 use lib.ListN.{length, getD}
 use Rattle.sequence.specs.Arrival.{Arrival, ours, other, isAccepted, acceptedCalls}
 use Rattle.sequence.proofs.Accepting.{Arrived, accepted-sentence}
+use Rattle.joiner_step.specs.Play as play
 use Rattle.joiner.specs.Join.{Stepped}
 use Rattle.delivery.specs.Show.{Show}
 use Rattle.delivery.specs.Play.{Machine, played}
-use Rattle.delivery.specs.Play as play
 use Rattle.delivery.specs.Demand.{Delivered}
 
 module _ {B : Type 0} where
@@ -47,9 +47,9 @@ module _ {B : Type 0} where
   onto-arrived j (other b ∷ before) earlier h = onto-arrived j before (other b ∷ earlier) h
 
 -- the call for an arrival of ours accepts exactly when the index is above every index that arrived before
-pub accepted-exactly : (m : Machine) (w : Show) → Delivered m w → (before later : List (Arrival (List ℕ))) (i : ℕ) → w .arrivals ≡ before ++ (ours i ∷ later) →
+pub accepted-exactly : (avc : Bool) (m : Machine) (w : Show) → Delivered avc m w → (before later : List (Arrival (List ℕ))) (i : ℕ) → w .arrivals ≡ before ++ (ours i ∷ later) →
     (getD (map (λ (st : Stepped). play.isAccepted (st .answer)) (played m w)) (length before) false ≡ true) ↔ ((j : ℕ) → Arrived j before → j < i)
-accepted-exactly m w d before later i e = (above, accepts)
+accepted-exactly avc m w d before later i e = (above, accepts)
   where
     told : getD (map (λ (st : Stepped). play.isAccepted (st .answer)) (played m w)) (length before) false ≡ isAccepted (onto before []) (ours i)
     told =

@@ -1,5 +1,6 @@
 -- Sendings of RFC 6184 are groups that the joiner takes: their octets, field by field, are those of the joiner's own groups. Assumes nothing.
 use mathlib.Core.Path.{_≡_, refl, ap, ap₂, _∙_}
+use mathlib.Core.Bool.{Bool}
 use mathlib.Core.List.{List, [], _∷_, _++_, map}
 use mathlib.Core.Logic.{_⊎_, inl, inr}
 use Prim.Native.Nat.{ℕ, _+_, _*_, _/_, _%_, _≤_, _<_}
@@ -11,10 +12,10 @@ use Rattle.wire.proofs.Each.{each-by, each-map}
 use Rattle.rfc6184.specs.Sending.{Nal, octet, octetsOf, Part, Fragmented, single, stapA, fuA, aggregated, fragment, payloadsOf, payloadsOfAll, bodyOf, UnitType, Formed, Sized, FormedSending, Rules, Lawful}
 use Rattle.rfc6184.specs.Sending as rfc
 use Rattle.rfc6184.proofs.Octets.{fields-of-octet}
-use Rattle.nal_read.specs.Unpack.{sizedUnits}
-use Rattle.nal_read.specs.Unpack as unpacking
+use Rattle.nal.specs.Unpack.{sizedUnits}
+use Rattle.nal.specs.Unpack as unpacking
 use Rattle.sequence.specs.Group.{Group, packetsIn, packetsOf}
-use Rattle.joiner.specs.General.{Units}
+use Rattle.joiner_step.specs.Run.{Units}
 use Rattle.joiner.specs.Sent.{Sent, alone, fragmented, groupOf, groupsOf, PlainUnit}
 use Rattle.joiner.specs.Sent as sent
 use Rattle.delivery.specs.AnySender.{groupBy, Stream, streamShow, ReservedClear, Ruled, Taken, StreamPremises}
@@ -133,8 +134,8 @@ all-taken : (ss : List rfc.Sending) → Each FormedSending ss → Each Ruled ss 
 all-taken [] w r t = tt
 all-taken (s ∷ ss) w r t = (taken-by s (w .0) (r .0) (t .0), all-taken ss (w .1) (r .1) (t .1))
 
-pub stream-show : (y : Stream) → StreamPremises y → Sendable (streamShow y)
-stream-show y p =
+pub stream-show : (avc : Bool) (y : Stream) → StreamPremises avc y → Sendable (streamShow y)
+stream-show avc y p =
     record {
       sents = map sentBy (y .sendings);
       are = same-groups (y .sendings) (p .formed) (p .ruled);

@@ -28,6 +28,7 @@ use Rattle.error.proofs.Refusing.{not-says}
 use Rattle.sequence.specs.Number.{numberOf}
 use Rattle.sequence.specs.Arrival.{Arrival, ours, other, raised, Window}
 use Rattle.sequence.specs.Joiner.{bytesOf}
+use Rattle.joiner.specs.Join.{avcOf, opened}
 use Rattle.delivery.specs.Show.{payloads, count, payload, packet}
 use Rattle.delivery.specs.Play.{ourJoiner, arriving}
 use Rattle.delivery.specs.Demand.{DeliveredOn}
@@ -171,12 +172,12 @@ same-arrivals sent onWire n m e (ours i ∷ later) w =
 same-arrivals sent onWire n m e (other b ∷ later) w =
     ap (λ (bs : List (List ℕ)). b ∷ bs) (same-arrivals sent onWire n m e later w)
 
-pub calls-answer : (x : Sending) → SendingPremises x → (lent : ℕ → Lent) → LentEnough (x .mtu) nothingSaved lent (x .frames) → NoneRefused (callsFor x lent)
-calls-answer x p lent w =
+pub calls-answer : (avc : Bool) (x : Sending) → SendingPremises avc x → (lent : ℕ → Lent) → LentEnough (x .mtu) nothingSaved lent (x .frames) → NoneRefused (callsFor x lent)
+calls-answer avc x p lent w =
     all-answer (x .mtu) (omega (arith, p .mtu-high)) nothingSaved lent (x .frames) (record { sps = omega arith; pps = omega arith })
     (each-by (λ (f : List ℕ). length f ≤ 16777216) (FrameOk (x .mtu)) (λ f ok. ok .short) (x .frames) (p .frames)) w
 
-module _ (x : Sending) (p : SendingPremises x) (lent : ℕ → Lent) (none : NoneRefused (callsFor x lent)) where
+module _ (avc : Bool) (x : Sending) (p : SendingPremises avc x) (lent : ℕ → Lent) (none : NoneRefused (callsFor x lent)) where
   wrote-payloads : written (callsFor x lent) ≡ payloads (showOf x)
   wrote-payloads =
       calls-cut (x .mtu) nothingSaved lent (x .frames) none ∙ sym (same-packets (groupsSent (x .mtu) (x .frames)))
@@ -190,7 +191,7 @@ module _ (x : Sending) (p : SendingPremises x) (lent : ℕ → Lent) (none : Non
   writes-packets i room h enough =
       ap (λ (s : List ℕ). writing x i s room) (same-payload i)
       ∙ plain-written (x .stamps i) (numberOf (x .first) i) (x .source) (payload (showOf x) i) (p .received .stamps i) (omega arith)
-      (p .received .source) room (short-at (payloads (showOf x)) i (short-payloads x p)) (omega (arith, enough, ap length (same-payload i)))
+      (p .received .source) room (short-at (payloads (showOf x)) i (short-payloads avc x p)) (omega (arith, enough, ap length (same-payload i)))
 
   -- what the packet writer wrote is the show's packets
   arrives : (onWire : ℕ → List ℕ) → ((i : ℕ) → i < count (showOf x) → Wrote x lent onWire i) → map (bytesOf onWire) (x .arrivals) ≡ arriving (showOf x)
@@ -199,11 +200,11 @@ module _ (x : Sending) (p : SendingPremises x) (lent : ℕ → Lent) (none : Non
       (λ i h. let k : Wrote x lent onWire i = wrote i h in said-same _ (onWire i) (packet (showOf x) i) (k .wrote) (writes-packets i (k .room) h (k .enough)))
       (x .arrivals) (p .received .window)
 
-  pub from-the-calls : FromTheCalls x lent
-  from-the-calls =
+  pub from-the-calls : avcOf (opened (x .source) (x .first)) ≡ avc → FromTheCalls avc x lent
+  from-the-calls prefix =
       record {
         wrote-payloads = wrote-payloads;
         writes-packets = writes-packets;
         delivered =
-            λ onWire wrote. subst (DeliveredOn ourJoiner (showOf x)) (sym (arrives onWire wrote)) (all-delivered (showOf x) (p .received) (sent-show x p));
+            λ onWire wrote. subst (DeliveredOn avc ourJoiner (showOf x)) (sym (arrives onWire wrote)) (all-delivered avc (showOf x) prefix (p .received) (sent-show avc x p));
       }

@@ -1,59 +1,69 @@
--- Demand 3 from the three parts: the plain rule within the window, the reader on plain packets, and the H.264 codec on the groups
--- sent. Assumes nothing.
+-- Demand 3 from the three parts: the plain rule within the window, the reader on plain packets, and the codec on the groups sent.
+-- Assumes nothing.
 use mathlib.Core.Path.{_≡_, refl, sym, ap, ap₂, subst, _∙_}
-use mathlib.Core.Bool.{Bool, false, cond}
+use mathlib.Core.Bool.{Bool, cond}
 use mathlib.Core.List.{List, [], _∷_, _++_, map, append-nil}
 use Prim.Native.Nat.{ℕ, zero, suc, _≤_, _<_}
 use native.Mathlib.Omega.{arith}
-use lib.Dec.{leb·suc-zero}
-use lib.ListN.{length, getD}
-use borrow.Author.Tests.{eq-eqb, ne-eqb}
+use lib.Dec.{ltb, leb·suc-zero}
+use lib.ListN.{length, getD, List·getD-map}
+use borrow.Author.Tests.{ltb-false, eq-eqb, ne-eqb}
 use Rattle.error.specs.Refusal.{Refusal}
 use Rattle.error.specs.Said.{Said, says, refused}
 use Rattle.wire.specs.Each.{Each}
-use Rattle.wire.specs.Part.{part}
+use Rattle.wire.proofs.Each.{each-by}
 use Rattle.packet.specs.Read.{PacketReading, readPacket}
 use Rattle.packet.proofs.Plain.{packet-back, payload-back}
-use Rattle.nal.specs.Fed.{Run, prefixed}
+use Rattle.nal.specs.Fed.{prefixed}
 use Rattle.sequence.specs.Number.{numberOf}
-use Rattle.sequence.specs.Arrival.{Arrival, ours, other, acceptedCalls, raised, Window}
-use Rattle.sequence.specs.Group.{Group, EachHanded}
+use Rattle.sequence.specs.Arrival.{Arrival, ours, other, acceptedCalls, accepted, raised, Window}
+use Rattle.sequence.specs.Event.{seen}
+use Rattle.sequence.specs.Rule.{plain, Follows}
+use Rattle.sequence.specs.Group.{Group, packetsOf, EachHanded}
 use Rattle.sequence.specs.Codec.{OwesAll}
-use Rattle.sequence.specs.Joiner.{Parts, notOurs, numbered, shut, close, answers}
+use Rattle.sequence.specs.Joiner.{Parts, turnedAway, numbered, shut, close, answers}
 use Rattle.sequence.specs.Joiner as any
 use Rattle.sequence.proofs.Ruling.{plain-follows}
+use Rattle.sequence.proofs.Knowing.{packets-known, count-known, handed-known, whole-known, each-known}
 use Rattle.sequence.specs.Demand.{Told}
 use Rattle.sequence.specs.Demand as any-demand
-use Rattle.sequence.proofs.Joining.{delivered}
-use Rattle.joiner.specs.Join.{Accepted, opened}
-use Rattle.joiner.specs.General.{Units, Room, Enough, refusing, heardFrom, reader, parts, standing, closingSeen, h264}
-use Rattle.joiner.specs.Sent.{Sent, groupsOf}
-use Rattle.joiner.proofs.OneCall.{one-close, closed-after, shut-is}
-use Rattle.joiner.proofs.SentGroups.{Small, small-enough}
+use Rattle.sequence.proofs.Joining.{Passes, owed-pass, delivered}
+use Rattle.joiner_step.specs.Run.{Units, Run, none}
+use Rattle.joiner_step.specs.Step.{Accepted, opening, wrong}
+use Rattle.joiner_step.specs.General.{Room, Enough, refusing, codec, heardFrom, reader, parts}
+use Rattle.joiner_step.specs.Play.{handedOut, joinerAfter}
+use Rattle.joiner_step.proofs.Lying.{or-left}
+use Rattle.joiner_step.proofs.Rooms.{Small, small-enough}
+use Rattle.joiner_step.proofs.Playing.{accepted-as, refused-as, handed-as, rooms, Plays, plays}
+use Rattle.joiner_feed.specs.Content.{Content, Note}
+use Rattle.joiner.specs.Join.{Stepped, Known, known, arrivedIn, choice, keptOf, avcOf, joinStep, opened}
+use Rattle.joiner.specs.Sent.{Sent, knownGroup, groupsOf}
+use Rattle.joiner.proofs.General.{standing, closingSeen, Good, one-call, one-close, closed-after, shut-is}
 use Rattle.delivery.specs.Show.{Show, payloads, count, payload, packet, longest, largest}
-use Rattle.delivery.specs.Play.{ourJoiner, arriving, played, closing, handedOut, joinerAfter}
+use Rattle.delivery.specs.Play.{ourJoiner, arriving, played, closing}
 use Rattle.delivery.specs.Demand.{Foreign, OthersForeign, Received, Delivered, wasAccepted, missed}
 use Rattle.delivery.proofs.Owing.{Taken, owes-all}
-use Rattle.delivery.proofs.Playing.{accepted-as, refused-as, handed-as, rooms, Plays, plays}
 
 -- ---- what arrives
 
-not-ours : (source : ℕ) (bytes : List ℕ) → Foreign source bytes → (e : Refusal) × (reader source bytes ≡ notOurs e)
-not-ours source bytes foreign = go (readPacket bytes) refl
-  where
-    go : (x : Said PacketReading) → readPacket bytes ≡ x → (e : Refusal) × (reader source bytes ≡ notOurs e)
-    go (refused r) e = (r, ap (heardFrom source bytes) e)
-    go (says r) e = (
-      refusing 20,
-      ap (heardFrom source bytes) e
-          ∙ ap (λ (b : Bool). cond b (numbered (r .fields .number) (part bytes (r .payload .place) (r .payload .len))) (notOurs (refusing 20)))
-          (ne-eqb (r .fields .source) source (foreign r e)),
-    )
+module _ (avc : Bool) (source : ℕ) where
+  not-ours : (bytes : List ℕ) → Foreign source bytes → (e : Refusal) × (reader (choice avc) source bytes ≡ turnedAway e)
+  not-ours bytes foreign = go (readPacket bytes) refl
+    where
+      heard : Said PacketReading → any.Heard Refusal Known
+      heard x = heardFrom (choice avc) source (arrivedIn bytes x)
 
-told-of : (source n m : ℕ) (later : List (Arrival (List ℕ))) → Window n m later → OthersForeign source later → Told (parts false source) n later
-told-of source n m [] w f = tt
-told-of source n m (ours i ∷ later) w f = (w .0, told-of source n (raised m i) later (w .2) f)
-told-of source n m (other b ∷ later) w f = (not-ours source b (f .0), told-of source n m later w (f .1))
+      go : (x : Said PacketReading) → readPacket bytes ≡ x → (e : Refusal) × (reader (choice avc) source bytes ≡ turnedAway e)
+      go (refused r) e = (r, ap heard e)
+      go (says r) e = (
+        refusing 20,
+        ap heard e ∙ rw (ne-eqb (r .fields .source) source (foreign r e)),
+      )
+
+  told-of : (n m : ℕ) (later : List (Arrival (List ℕ))) → Window n m later → OthersForeign source later → Told (parts (choice avc) (plain Known) source) n later
+  told-of n m [] w f = tt
+  told-of n m (ours i ∷ later) w f = (w .0, told-of n (raised m i) later (w .2) f)
+  told-of n m (other b ∷ later) w f = (not-ours b (f .0), told-of n m later w (f .1))
 
 -- ---- room
 
@@ -66,9 +76,9 @@ short-at [] i h = omega arith
 short-at (s ∷ ss) zero h = h .0
 short-at (s ∷ ss) (suc i) h = short-at ss i (h .1)
 
-handed-all : (gs : List (Group (List ℕ) Units)) (big : ℕ) → largest gs ≤ big → EachHanded (Small false big) gs
-handed-all [] big h = tt
-handed-all (g ∷ gs) big h = (omega arith, handed-all gs big (omega arith))
+handed-all : (avc : Bool) (gs : List (Group (List ℕ) Units)) (big : ℕ) → largest avc gs ≤ big → EachHanded (Small avc big) gs
+handed-all avc [] big h = tt
+handed-all avc (g ∷ gs) big h = (omega arith, handed-all avc gs big (omega arith))
 
 -- what is known of the groups sent: they are groups of H.264 payloads that the joiner takes, within the limits
 pub record Sendable (w : Show) : Type 0 where
@@ -78,93 +88,146 @@ pub record Sendable (w : Show) : Type 0 where
   pub short : AllShort (payloads w)
   pub domain : longest (w .groups) ≤ 16777215
 
-module _ (w : Show) (p : Received w) (z : Sendable w) where
+-- of `w` over a joiner that is opened with this prefix
+module _ (avc : Bool) (w : Show) (prefix : avcOf (opened (w .source) (w .first)) ≡ avc) (p : Received avc w) (z : Sendable w) where
   abbrev number : ℕ → ℕ
   number i = numberOf (w .first) i
 
+  -- the groups, with what the joiner knows of their packets
+  abbrev groups : List (Group Known Units)
+  groups = map knownGroup (w .groups)
+
+  abbrev knownAt : ℕ → Known
+  knownAt i = getD (packetsOf groups) i (known [])
+
+  known-is : (i : ℕ) → known (payload w i) ≡ knownAt i
+  known-is i =
+      sym (List·getD-map known (payloads w) i []) ∙ ap (λ (ps : List Known). getD ps i (known [])) (sym (packets-known known (w .groups)))
+
   -- a packet of ours reads back as its number and payload
-  reads : (i : ℕ) → i < count w → reader (w .source) (packet w i) ≡ numbered (number i) (payload w i)
+  reads : (i : ℕ) → i < count w → reader (choice avc) (w .source) (packet w i) ≡ numbered (number i) (knownAt i)
   reads i h =
-      ap (heardFrom (w .source) (packet w i))
+      ap (λ (x : Said PacketReading). heardFrom (choice avc) (w .source) (arrivedIn (packet w i) x))
       (packet-back (w .stamps i) (number i) (w .source) (payload w i) (p .stamps i) (omega arith) (p .source) (short-at (payloads w) i (z .short)))
-      ∙ ap₂ (λ (b : Bool) (s : List ℕ). cond b (numbered (number i) s) (notOurs (refusing 20))) (eq-eqb (w .source) (w .source) refl)
+      ∙ ap₂ (λ (b : Bool) (s : List ℕ). cond b (numbered (number i) (known s)) (turnedAway (refusing 20))) (eq-eqb (w .source) (w .source) refl)
       (payload-back (w .stamps i) (number i) (w .source) (payload w i) (p .stamps i) (omega arith) (p .source) (short-at (payloads w) i (z .short)))
+      ∙ ap (numbered (number i)) (known-is i)
 
   abbrev most : ℕ
   most = longest (w .groups)
 
   abbrev big : ℕ
-  big = largest (w .groups)
+  big = largest avc (w .groups)
 
   -- the joiner for any rule, reader and codec, at this rule, reader and codec
-  abbrev general : Parts (List ℕ) Room Refusal (List ℕ) Run Units
-  general = parts false (w .source)
+  abbrev general : Parts (List ℕ) Room Refusal Known Content (Run Note) Units
+  general = parts (choice avc) (plain Known) (w .source)
 
-  abbrev start : any.State ℕ Run
+  abbrev start : any.State ℕ (Run Note)
   start = standing (opened (w .source) (w .first)) (w .gather)
 
   abbrev rooms-of : ℕ → Room
   rooms-of = rooms (length (w .gather)) (w .outs)
 
+  enough : (i : ℕ) → Enough most big (rooms-of i)
+  enough i = record { gather = p .gather-room; out = p .out-room i }
+
+  owed : OwesAll (codec (choice avc)) (Enough most big) groups
+  owed =
+      subst (λ (gs : List (Group (List ℕ) Units)). OwesAll (codec (choice avc)) (Enough most big) (map knownGroup gs)) (sym (z .are))
+      (owes-all avc most big (z .domain) (z .sents) (z .taken) (omega (arith, ap longest (z .are))))
+
+  counted : length (packetsOf groups) ≡ count w
+  counted = count-known known (w .groups)
+
+  passes : (i : ℕ) → i < count w → Passes (codec (choice avc)) (knownAt i)
+  passes i h = owed-pass (codec (choice avc)) (Enough most big) (rooms-of 0) (enough 0) none groups owed (known []) i (omega (arith, counted))
+
+  follows : Follows (plain Known) number knownAt (count w) 1 (w .first) (w .arrivals) (seen (accepted (w .arrivals)) 0 (packetsOf groups))
+      (acceptedCalls [] (w .arrivals))
+  follows =
+      subst
+      (λ (n : ℕ). Window n 0 (w .arrivals) → Follows (plain Known) number knownAt n 1 (w .first) (w .arrivals) (seen (accepted (w .arrivals)) 0 (packetsOf groups)) (acceptedCalls [] (w .arrivals)))
+      counted (plain-follows (w .first) (packetsOf groups) (known []) (List ℕ) (w .arrivals) (p .first)) (p .window)
+
   abbrev any-outcome : Type 0
   any-outcome =
       any-demand.Delivered general (Enough most big) number (packet w) (count w) rooms-of start (w .arrivals) (wasAccepted w)
-      (acceptedCalls [] (w .arrivals)) (w .groups)
+      (acceptedCalls [] (w .arrivals)) groups
 
   any-delivered : any-outcome
-  unfolding opened
+  unfolding opened opening
   any-delivered =
-      delivered general (Enough most big) number (packet w) (payload w) (count w) 1 (Small false big) reads
-      (λ k out enough a. small-enough false most big k out enough a) (w .groups) refl (p .few)
-      (subst (OwesAll h264 (Enough most big)) (sym (z .are))
-      (owes-all most big (z .domain) (z .sents) (z .taken) (omega (arith, ap longest (z .are)))))
-      (handed-all (w .groups) big (omega arith))
-      rooms-of (λ i. record { gather = p .gather-room; out = p .out-room i }) start refl
-      (w .arrivals) (wasAccepted w) (acceptedCalls [] (w .arrivals))
-      (plain-follows (w .first) (payloads w) [] (List ℕ) (w .arrivals) (p .first) (p .window))
-      (told-of (w .source) (count w) 0 (w .arrivals) (p .window) (p .foreign))
+      delivered general (Enough most big) number (packet w) knownAt (count w) 1 (Small avc big) reads passes
+      (small-enough (choice avc) most big) groups counted (p .few) owed
+      (each-known known (Small avc big) (w .groups) (handed-all avc (w .groups) big (omega arith)))
+      rooms-of enough start refl (w .arrivals) (wasAccepted w) (acceptedCalls [] (w .arrivals)) follows
+      (told-of avc (w .source) (count w) 0 (w .arrivals) (p .window) (p .foreign))
 
-  as-played : Plays (w .source) (length (w .gather)) (opened (w .source) (w .first)) (w .gather) (w .outs) (arriving w)
-  unfolding opened
-  as-played = plays (arriving w) (opened (w .source) (w .first)) (w .gather) (w .outs) refl (rw (leb·suc-zero (length (w .gather))))
+  -- ---- our joiner's calls are that joiner's
+
+  opened-good : Good avc (w .source) (opened (w .source) (w .first)) (w .gather)
+  unfolding opened opening
+  opened-good =
+      record {
+        prefix = prefix;
+        ready = record { same-source = refl; not-closed = refl; inside = rw (leb·suc-zero (length (w .gather))) };
+      }
+
+  as-played : Plays general avc standing (Good avc (w .source)) joinStep (one-call avc (w .source)) (length (w .gather)) (opened (w .source) (w .first))
+      (w .gather) (w .outs) (arriving w)
+  as-played =
+      plays general avc standing (Good avc (w .source)) joinStep (one-call avc (w .source)) (arriving w) (opened (w .source) (w .first)) (w .gather)
+      (w .outs) opened-good
 
   abbrev said : List (any.Answer Refusal Units)
   said = answers general rooms-of start (arriving w)
 
   -- closing, seen as the other joiner's
-  closing-seen : closingSeen (closing ourJoiner w) ≡ shut (missed w) (any-delivered .atEnd)
+  closing-seen : closingSeen (closing ourJoiner w) ≡ shut (any-delivered .lastMissed) (missed w) (any-delivered .atEnd)
   closing-seen =
-      one-close (joinerAfter ourJoiner (opened (w .source) (w .first)) (w .gather) (w .outs) (arriving w)) (as-played .last) (w .outs 0)
-      (as-played .not-closed) (as-played .inside) (number (count w))
-      ∙ ap₂ (λ (source : ℕ) (s : any.State ℕ Run). close (parts false source) k s (number (count w))) (as-played .same-source) (as-played .state)
+      one-close avc (w .source) (joinerAfter joinStep (opened (w .source) (w .first)) (w .gather) (w .outs) (arriving w)) (as-played .last) (w .outs 0)
+      (as-played .good) (number (count w))
+      ∙ ap (λ (s : any.State ℕ (Run Note)). close general k s (number (count w))) (as-played .state)
       ∙ any-delivered .closes k (record { gather = omega (arith, p .gather-room, as-played .same-length); out = p .out-room 0 })
     where
       k : Room
       k = record { gather = length (as-played .last); out = length (w .outs 0) }
 
   shuts : (a : Accepted) × (closing ourJoiner w .answer ≡ says a) × (closing ourJoiner w .joiner .missed ≡ missed w) × (any-delivered .atEnd ≡ [])
-  shuts = shut-is (closing ourJoiner w) (missed w) (any-delivered .atEnd) closing-seen
+  shuts = shut-is (closing ourJoiner w) (any-delivered .lastMissed) (missed w) (any-delivered .atEnd) closing-seen
 
   -- closing hands nothing out
   handed-before : any.handedOut said ≡ any.handedOut said ++ any-delivered .atEnd
   handed-before = sym (ap (λ (l : List Units). any.handedOut said ++ l) (shuts .3) ∙ append-nil (any.handedOut said))
 
-  pub all-delivered : Delivered ourJoiner w
+  within : (st : Stepped) → Good avc (w .source) (st .joiner) (st .gather) × (length (st .gather) ≡ length (w .gather)) →
+      (st .joiner .gathered ≤ length (w .gather)) × (length (st .gather) ≡ length (w .gather))
+  within st g =
+      let fits : st .joiner .gathered ≤ length (st .gather) =
+      ltb-false (length (st .gather)) (st .joiner .gathered)
+      (or-left (ltb (length (st .gather)) (st .joiner .gathered)) (wrong (choice avc) (keptOf (st .joiner) .run)) (g .0 .ready .inside)) in
+      (omega (arith, g .1), g .1)
+
+  pub all-delivered : Delivered avc ourJoiner w
   all-delivered =
       record {
-        accepts = accepted-as (played ourJoiner w) said (as-played .tells) ∙ any-delivered .accepts;
+        accepts = accepted-as avc (played ourJoiner w) said (as-played .tells) ∙ any-delivered .accepts;
         handsOut =
-            handed-as (played ourJoiner w) said (as-played .tells)
-            ∙ ap (map (prefixed false)) (handed-before ∙ any-delivered .handsOut);
+            handed-as avc (played ourJoiner w) said (as-played .tells)
+            ∙ ap (map (prefixed avc)) (handed-before ∙ any-delivered .handsOut ∙ whole-known known (wasAccepted w) 0 (w .groups));
         answer = shuts .0;
         closes = shuts .1;
         closed =
-            closed-after (joinerAfter ourJoiner (opened (w .source) (w .first)) (w .gather) (w .outs) (arriving w)) (number (count w)) (shuts .0)
+            closed-after (joinerAfter joinStep (opened (w .source) (w .first)) (w .gather) (w .outs) (arriving w)) (number (count w)) (shuts .0)
             (shuts .1);
         counts = shuts .2;
         complete =
-            λ none. handed-as (played ourJoiner w) said (as-played .tells)
-            ∙ ap (map (prefixed false)) (handed-before ∙ any-delivered .complete (sym (shuts .2) ∙ none));
-        within = as-played .lies;
-        refuses = refused-as (played ourJoiner w) said (as-played .tells) ∙ any-delivered .refusesOthers;
+            λ none. handed-as avc (played ourJoiner w) said (as-played .tells)
+            ∙ ap (map (prefixed avc)) (handed-before ∙ any-delivered .complete (sym (shuts .2) ∙ none) ∙ handed-known known (w .groups));
+        within =
+            each-by (λ (st : Stepped). (st .joiner .gathered ≤ length (w .gather)) × (length (st .gather) ≡ length (w .gather)))
+            (λ (st : Stepped). Good avc (w .source) (st .joiner) (st .gather) × (length (st .gather) ≡ length (w .gather)))
+            within (played ourJoiner w) (as-played .each);
+        refuses = refused-as avc (played ourJoiner w) said (as-played .tells) ∙ any-delivered .refusesOthers;
       }

@@ -3,7 +3,7 @@
 use mathlib.Core.Path.{_≡_, refl, ap}
 use mathlib.Core.Bool.{Bool, true, false}
 use mathlib.Core.List.{List, [], _∷_, map}
-use Prim.Native.Nat.{ℕ}
+use Prim.Native.Nat.{ℕ, _≤_}
 use native.Mathlib.Omega.{arith}
 use lib.ListN.{replicate}
 use Rattle.error.specs.Said.{Said, says, refused}
@@ -19,12 +19,18 @@ use Rattle.packet.specs.Plain.{plainPacket}
 use Rattle.annexb.specs.Units.{units, unitsAt}
 use Rattle.h264_put.specs.Groups.{nothingSaved, keep, stapA, fragment, pairFor, unitFor, groupsFor}
 use Rattle.nal_read.specs.Kind.{shape}
-use Rattle.nal_read.specs.Unpack.{unpackTurn, unpack}
-use Rattle.nal.specs.Fed.{layBytes, layFed}
+use Rattle.nal_read.specs.Unpack.{unpack}
+use Rattle.nal.specs.Unpack.{unpackTurn}
+use Rattle.nal.specs.Unpack as unpacking
+use Rattle.nal.specs.Fed.{prefixed, layBytes, layBoth}
 use Rattle.sequence.specs.Arrival.{Arrival, ours, other, Window}
-use Rattle.joiner_feed.specs.Codec.{feed}
-use Rattle.joiner.specs.Join.{Stepped, bySource, joinStep, closeStep, opened}
-use Rattle.delivery.specs.Play.{ourJoiner, isAccepted, handedOut, played, closing}
+use Rattle.joiner_step.specs.Step.{bySource, step, closing, opening}
+use Rattle.joiner_step.specs.Play.{isAccepted, handedOut}
+use Rattle.joiner_feed.specs.H264.{check}
+use Rattle.joiner.specs.Join.{Stepped, joinStep, closeStep, opened}
+use Rattle.delivery.specs.Play.{ourJoiner, played}
+use Rattle.delivery.specs.Play as play
+use Rattle.delivery.specs.Show.{largest}
 use Rattle.delivery.specs.Demand.{Foreign, OthersForeign}
 use Rattle.delivery.specs.Frames.{Sending, showOf, SendingPremises}
 use Rattle.delivery.specs.Calls.{Lent, LentEnough}
@@ -66,9 +72,16 @@ of-another r e same = let nine : 9 ≡ r .fields .source = ap source-of e in ome
     source-of (says x) = x .fields .source
     source-of (refused x) = 0
 
-pub nine-premises : (arrivals : List (Arrival (List ℕ))) → OthersForeign 3 arrivals → Window 9 0 arrivals → SendingPremises (nine arrivals)
+-- whatever the prefix, the largest group takes 89 bytes
+largest-out : (avc : Bool) (arrivals : List (Arrival (List ℕ))) → largest avc (showOf (nine arrivals) .groups) ≤ 89
+unfolding nine units unitsAt keep stapA pairFor unitFor groupsFor fragment be16 be32
+largest-out false arrivals = omega arith
+largest-out true arrivals = omega arith
+
+pub nine-premises : (avc : Bool) (arrivals : List (Arrival (List ℕ))) → OthersForeign 3 arrivals → Window 9 0 arrivals →
+    SendingPremises avc (nine arrivals)
 unfolding nine units unitsAt keep stapA pairFor unitFor groupsFor fragment be16
-nine-premises arrivals foreign window =
+nine-premises avc arrivals foreign window =
     record {
       frames = omega arith;
       mtu-low = omega arith;
@@ -77,7 +90,7 @@ nine-premises arrivals foreign window =
           record {
             few = omega arith;
             gather-room = omega arith;
-            out-room = λ i. omega arith;
+            out-room = λ i. largest-out avc arrivals;
             source = omega arith;
             first = omega arith;
             stamps = λ i. record { type = omega arith; time = omega arith };
@@ -86,34 +99,34 @@ nine-premises arrivals foreign window =
           };
     }
 
-pub premises : SendingPremises show
+pub premises : (avc : Bool) → SendingPremises avc show
 unfolding show
-premises = nine-premises _ (of-another, tt) (omega arith)
+premises avc = nine-premises avc _ (of-another, tt) (omega arith)
 
 -- ---- its outcome, as it computes
 
 -- what is handed out: the pair, the first fragmented unit and the last unit
-abbrev pub pairOut : List ℕ
-pairOut = 0 ∷ 0 ∷ 0 ∷ 1 ∷ 0x67 ∷ 0xAA ∷ 0 ∷ 0 ∷ 0 ∷ 1 ∷ 0x68 ∷ 0xBB ∷ []
+abbrev pub pairOut : Bool → List ℕ
+pairOut avc = prefixed avc ((0x67 ∷ 0xAA ∷ []) ∷ (0x68 ∷ 0xBB ∷ []) ∷ [])
 
-abbrev pub joinedOut : List ℕ
-joinedOut = 0 ∷ 0 ∷ 0 ∷ 1 ∷ 0x65 ∷ replicate 84 7
+abbrev pub joinedOut : Bool → List ℕ
+joinedOut avc = prefixed avc ((0x65 ∷ replicate 84 7) ∷ [])
 
-abbrev pub lastOut : List ℕ
-lastOut = 0 ∷ 0 ∷ 0 ∷ 1 ∷ 0x41 ∷ 11 ∷ 12 ∷ []
+abbrev pub lastOut : Bool → List ℕ
+lastOut avc = prefixed avc ((0x41 ∷ 11 ∷ 12 ∷ []) ∷ [])
 
 -- which calls accept, what is handed out, how many packets were missed
 pub record Outcome (accepts : List Bool) (out : List (List ℕ)) (missed : ℕ) : Type 0 where
   pub accepts-these : map (λ (st : Stepped). isAccepted (st .answer)) (played ourJoiner (showOf show)) ≡ accepts
   pub hands-out : handedOut (played ourJoiner (showOf show)) ≡ out
-  pub misses : closing ourJoiner (showOf show) .joiner .missed ≡ missed
+  pub misses : play.closing ourJoiner (showOf show) .joiner .missed ≡ missed
 
 -- the repeat, the stranger and the packet behind a later one are not accepted; packets 1 and 6 are missed
 pub outcome : Outcome
     (true ∷ false ∷ false ∷ true ∷ false ∷ true ∷ true ∷ true ∷ true ∷ true ∷ [])
-    (pairOut ∷ joinedOut ∷ lastOut ∷ [])
+    (pairOut false ∷ joinedOut false ∷ lastOut false ∷ [])
     2
-unfolding show nine stranger units unitsAt keep stapA pairFor unitFor groupsFor fragment joinStep closeStep bySource feed shape unpack unpackTurn run layFed layBytes splice readPacket readHeader readFixed fieldsAt u16At u32At plainPacket packetOctets payloadOctets octetsOf fixedFor be16 be32 opened
+unfolding show nine stranger units unitsAt keep stapA pairFor unitFor groupsFor fragment joinStep step closeStep closing bySource check shape unpack unpacking.unpack unpackTurn run layBoth layBytes splice readPacket readHeader readFixed fieldsAt u16At u32At plainPacket packetOctets payloadOctets octetsOf fixedFor be16 be32 opened opening
 outcome = record { accepts-these = refl; hands-out = refl; misses = refl }
 
 -- ---- its calls answer

@@ -18,12 +18,17 @@ use Rattle.packet.specs.Write.{payloadOctets, packetOctets}
 use Rattle.packet.specs.Plain.{plainPacket}
 use Rattle.rfc6184.specs.Sending.{Nal, octet, octetsOf, Part, single, stapA, fuA, fragment}
 use Rattle.nal_read.specs.Kind.{shape}
-use Rattle.nal_read.specs.Unpack.{unpackTurn, unpack}
-use Rattle.nal.specs.Fed.{layBytes, layFed}
+use Rattle.nal_read.specs.Unpack.{unpack}
+use Rattle.nal.specs.Unpack.{unpackTurn}
+use Rattle.nal.specs.Unpack as unpacking
+use Rattle.nal.specs.Fed.{layBytes, layBoth}
 use Rattle.sequence.specs.Arrival.{ours}
-use Rattle.joiner_feed.specs.Codec.{feed}
-use Rattle.joiner.specs.Join.{bySource, joinStep, closeStep, opened}
-use Rattle.delivery.specs.Play.{ourJoiner, handedOut, played, closing}
+use Rattle.joiner_step.specs.Step.{bySource, step, closing, opening}
+use Rattle.joiner_step.specs.Play.{handedOut}
+use Rattle.joiner_feed.specs.H264.{check}
+use Rattle.joiner.specs.Join.{joinStep, closeStep, opened}
+use Rattle.delivery.specs.Play.{ourJoiner, annexB, played}
+use Rattle.delivery.specs.Play as play
 use Rattle.delivery.specs.AnySender.{Stream, streamShow, StreamPremises}
 
 abbrev unit : ℕ → ℕ → List ℕ → Nal
@@ -50,7 +55,7 @@ stream =
       arrivals = ours 0 ∷ ours 1 ∷ ours 2 ∷ ours 3 ∷ ours 4 ∷ [];
     }
 
-pub stream-premises : StreamPremises stream
+pub stream-premises : StreamPremises annexB stream
 unfolding stream octetsOf fragment octet be16
 stream-premises =
     record {
@@ -74,6 +79,6 @@ stream-premises =
 
 -- what is handed out, as it computes, the fragmented unit with its top bit clear; and how many packets were missed
 pub stream-outcome : (handedOut (played ourJoiner (streamShow stream)) ≡ (0 ∷ 0 ∷ 0 ∷ 1 ∷ 9 ∷ 0xF0 ∷ []) ∷ (0 ∷ 0 ∷ 0 ∷ 1 ∷ 0x67 ∷ 0xAA ∷ 0 ∷ 0 ∷ 0 ∷ 1 ∷ 0x68 ∷ 0xBB ∷ []) ∷ (0 ∷ 0 ∷ 0 ∷ 1 ∷ 0x65 ∷ 1 ∷ 2 ∷ 3 ∷ 4 ∷ []) ∷ [])
-    × (closing ourJoiner (streamShow stream) .joiner .missed ≡ 1)
-unfolding stream octetsOf fragment octet joinStep closeStep bySource feed shape unpack unpackTurn run layFed layBytes splice readPacket readHeader readFixed fieldsAt u16At u32At plainPacket packetOctets payloadOctets header.octetsOf fixedFor be16 be32 opened
+    × (play.closing ourJoiner (streamShow stream) .joiner .missed ≡ 1)
+unfolding stream octetsOf fragment octet joinStep step closeStep closing bySource check shape unpack unpacking.unpack unpackTurn run layBoth layBytes splice readPacket readHeader readFixed fieldsAt u16At u32At plainPacket packetOctets payloadOctets header.octetsOf fixedFor be16 be32 opened opening
 stream-outcome = (refl, refl)

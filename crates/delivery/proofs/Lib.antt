@@ -1,4 +1,3 @@
-pub mod Playing
 pub mod Owing
 pub mod Delivering
 pub mod Accepted

@@ -7,9 +7,10 @@
 -- asks of numbers, room and channel. A `Sending` is frames for a fresh sender, `showOf` the show of them, `SendingPremises` what the paper asks
 -- of it. A `Stream` is sendings of RFC 6184, of whatever sender. A `Machine` is any joiner: how it is opened, its call and its closing;
 -- `ourJoiner` is `opened`, `joinStep` and `closeStep`, which the contracts of the joiner's code cite. `Delivered` is the five parts (a) to (e)
--- over a machine's calls (`played`) and its `closing`.
-use mathlib.Core.Path.{_≡_}
-use mathlib.Core.Bool.{true, false}
+-- over a machine's calls (`played`) and its `closing`, for units behind a start code or a 4-byte length; `annexB` is the start code, which our
+-- joiner's units follow.
+use mathlib.Core.Path.{_≡_, refl}
+use mathlib.Core.Bool.{Bool, true, false}
 use mathlib.Core.List.{List, _∷_, _++_, map}
 use mathlib.Core.Logic.{_↔_}
 use Prim.Native.Nat.{ℕ, _<_}
@@ -21,9 +22,10 @@ use Rattle.h264_put.specs.Groups.{nothingSaved, packetsOf}
 use Rattle.h264.specs.Frames.{groupsSent}
 use Rattle.sequence.specs.Arrival.{Arrival, ours}
 use Rattle.sequence.proofs.Accepting.{Arrived}
+use Rattle.joiner_step.specs.Play.{isAccepted}
 use Rattle.joiner.specs.Join.{Stepped}
 use Rattle.delivery.specs.Show.{Show, payloads}
-use Rattle.delivery.specs.Play.{Machine, ourJoiner, isAccepted, played}
+use Rattle.delivery.specs.Play.{Machine, ourJoiner, annexB, played}
 use Rattle.delivery.specs.Demand.{Delivered}
 use Rattle.delivery.specs.Frames.{Sending, showOf, SendingPremises, Delivers}
 use Rattle.delivery.specs.Calls.{Lent, NoneRefused, callsFor, LentEnough, FromTheCalls}
@@ -39,17 +41,17 @@ use Rattle.delivery.proofs.ExampleStream.{stream, stream-premises}
 use Rattle.delivery.proofs.Wrong as wrong
 
 -- frames through a fresh sender
-pub demand-3 : (x : Sending) → SendingPremises x → Delivered ourJoiner (showOf x)
-demand-3 x p = all-delivered (showOf x) (p .received) (sent-show x p)
+pub demand-3 : (x : Sending) → SendingPremises annexB x → Delivered annexB ourJoiner (showOf x)
+demand-3 x p = all-delivered annexB (showOf x) refl (p .received) (sent-show annexB x p)
 
 -- The same from the calls on, end to end. Where none of a fresh sender's calls is refused: what they wrote, cut at the ends that they wrote, is
 -- the show's payloads; the packet writer makes each, with its number, stamp and source, into the show's packet; and of the packets that it
 -- wrote, over the channel, the joiner hands out what demand 3 says.
-pub FROM-THE-CALLS : (x : Sending) → SendingPremises x → (lent : ℕ → Lent) → NoneRefused (callsFor x lent) → FromTheCalls x lent
-FROM-THE-CALLS = calls.from-the-calls
+pub FROM-THE-CALLS : (x : Sending) → SendingPremises annexB x → (lent : ℕ → Lent) → NoneRefused (callsFor x lent) → FromTheCalls annexB x lent
+FROM-THE-CALLS x p lent none = calls.from-the-calls annexB x p lent none refl
 
 -- None of its calls is refused where each is lent room for its frame's packets, and no parameter set is over 1,024 bytes.
-pub CALLS-ANSWER : (x : Sending) → SendingPremises x → (lent : ℕ → Lent) → LentEnough (x .mtu) nothingSaved lent (x .frames) → NoneRefused (callsFor x lent)
+pub CALLS-ANSWER : (avc : Bool) (x : Sending) → SendingPremises avc x → (lent : ℕ → Lent) → LentEnough (x .mtu) nothingSaved lent (x .frames) → NoneRefused (callsFor x lent)
 CALLS-ANSWER = calls.calls-answer
 
 -- The payloads of the show are those of the sender's definition, in order.
@@ -58,8 +60,8 @@ payloads-sent x = same-packets (groupsSent (x .mtu) (x .frames))
 
 -- Sendings of RFC 6184 by any sender, as crate rfc6184 has them: single units, STAP-As with any F and NRI, and units in fragments with any F. No
 -- single unit is shorter than 3 bytes, but for an access unit delimiter of 2; no fragment is empty.
-pub any-sender : (y : Stream) → StreamPremises y → Delivered ourJoiner (streamShow y)
-any-sender y p = all-delivered (streamShow y) (p .received) (stream-show y p)
+pub any-sender : (y : Stream) → StreamPremises annexB y → Delivered annexB ourJoiner (streamShow y)
+any-sender y p = all-delivered annexB (streamShow y) refl (p .received) (stream-show annexB y p)
 
 -- Whatever is lawful by RFC 6184 keeps what is asked of its fields.
 pub lawful-sender : (ss : List rfc.Sending) → Each rfc.Lawful ss → Each rfc.FormedSending ss × Each Ruled ss
@@ -71,7 +73,7 @@ payloads-streamed y = stream-payloads (y .sendings)
 
 -- "Under these premises a packet is accepted exactly when its index is above every index that arrived before it; this, read off the
 -- arrivals alone, is what demand 3 means by accepted."
-pub accepted-means : (m : Machine) (w : Show) → Delivered m w → (before later : List (Arrival (List ℕ))) (i : ℕ) → w .arrivals ≡ before ++ (ours i ∷ later) →
+pub accepted-means : (avc : Bool) (m : Machine) (w : Show) → Delivered avc m w → (before later : List (Arrival (List ℕ))) (i : ℕ) → w .arrivals ≡ before ++ (ours i ∷ later) →
     (getD (map (λ (st : Stepped). isAccepted (st .answer)) (played m w)) (length before) false ≡ true) ↔ ((j : ℕ) → Arrived j before → j < i)
 accepted-means = accepted-exactly
 
@@ -79,22 +81,22 @@ accepted-means = accepted-exactly
 
 -- a show with a loss, a repeat, a reordering, a wrap of the number and a packet of another source meets the premises, its calls are not
 -- refused ..
-pub show-delivered : FromTheCalls show lentTo
-show-delivered = FROM-THE-CALLS show premises lentTo (CALLS-ANSWER show premises lentTo lent-enough)
+pub show-delivered : FromTheCalls annexB show lentTo
+show-delivered = FROM-THE-CALLS show (premises annexB) lentTo (CALLS-ANSWER annexB show (premises annexB) lentTo lent-enough)
 
 -- .. and so does a stream with an access unit delimiter, an STAP-A and a unit with F set in fragments
-pub stream-delivered : Delivered ourJoiner (streamShow stream)
+pub stream-delivered : Delivered annexB ourJoiner (streamShow stream)
 stream-delivered = any-sender stream stream-premises
 
--- `Delivers m` is demand 3 of the joiner m. It "defeats a joiner that hands out nothing" ..
-pub NO-SILENT-JOINER : (m : Machine) → Silent m → Delivers m → ⊥
+-- `Delivers avc m` is demand 3 of the joiner m, whatever it hands units out behind. It "defeats a joiner that hands out nothing" ..
+pub NO-SILENT-JOINER : (avc : Bool) (m : Machine) → Silent m → Delivers avc m → ⊥
 NO-SILENT-JOINER = wrong.no-silent-joiner
 
 -- .. "one that joins in the first call and later only advances its number": whose later calls hand out nothing, or what their own packet
 -- gives ..
-pub NO-ADVANCER : (m : Machine) → Advancing m → Delivers m → ⊥
+pub NO-ADVANCER : (avc : Bool) (m : Machine) → Advancing m → Delivers avc m → ⊥
 NO-ADVANCER = wrong.no-advancer
 
 -- .. "and one with an invented missed total, since missed is counted from the arrivals": one that is the same whatever arrives
-pub NO-INVENTED-TOTAL : (m : Machine) → Inventing m → Delivers m → ⊥
+pub NO-INVENTED-TOTAL : (avc : Bool) (m : Machine) → Inventing m → Delivers avc m → ⊥
 NO-INVENTED-TOTAL = wrong.no-invented-total

@@ -1,23 +1,23 @@
 -- Every group that the joiner takes is one that its codec owes: those of the joiner's own law, and an access unit delimiter of two bytes by itself.
 -- Assumes nothing.
-use mathlib.Core.Path.{_≡_, refl, ap, _∙_}
-use mathlib.Core.List.{List, [], _∷_, append-nil}
+use mathlib.Core.Path.{_≡_, refl, ap}
+use mathlib.Core.Bool.{Bool}
+use mathlib.Core.List.{List, [], _∷_, map, append-nil}
 use mathlib.Core.Logic.{_⊎_, inl, inr}
 use Prim.Native.Nat.{ℕ, _-_, _%_, _≤_}
 use native.Mathlib.Omega.{arith}
 use lib.ListN.{length, getD}
-use borrow.Author.Tests.{le-ltb}
 use Rattle.error.specs.Said.{says}
 use Rattle.wire.specs.Each.{Each}
 use Rattle.wire.specs.Packets.{joined}
-use Rattle.nal_read.specs.Kind.{Shape}
-use Rattle.nal.specs.Fed.{Run, none}
 use Rattle.nal_read.proofs.Shapes.{shape-delimiter}
 use Rattle.sequence.specs.Codec.{Owes, OwesAll}
-use Rattle.joiner_feed.specs.Codec.{feedBy, feed, handedOut}
-use Rattle.joiner.specs.General.{Enough, within, h264}
-use Rattle.joiner.specs.Sent.{Sent, aggregated, alone, fragmented, body, groupOf, groupsOf, gatheredOf, PlainUnit, Lawful}
-use Rattle.joiner.proofs.SentGroups.{owes}
+use Rattle.joiner_step.specs.General.{Enough, codec}
+use Rattle.joiner_feed.specs.Content.{whole}
+use Rattle.joiner_feed.specs.H264.{check}
+use Rattle.joiner.specs.Join.{choice}
+use Rattle.joiner.specs.Sent.{Sent, aggregated, alone, fragmented, body, groupOf, knownGroup, groupsOf, gatheredOf, PlainUnit, Lawful}
+use Rattle.joiner.proofs.SentGroups.{check-shape, owes-one, owes}
 use Rattle.delivery.specs.Show.{gatheredBy, longest}
 
 -- "2 bytes unless type 9"
@@ -35,9 +35,8 @@ lawful-taken (aggregated head unit others) w = w
 lawful-taken (alone unit) w = inl w
 lawful-taken (fragmented head first between last) w = w
 
-feed-delimiter : (run : Run) (u : List ℕ) → Delimiter u → feed run u ≡ handedOut (says (u ∷ []))
-unfolding feed
-feed-delimiter run u d = ap (λ (s : Shape). feedBy s run u) (shape-delimiter u (d .long) (d .type))
+check-delimiter : (u : List ℕ) → Delimiter u → check u ≡ says (whole (u ∷ []))
+check-delimiter u d = check-shape u _ (shape-delimiter u (d .long) (d .type))
 
 -- ---- what is gathered
 
@@ -57,24 +56,14 @@ longest-within n (s ∷ ss) w = omega (arith, w .0, gathered-same s, longest-wit
 
 -- ---- owed
 
-module _ (most big : ℕ) (bounded : most ≤ 16777215) where
-  owes-delimiter : (u : List ℕ) → Delimiter u → Owes h264 (Enough most big) (groupOf (alone u))
-  owes-delimiter u d =
-      record {
-        hands =
-            λ run. (
-              none,
-              λ k enough. ap (within k) (feed-delimiter run u d) ∙ rw (le-ltb (k .gather) 0 (omega arith)),
-            );
-        quiet = tt;
-      }
+module _ (avc : Bool) (most big : ℕ) (bounded : most ≤ 16777215) where
+  owes-taken : (s : Sent) → Taken s → gatheredOf s ≤ most → Owes (codec (choice avc)) (Enough most big) (knownGroup (groupOf s))
+  owes-taken (aggregated head unit others) w h = owes avc most big bounded (aggregated head unit others) w h
+  owes-taken (alone unit) (inl w) h = owes avc most big bounded (alone unit) w h
+  owes-taken (alone unit) (inr d) h = owes-one avc most big bounded unit unit [] (check-delimiter unit d)
+  owes-taken (fragmented head first between last) w h = owes avc most big bounded (fragmented head first between last) w h
 
-  owes-taken : (s : Sent) → Taken s → gatheredOf s ≤ most → Owes h264 (Enough most big) (groupOf s)
-  owes-taken (aggregated head unit others) w h = owes most big bounded (aggregated head unit others) w h
-  owes-taken (alone unit) (inl w) h = owes most big bounded (alone unit) w h
-  owes-taken (alone unit) (inr d) h = owes-delimiter unit d
-  owes-taken (fragmented head first between last) w h = owes most big bounded (fragmented head first between last) w h
-
-  pub owes-all : (ss : List Sent) → Each Taken ss → longest (groupsOf ss) ≤ most → OwesAll h264 (Enough most big) (groupsOf ss)
+  pub owes-all : (ss : List Sent) → Each Taken ss → longest (groupsOf ss) ≤ most →
+      OwesAll (codec (choice avc)) (Enough most big) (map knownGroup (groupsOf ss))
   owes-all [] w h = tt
   owes-all (s ∷ ss) w h = (owes-taken s (w .0) (omega (arith, gathered-same s)), owes-all ss (w .1) (omega arith))

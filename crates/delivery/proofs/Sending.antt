@@ -1,6 +1,7 @@
 -- What a fresh sender sends for frames is a show that the joiner can take: the sender's theorems say that its groups can be sent and
 -- carry the frames' units, and no unit is longer than its frame. Assumes nothing.
 use mathlib.Core.Path.{_≡_, refl, sym, ap, ap₂, subst}
+use mathlib.Core.Bool.{Bool}
 use mathlib.Core.List.{List, [], _∷_, _++_, map, append-nil}
 use Prim.Native.Nat.{ℕ, _+_, _-_, _*_, _/_, _%_, _≤_}
 use native.Mathlib.Omega.{arith}
@@ -113,7 +114,7 @@ pub same-packets : (gs : List Group) → any.packetsOf (map groupSent gs) ≡ pa
 same-packets [] = refl
 same-packets (g ∷ gs) = ap₂ (λ (l r : List (List ℕ)). l ++ r) (same-packets-in g) (same-packets gs)
 
-module _ (x : Sending) (p : SendingPremises x) where
+module _ (avc : Bool) (x : Sending) (p : SendingPremises avc x) where
   abbrev gs : List Group
   gs = groupsSent (x .mtu) (x .frames)
 

@@ -16,27 +16,30 @@ use Rattle.header_write.specs.Fixed.{fixedFor}
 use Rattle.header.specs.Write.{octetsOf}
 use Rattle.packet.specs.Write.{payloadOctets, packetOctets}
 use Rattle.packet.specs.Plain.{plainPacket}
+use Rattle.nal.proofs.Handing.{length-one}
 use Rattle.annexb.specs.Units.{units, unitsAt}
 use Rattle.h264_put.specs.Groups.{keep, stapA, fragment, pairFor, unitFor, groupsFor}
 use Rattle.sequence.specs.Arrival.{Arrival}
 use Rattle.sequence.proofs.InOrder.{inOrder, in-order-within}
 use Rattle.joiner.specs.declared.Joiner.{Joiner}
-use Rattle.joiner.specs.Join.{Answer, accepted, late, Stepped}
+use Rattle.joiner_step.specs.Step.{Answer, accepted, late}
+use Rattle.joiner_step.specs.Play.{steps, handedIn, handedOut}
+use Rattle.joiner.specs.Join.{Stepped}
 use Rattle.delivery.specs.Show.{packet}
-use Rattle.delivery.specs.Play.{Machine, steps, handedIn, handedOut, arriving, played, closing}
+use Rattle.delivery.specs.Play.{Machine, arriving, played, closing}
 use Rattle.delivery.specs.Frames.{showOf, Delivers}
 use Rattle.delivery.specs.Wrong.{Silent, FromItsOwn, Advancing, Inventing}
 use Rattle.delivery.proofs.Example.{nine, show, stranger, nine-premises, premises, pairOut, joinedOut, lastOut}
 
 -- ---- what must be handed out
 
-handed : (m : Machine) → Delivers m → handedOut (played m (showOf show)) ≡ pairOut ∷ joinedOut ∷ lastOut ∷ []
+handed : (avc : Bool) (m : Machine) → Delivers avc m → handedOut (played m (showOf show)) ≡ pairOut avc ∷ joinedOut avc ∷ lastOut avc ∷ []
 unfolding show nine units unitsAt keep stapA pairFor unitFor groupsFor fragment be16
-handed m d = d show premises .handsOut
+handed avc m d = d show (premises avc) .handsOut
 
-pub no-silent-joiner : (m : Machine) → Silent m → Delivers m → ⊥
-no-silent-joiner m silent d =
-    let none : [] ≡ pairOut ∷ joinedOut ∷ lastOut ∷ [] = sym (silent (showOf show)) ∙ handed m d in
+pub no-silent-joiner : (avc : Bool) (m : Machine) → Silent m → Delivers avc m → ⊥
+no-silent-joiner avc m silent d =
+    let none : [] ≡ pairOut avc ∷ joinedOut avc ∷ lastOut avc ∷ [] = sym (silent (showOf show)) ∙ handed avc m d in
     let z : _≡_ {A = ℕ} 0 3 = ap length none in
     omega arith
 
@@ -56,12 +59,12 @@ module _ (m : Machine) (n : ℕ) where
   Short l = length l ≤ n
 
   all-short : (bytes : List (List ℕ)) (j : Joiner) (gather : List ℕ) (outs : ℕ → List ℕ) → Each (λ (b : List ℕ). 2 * length b ≤ n) bytes →
-      FromItsOwn bytes (steps m j gather outs bytes) → Each Short (handedOut (steps m j gather outs bytes))
+      FromItsOwn bytes (steps (m .step) j gather outs bytes) → Each Short (handedOut (steps (m .step) j gather outs bytes))
   all-short [] j gather outs few own = tt
   all-short (b ∷ bytes) j gather outs few own =
       let st : Stepped = m .step j b gather (outs 0) in
       let now : List (List ℕ) = handedIn (st .answer) (st .out) in
-      each-append Short now (handedOut (steps m (st .joiner) (st .gather) (λ i. outs (suc i)) bytes))
+      each-append Short now (handedOut (steps (m .step) (st .joiner) (st .gather) (λ i. outs (suc i)) bytes))
       (each-by Short (λ (l : List ℕ). length l ≤ 2 * length b) (λ l h. omega (arith, h, few .0)) now (own .0))
       (all-short bytes (st .joiner) (st .gather) (λ i. outs (suc i)) (few .1) (own .1))
 
@@ -79,25 +82,25 @@ packets-few : Each (λ (b : List ℕ). 2 * length b ≤ 84) (drop 1 (arriving (s
 unfolding show nine stranger units unitsAt keep stapA pairFor unitFor groupsFor fragment plainPacket packetOctets payloadOctets octetsOf fixedFor be16 be32
 packets-few = omega arith
 
-pub no-advancer : (m : Machine) → Advancing m → Delivers m → ⊥
+pub no-advancer : (avc : Bool) (m : Machine) → Advancing m → Delivers avc m → ⊥
 unfolding show nine
-no-advancer m own d =
+no-advancer avc m own d =
     let st : Stepped = m .step (m .opening 3 65531) (packet (showOf show) 0) (replicate 84 0) (replicate 89 0) in
     let bytes : List (List ℕ) = drop 1 (arriving (showOf show)) in
     let outs : ℕ → List ℕ = λ i. replicate 89 0 in
-    let short : length joinedOut ≤ 84 =
-    second (λ (l : List ℕ). length l ≤ 84) pairOut joinedOut (lastOut ∷ []) (handedIn (st .answer) (st .out))
-    (handedOut (steps m (st .joiner) (st .gather) outs bytes)) (handed m d) (one-at-most (st .answer) (st .out))
+    let short : length (joinedOut avc) ≤ 84 =
+    second (λ (l : List ℕ). length l ≤ 84) (pairOut avc) (joinedOut avc) (lastOut avc ∷ []) (handedIn (st .answer) (st .out))
+    (handedOut (steps (m .step) (st .joiner) (st .gather) outs bytes)) (handed avc m d) (one-at-most (st .answer) (st .out))
     (all-short m 84 bytes (st .joiner) (st .gather) outs packets-few (own (showOf show))) in
-    omega arith
+    omega (arith, length-one avc (0x65 ∷ replicate 84 7))
 
 -- ---- the missed total
 
-pub no-invented-total : (m : Machine) → Inventing m → Delivers m → ⊥
+pub no-invented-total : (avc : Bool) (m : Machine) → Inventing m → Delivers avc m → ⊥
 unfolding show nine units unitsAt keep stapA pairFor unitFor groupsFor fragment be16
-no-invented-total m same d =
+no-invented-total avc m same d =
     let all : List (Arrival (List ℕ)) = inOrder 0 9 in
-    let two : closing m (showOf show) .joiner .missed ≡ 2 = d show premises .counts in
+    let two : closing m (showOf show) .joiner .missed ≡ 2 = d show (premises avc) .counts in
     let none : closing m (showOf (nine all)) .joiner .missed ≡ 0 =
-    d (nine all) (nine-premises all tt (in-order-within (List ℕ) 9)) .counts in
+    d (nine all) (nine-premises avc all tt (in-order-within (List ℕ) 9)) .counts in
     omega (arith, two, none, same (showOf show) all)

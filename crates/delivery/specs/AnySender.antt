@@ -1,5 +1,6 @@
 -- Sendings of RFC 6184, of whatever sender, as a show: its payloads are those of crate rfc6184's own definition. Assumes nothing.
 use mathlib.Core.Path.{_≡_}
+use mathlib.Core.Bool.{Bool}
 use mathlib.Core.List.{List, [], _∷_, map}
 use mathlib.Core.Logic.{_⊎_}
 use Prim.Native.Nat.{ℕ, _≤_, _<_}
@@ -10,7 +11,7 @@ use Rattle.rfc6184.specs.Sending.{octet, octetsOf, Part, Fragmented, single, st
 use Rattle.rfc6184.specs.Sending as rfc
 use Rattle.sequence.specs.Arrival.{Arrival}
 use Rattle.sequence.specs.Group.{Group}
-use Rattle.joiner.specs.General.{Units}
+use Rattle.joiner_step.specs.Run.{Units}
 use Rattle.delivery.specs.Show.{Show, payloads, longest}
 use Rattle.delivery.specs.Demand.{Received}
 
@@ -71,7 +72,7 @@ Taken (single u) = (3 ≤ length (octetsOf u)) ⊎ ((length (octetsOf u) ≡ 2) 
 Taken (stapA f nri us) = Unit {0}
 Taken (fuA g) = NoneEmpty g
 
-pub record StreamPremises (y : Stream) : Type 0 where
+pub record StreamPremises (avc : Bool) (y : Stream) : Type 0 where
   -- each is a sending of RFC 6184: its fields fit into their bits, and keep these rules
   pub formed : Each FormedSending (y .sendings)
   pub ruled : Each Ruled (y .sendings)
@@ -80,4 +81,4 @@ pub record StreamPremises (y : Stream) : Type 0 where
   pub short : Each (λ (p : List ℕ). length p ≤ 65523) (payloads (streamShow y))
   -- "frames up to 16,777,216": the longest unit less one byte
   pub domain : longest (streamShow y .groups) ≤ 16777215
-  pub received : Received (streamShow y)
+  pub received : Received avc (streamShow y)

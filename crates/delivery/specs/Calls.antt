@@ -1,7 +1,7 @@
 -- From the sender's calls to the packets on the wire: what its calls wrote is cut at the ends that they wrote, and each payload goes to the
 -- packet writer. Assumes nothing.
 use mathlib.Core.Path.{_≡_}
-use mathlib.Core.Bool.{false}
+use mathlib.Core.Bool.{Bool, false}
 use mathlib.Core.List.{List, [], _∷_, _++_, map}
 use Prim.Native.Nat.{ℕ, suc, _+_, _≤_, _<_}
 use lib.ListN.{length, take, getD}
@@ -80,7 +80,7 @@ pub record Wrote (x : Sending) (lent : ℕ → Lent) (onWire : ℕ → List ℕ)
   pub enough : 12 + length (getD (written (callsFor x lent)) i []) ≤ room
   pub wrote : writing x i (getD (written (callsFor x lent)) i []) room ≡ says (onWire i)
 
-pub record FromTheCalls (x : Sending) (lent : ℕ → Lent) : Type 0 where
+pub record FromTheCalls (avc : Bool) (x : Sending) (lent : ℕ → Lent) : Type 0 where
   -- the sender's calls wrote the payloads of the show, in order
   pub wrote-payloads : written (callsFor x lent) ≡ payloads (showOf x)
   -- the packet writer refuses none of them, and makes the show's packets of them
@@ -88,4 +88,4 @@ pub record FromTheCalls (x : Sending) (lent : ℕ → Lent) : Type 0 where
       writing x i (getD (written (callsFor x lent)) i []) room ≡ says (packet (showOf x) i)
   -- and of what it wrote, as far as it arrives, and beside the bytes of others, the joiner hands out what demand 3 says
   pub delivered : (onWire : ℕ → List ℕ) → ((i : ℕ) → i < count (showOf x) → Wrote x lent onWire i) →
-      DeliveredOn ourJoiner (showOf x) (map (bytesOf onWire) (x .arrivals))
+      DeliveredOn avc ourJoiner (showOf x) (map (bytesOf onWire) (x .arrivals))

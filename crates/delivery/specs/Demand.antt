@@ -1,6 +1,6 @@
 -- Demand 3: its premises on numbers, room and channel, in the paper's words, and what follows. Assumes nothing.
 use mathlib.Core.Path.{_≡_}
-use mathlib.Core.Bool.{Bool, true, false}
+use mathlib.Core.Bool.{Bool, true}
 use mathlib.Core.List.{List, [], _∷_, map}
 use Prim.Native.Nat.{ℕ, _≤_, _<_}
 use lib.ListN.{length}
@@ -12,9 +12,11 @@ use Rattle.nal.specs.Fed.{prefixed}
 use Rattle.sequence.specs.Arrival.{Arrival, ours, other, acceptedCalls, accepted, never, Window}
 use Rattle.sequence.specs.Group.{wholeOf, handedOf}
 use Rattle.sequence.specs.Joiner.{isOther}
-use Rattle.joiner.specs.Join.{Accepted, Stepped}
+use Rattle.joiner_step.specs.Step.{Accepted}
+use Rattle.joiner_step.specs.Play.{isAccepted, isRefused, handedOut}
+use Rattle.joiner.specs.Join.{Stepped}
 use Rattle.delivery.specs.Show.{Show, count, longest, largest}
-use Rattle.delivery.specs.Play.{Machine, isAccepted, isRefused, handedOut, playedOn, closingOn, arriving}
+use Rattle.delivery.specs.Play.{Machine, playedOn, closingOn, arriving}
 
 -- ---- the premises
 
@@ -27,14 +29,14 @@ OthersForeign source [] = Unit {0}
 OthersForeign source (ours i ∷ later) = OthersForeign source later
 OthersForeign source (other bytes ∷ later) = Foreign source bytes × OthersForeign source later
 
--- numbers, room and channel, whatever was sent
-pub record Received (w : Show) : Type 0 where
+-- numbers, room and channel, whatever was sent; `avc`: units are handed out behind a 4-byte length, and not behind a start code
+pub record Received (avc : Bool) (w : Show) : Type 0 where
   -- "n at most 4,294,967,295"
   pub few : count w ≤ 4294967295
   -- "Room: gather for the longest unit less one byte"
   pub gather-room : longest (w .groups) ≤ length (w .gather)
   -- "output for the largest group as handed out, prefixes included"
-  pub out-room : (i : ℕ) → largest (w .groups) ≤ length (w .outs i)
+  pub out-room : (i : ℕ) → largest avc (w .groups) ≤ length (w .outs i)
   -- "The joiner is opened with the sender's SSRC and first": 32 and 16 bits
   pub source : w .source < 4294967296
   pub first : w .first < 65536
@@ -60,22 +62,22 @@ missed w = never (wasAccepted w) 0 (count w)
 abbrev pub Within : ℕ → List Stepped → Type 0
 Within room = Each (λ (st : Stepped). (st .joiner .gathered ≤ room) × (length (st .gather) ≡ room))
 
--- demand 3 of the joiner m and the show w, of which these bytes arrive
-pub record DeliveredOn (m : Machine) (w : Show) (bytes : List (List ℕ)) : Type 0 where
+-- demand 3 of the joiner m, which hands out behind this prefix, and of the show w, of which these bytes arrive
+pub record DeliveredOn (avc : Bool) (m : Machine) (w : Show) (bytes : List (List ℕ)) : Type 0 where
   -- (a) call by call, a packet is accepted "exactly when its index is above every index that arrived before it"
   pub accepts : map (λ (st : Stepped). isAccepted (st .answer)) (playedOn m w bytes) ≡ acceptedCalls [] (w .arrivals)
   -- (b) what is handed out, in order, is exactly the sent groups all of whose packets were accepted, once each
-  pub handsOut : handedOut (playedOn m w bytes) ≡ map (prefixed false) (wholeOf (wasAccepted w) 0 (w .groups))
+  pub handsOut : handedOut (playedOn m w bytes) ≡ map (prefixed avc) (wholeOf (wasAccepted w) 0 (w .groups))
   -- (c) closing is not refused, and the missed total is the number of packets never accepted
   pub answer : Accepted
   pub closes : closingOn m w bytes .answer ≡ says answer
   pub closed : closingOn m w bytes .joiner .closed ≡ true
   pub counts : closingOn m w bytes .joiner .missed ≡ missed w
   -- (d) with none missed, everything sent was handed out
-  pub complete : closingOn m w bytes .joiner .missed ≡ 0 → handedOut (playedOn m w bytes) ≡ map (prefixed false) (handedOf (w .groups))
+  pub complete : closingOn m w bytes .joiner .missed ≡ 0 → handedOut (playedOn m w bytes) ≡ map (prefixed avc) (handedOf (w .groups))
   -- (e) the gathered run never reaches beyond its buffer, no call of ours is refused, and every other one is
   pub within : Within (length (w .gather)) (playedOn m w bytes)
   pub refuses : map (λ (st : Stepped). isRefused (st .answer)) (playedOn m w bytes) ≡ map isOther (w .arrivals)
 
-abbrev pub Delivered : Machine → Show → Type 0
-Delivered m w = DeliveredOn m w (arriving w)
+abbrev pub Delivered : Bool → Machine → Show → Type 0
+Delivered avc m w = DeliveredOn avc m w (arriving w)

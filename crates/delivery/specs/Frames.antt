@@ -1,4 +1,5 @@
 -- Frames through a fresh sender, as a show: its groups are those of the sender's own definition. Assumes nothing.
+use mathlib.Core.Bool.{Bool}
 use mathlib.Core.List.{List, [], _∷_, _++_, map}
 use Prim.Native.Nat.{ℕ, _%_, _≤_}
 use lib.ListN.{length}
@@ -11,7 +12,7 @@ use Rattle.h264_put.specs.Groups as sender
 use Rattle.h264.specs.Frames.{groupsSent, WhereCoded}
 use Rattle.sequence.specs.Arrival.{Arrival}
 use Rattle.sequence.specs.Group.{Group}
-use Rattle.joiner.specs.General.{Units}
+use Rattle.joiner_step.specs.Run.{Units}
 use Rattle.joiner.specs.Sent.{PlainUnit}
 use Rattle.delivery.specs.Show.{Show}
 use Rattle.delivery.specs.Play.{Machine}
@@ -60,13 +61,13 @@ pub record FrameOk (mtu : ℕ) (frame : List ℕ) : Type 0 where
   pub short : length frame ≤ 16777216
   pub units : Each (λ (u : List ℕ). WhereCoded PlainUnit (fateOf u) u) (unitsAt mtu frame)
 
-pub record SendingPremises (x : Sending) : Type 0 where
+pub record SendingPremises (avc : Bool) (x : Sending) : Type 0 where
   pub frames : Each (FrameOk (x .mtu)) (x .frames)
   -- "mtu 3 to 65,523"
   pub mtu-low : 3 ≤ x .mtu
   pub mtu-high : x .mtu ≤ 65523
-  pub received : Received (showOf x)
+  pub received : Received avc (showOf x)
 
--- demand 3 of the joiner m, whatever frames a fresh sender sends
-abbrev pub Delivers : Machine → Type 0
-Delivers m = (x : Sending) → SendingPremises x → Delivered m (showOf x)
+-- demand 3 of the joiner m and this prefix, whatever frames a fresh sender sends
+abbrev pub Delivers : Bool → Machine → Type 0
+Delivers avc m = (x : Sending) → SendingPremises avc x → Delivered avc m (showOf x)

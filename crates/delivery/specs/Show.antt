@@ -1,5 +1,5 @@
 -- A show: what is sent, with what it is received, and what arrives. Assumes nothing.
-use mathlib.Core.Bool.{false}
+use mathlib.Core.Bool.{Bool}
 use mathlib.Core.List.{List, [], _∷_}
 use Prim.Native.Nat.{ℕ, _-_, max}
 use lib.ListN.{length, getD}
@@ -9,7 +9,7 @@ use Rattle.nal.specs.Fed.{prefixed}
 use Rattle.sequence.specs.Number.{numberOf}
 use Rattle.sequence.specs.Arrival.{Arrival}
 use Rattle.sequence.specs.Group.{Group, packetsOf}
-use Rattle.joiner.specs.General.{Units}
+use Rattle.joiner_step.specs.Run.{Units}
 
 pub record Show : Type 0 where
   -- the groups sent, in order: each its payloads, and the units that it is handed out as
@@ -50,7 +50,7 @@ abbrev pub longest : List (Group (List ℕ) Units) → ℕ
 longest [] = 0
 longest (g ∷ gs) = max (gatheredBy (g .others) (g .handed)) (longest gs)
 
--- "the largest group as handed out, prefixes included"
-abbrev pub largest : List (Group (List ℕ) Units) → ℕ
-largest [] = 0
-largest (g ∷ gs) = max (length (prefixed false (g .handed))) (largest gs)
+-- "the largest group as handed out, prefixes included"; `avc`: each unit follows a 4-byte length, and not a start code
+abbrev pub largest : (avc : Bool) → List (Group (List ℕ) Units) → ℕ
+largest avc [] = 0
+largest avc (g ∷ gs) = max (length (prefixed avc (g .handed))) (largest avc gs)

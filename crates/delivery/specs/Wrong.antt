@@ -5,9 +5,10 @@ use Prim.Native.Nat.{ℕ, _*_, _≤_}
 use lib.ListN.{length, drop}
 use Rattle.wire.specs.Each.{Each}
 use Rattle.sequence.specs.Arrival.{Arrival}
+use Rattle.joiner_step.specs.Play.{handedIn, handedOut}
 use Rattle.joiner.specs.Join.{Stepped}
 use Rattle.delivery.specs.Show.{Show}
-use Rattle.delivery.specs.Play.{Machine, handedIn, handedOut, arriving, played, closing}
+use Rattle.delivery.specs.Play.{Machine, arriving, played, closing}
 
 -- "a joiner that hands out nothing"
 abbrev pub Silent : Machine → Type 0

@@ -255,7 +255,9 @@ struct rtp_joiner {
     uint32_t source;  /* the sender's SSRC */
     uint16_t awaited; /* the sequence number of the next packet */
     uint32_t missed;  /* how many packets were passed over */
-    size_t gathered;  /* how many bytes of the open run stand in front of the gather buffer; 0 where no run is open */
+    bool running;     /* a run is open: fragments of a unit were gathered, and its last is still to come */
+    size_t gathered;  /* how many bytes of the open run stand in front of the gather buffer; 0 where no run is open: 0 to 16,777,215. Any
+                       * other number where no run is open is refused with 8 */
     bool closed;      /* closed: every call answers 22 */
 };
 
@@ -287,7 +289,8 @@ struct rtp_closed rtp_joiner_close(struct rtp_joiner joiner, uint16_t number);
 /* ---- the sizes of these records */
 
 /* How many bytes each record above has, as the calls were compiled: a host whose `sizeof (struct rtp_header)` is not
- * `rtp_sizes().header` was compiled with another header, and must not call. */
+ * `rtp_sizes().header` was compiled with another header, and must not call. Equal sizes alone do not show that the headers are equal: `running`
+ * of a joiner stands where there would be padding without it. */
 struct rtp_sizes {
     size_t refused;
     size_t test;

@@ -57,7 +57,7 @@ use Rattle.joiner.specs.declared.Joined.{Joined}
 use Rattle.joiner.specs.declared.Joined.the-variants as joined
 use Rattle.joiner.specs.declared.Closed.{Closed}
 use Rattle.joiner.specs.declared.Closed.the-variants as closed
-use Rattle.joiner.specs.Join.{accepted}
+use Rattle.joiner_step.specs.Step.{accepted}
 use Rattle.joiner.specs.Said.{saidJoined, saidClosed}
 use Rattle.gateway.specs.Refused.{refusedAs, saidBy, testAs}
 use Rattle.gateway.specs.HeaderAnswers.{headerReadAs, lengthAs, headerChangedAs, elementAs, foundBy, idsAs}

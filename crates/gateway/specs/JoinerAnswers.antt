@@ -2,7 +2,8 @@
 use mathlib.Core.Bool.{Bool, true, false, cond}
 use Prim.Native.Nat.{ℕ}
 use Rattle.error.specs.Said.{Said}
-use Rattle.joiner.specs.Join.{Accepted, Answer, accepted, late, ClosingStepped}
+use Rattle.joiner_step.specs.Step.{Accepted, Answer, accepted, late}
+use Rattle.joiner.specs.Join.{ClosingStepped}
 use Rattle.gateway.specs.declared.rtp_joiner.RtpJoined.{RtpJoined}
 use Rattle.gateway.specs.declared.rtp_joiner.RtpClosed.{RtpClosed}
 use Rattle.gateway.specs.Refused.{refusedIn, flagIn, numberIn}

@@ -99,6 +99,12 @@ impl Host {
         let same = equal::short(same, a, 6, j.awaited);
         let same = equal::word(same, a, 7, j.missed);
         let same = equal::number(same, a, 8, j.gathered);
+        // no H.264 fragment is empty
+        let same = if j.running == (0 < j.gathered) {
+            same
+        } else {
+            false
+        };
         self.same = equal::flag(same, a, 9, j.closed);
         self
     }

@@ -1,9 +1,9 @@
 -- The questions of the paper's section "Worked packets" that are marked with *, and what the definitions answer. Each answer comes from
 -- the very definition that a contract cites. Assumes nothing.
-use mathlib.Core.Bool.{Bool, true, false, cond}
-use mathlib.Core.List.{List, [], _∷_, _++_, map}
+use mathlib.Core.Bool.{false}
+use mathlib.Core.List.{List, [], _∷_}
 use Prim.Native.Nat.{ℕ, _-_}
-use lib.ListN.{length, take, drop, replicate}
+use lib.ListN.{take, drop, replicate}
 use Rattle.error.specs.Refusal.{Refusal}
 use Rattle.error.specs.Said.{Said, says, refused}
 use Rattle.wire.specs.Part.{part}
@@ -20,7 +20,8 @@ use Rattle.h264.specs.Payload as sender
 use Rattle.nal.specs.Fed.{Laid}
 use Rattle.nal.specs.Ran.{RanOn}
 use Rattle.h264_packet.specs.Depacketize as h264
-use Rattle.joiner.specs.Join.{Answer, accepted, late, Stepped, joinStep, opened}
+use Rattle.joiner_step.specs.Step.{Answer, accepted, late}
+use Rattle.joiner.specs.Join.{joinStep, opened}
 
 pub data Question : Type 0 where
   -- a header, and what follows it
@@ -90,10 +91,10 @@ sentSays l = counted (l .answer)
     counted (refused r) = refusing r
 
 -- the bytes handed out
-abbrev pub readSays : Laid RanOn → Says
+abbrev pub readSays : Laid (RanOn ℕ) → Says
 readSays l = handed (l .answer)
   where
-    handed : Said RanOn → Says
+    handed : Said (RanOn ℕ) → Says
     handed (says r) = bytes (take (r .bytes) (l .out))
     handed (refused r) = refusing r
 
