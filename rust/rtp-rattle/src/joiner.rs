@@ -35,6 +35,7 @@ impl fmt::Debug for Joiner {
             .field("source", &self.source())
             .field("awaited", &self.awaited())
             .field("missed", &self.missed())
+            .field("running", &self.record.running)
             .field("gathered", &self.record.gathered)
             .field("closed", &self.is_closed())
             .finish()

@@ -126,6 +126,7 @@ pub struct Joiner {
     pub source: u32,
     pub awaited: u16,
     pub missed: u32,
+    pub running: bool,
     pub gathered: usize,
     pub closed: bool,
 }
@@ -300,6 +301,19 @@ mod tests {
     const X: &[u8] =
         b"\x90\x60\x00\x01\x00\x00\x00\x02\x00\x00\x00\x03\xBE\xDE\x00\x01\x10\xAA\x00\x00";
 
+    /// A plain unit, as source 3 sends it with the number 1.
+    const PLAIN: &[u8] = b"\x80\x60\x00\x01\x00\x00\x00\x02\x00\x00\x00\x03\x65\x01\x02";
+
+    /// A packet through the linked call.
+    fn join(joiner: &mut Joiner, packet: &[u8], gather: &mut [u8], out: &mut [u8]) -> Joined {
+        let (gather_len, out_len) = (gather.len(), out.len());
+        let (gather, out) = (gather.as_mut_ptr(), out.as_mut_ptr());
+        // SAFETY: the record and the slices are lent for the call, and those that are written overlap nothing.
+        unsafe {
+            rtp_joiner_join(joiner, packet.as_ptr(), packet.len(), gather, gather_len, out, out_len)
+        }
+    }
+
     /// What the linked calls write last in each record stands in its last field.
     #[test]
     fn last_fields() {
@@ -364,18 +378,48 @@ mod tests {
             assert_eq!(read.packet.key_idx, 31);
 
             let mut joiner = rtp_joiner_open(3, 1);
-            let plain = b"\x80\x60\x00\x01\x00\x00\x00\x02\x00\x00\x00\x03\x65\x01\x02";
-            let joined = rtp_joiner_join(
-                &mut joiner,
-                plain.as_ptr(),
-                plain.len(),
-                gather.as_mut_ptr(),
-                64,
-                out.as_mut_ptr(),
-                64,
-            );
+            let joined = join(&mut joiner, PLAIN, &mut gather, &mut out);
             assert_eq!((joined.bytes, joiner.awaited), (7, 2));
             assert!(rtp_joiner_close(joiner, 2).joiner.closed);
         }
+    }
+
+    /// A length where no run is open: 8, behind 22, and nothing is changed. Beside an open run it is taken.
+    #[test]
+    fn length_without_a_run() {
+        let (mut gather, mut out) = ([0xEE; 64], [0xEE; 64]);
+        // SAFETY: the call takes no slice.
+        let open = unsafe { rtp_joiner_open(3, 1) };
+        assert_eq!((open.running, open.gathered), (false, 0));
+        for (running, closed, number) in
+            [(false, false, 8), (false, true, 22), (true, true, 22), (true, false, 0)]
+        {
+            let record = Joiner { running, gathered: 2, closed, ..open };
+            // SAFETY: the record goes by value.
+            let shut = unsafe { rtp_joiner_close(record, 1) };
+            assert_eq!(shut.refused.number, number);
+            let mut after = record;
+            assert_eq!(join(&mut after, PLAIN, &mut gather, &mut out).refused.number, number);
+            if number != 0 {
+                for left in [shut.joiner, after] {
+                    assert_eq!((left.running, left.gathered, left.awaited), (running, 2, 1));
+                }
+                assert_eq!((gather, out), ([0xEE; 64], [0xEE; 64]));
+            }
+        }
+    }
+
+    /// A start fragment opens the run, and closing drops it.
+    #[test]
+    fn open_run() {
+        let (mut gather, mut out) = ([0xEE; 64], [0xEE; 64]);
+        let start = [&PLAIN[..12], b"\x7C\x85\x01\x02"].concat();
+        // SAFETY: the call takes no slice.
+        let mut joiner = unsafe { rtp_joiner_open(3, 1) };
+        assert_eq!(join(&mut joiner, &start, &mut gather, &mut out).refused.number, 0);
+        assert_eq!((joiner.running, joiner.gathered), (true, 2));
+        // SAFETY: the record goes by value.
+        let shut = unsafe { rtp_joiner_close(joiner, 2) };
+        assert_eq!((shut.joiner.running, shut.joiner.gathered), (false, 0));
     }
 }

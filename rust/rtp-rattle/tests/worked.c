@@ -148,9 +148,10 @@ static void joining(void) {
         memcpy(packet + 12, sent[i].payload, sent[i].len);
         joined = rtp_joiner_join(&joiner, packet, 12 + sent[i].len, gather, sizeof gather, out, sizeof out);
         CHECK(joined.refused.number == 0 && !joined.late && joined.first == sent[i].number && joined.count == 0);
+        CHECK(joiner.running == (i < 2));
     }
     CHECK(joined.bytes == 10 && SAME(out, "\0\0\0\1\x65\1\2\3\4\5"));
-    CHECK(joiner.awaited == 2 && joiner.missed == 0 && joiner.gathered == 0);
+    CHECK(joiner.awaited == 2 && joiner.missed == 0 && !joiner.running && joiner.gathered == 0);
     struct rtp_closed closed = rtp_joiner_close(joiner, 4);
     CHECK(closed.refused.number == 0 && closed.first == 2 && closed.count == 2 && closed.joiner.closed && closed.joiner.missed == 2);
     CHECK(rtp_joiner_close(closed.joiner, 4).refused.number == RTP_ALREADY_CLOSED);

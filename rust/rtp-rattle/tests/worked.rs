@@ -249,6 +249,9 @@ fn joined() {
         assert_eq!(joiner.join(&numbered(number, payload), &mut out), Ok(accepted));
     }
     assert_eq!(out, [0xEE; 10]);
+    let shown =
+        "Joiner { source: 3, awaited: 1, missed: 0, running: true, gathered: 4, closed: false }";
+    assert_eq!(format!("{joiner:?}"), shown);
     let units = b"\x00\x00\x00\x01\x65\x01\x02\x03\x04\x05";
     let accepted = Joined::Accepted { first: 1, count: 0, units };
     assert_eq!(joiner.join(&numbered(1, FRAGMENTS[2]), &mut out), Ok(accepted));
