@@ -71,6 +71,7 @@ fn feed_fragment(
     requires { ⌜ (2 ≤ length (now payload)) × (length (now payload) ≤ 65535) × (run .gathered ≤ length (now gather)) ⌝ }
     ensures { λ r. ⌜ ranHeard r (now (gather .exit)) (now (out .exit)) ≡ layDoes avc (now (gather .entry)) (now (out .entry)) (fedAfter (runOf run (now (gather .entry))) (fragmented first last head (drop 2 (now (payload .entry))))) ⌝ }
 {
+    let running = run.running;
     let at = run.gathered;
     let n = payload.len() - 2;
     if first {
@@ -79,7 +80,7 @@ fn feed_fragment(
         }
         return with_run(nal::gather_on(&payload[2..], 0, gather), open_run(n));
     }
-    if !run.running {
+    if !running {
         return Ran::On {
             run: no_run(),
             bytes: 0,
@@ -99,12 +100,13 @@ pub fn feed(run: Run, avc: bool, payload: &[u8], gather: &mut [u8], out: &mut [u
     requires { ⌜ (length (now payload) ≤ 65535) × (run .gathered ≤ length (now gather)) ⌝ }
     ensures { λ r. ⌜ ranHeard r (now (gather .exit)) (now (out .exit)) ≡ layDoes avc (now (gather .entry)) (now (out .entry)) (fedAfter (runOf run (now (gather .entry))) (check (now (payload .entry)))) ⌝ }
 {
+    let none = no_run();
     let kind = nal_read::kind_of(payload);
     match kind {
         Kind::Short => Ran::Refused(Error::ErrShortPacket),
         Kind::Unknown(t) => Ran::Refused(Error::NaluTypeIsNotHandled(t)),
-        Kind::Plain => with_run(nal::hand_plain(payload, avc, out), no_run()),
-        Kind::Aggregate => with_run(nal_read::hand_stap_a(payload, avc, out), no_run()),
+        Kind::Plain => with_run(nal::hand_plain(payload, avc, out), none),
+        Kind::Aggregate => with_run(nal_read::hand_stap_a(payload, avc, out), none),
         Kind::Fragment { first, last, head } => {
             feed_fragment(run, avc, first, last, head, payload, gather, out)
         }

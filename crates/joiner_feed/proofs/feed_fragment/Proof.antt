@@ -54,30 +54,40 @@ returns-2 c =
     (c .before .open-run .ensures ∙ ap (λ (n : ℕ). record { running = true; gathered = n }) (sym (length-drop 2 p)))
     ∙ tested s true false _ (c .before .before .before .before .before .before .before .before .if1 .taken) (c .before .before .before .before .before .before .before .if2 .left) refl
 
+-- ---- a later fragment
+
+abbrev start-of : tie.Else1 → tie.Start
+start-of c = c .before .before .before .before
+
 returns-3 : tie.Need-returns-3
 returns-3 c =
-    let s = c .before .before .before .before .before .before .before in
+    let later = c .before .before in
+    let s = start-of later in
     ap (λ (k : Run). record { answer = says (record { run = k; bytes = 0 }); gather = s .args .gather .now; out = s .args .out .now }) (c .no-run .ensures)
     ∙ sym (run-idle (s .args .avc) (s .args .gather .now) (s .args .out .now))
     ∙ sym (without-run s (s .args .last))
-    ∙ tested s false _ false (c .before .before .before .if1 .left) refl (not-back (c .before .if3 .taken))
+    ∙ tested s false _ false (later .if1 .left) refl (not-back (c .before .if3 .taken))
 
 returns-4 : tie.Need-returns-4
 returns-4 c =
-    let s = c .before .before .before .before .before .before .before .before .before .before .before .before .before .before .before .before .before .before in
+    let done = c .before .before .before .before .before .before in
+    let last = done .before .before .before .before .before in
+    let open-run = last .before in
+    let s = start-of (open-run .before) in
     let g = s .args .gather .now in
     let o = s .args .out .now in
     let p = s .args .payload .now in
     let at = s .args .run .gathered in
-    let bytes = take at g ++ drop 2 p in
-    finished-heard recorded (s .args .avc) g o none (s .args .head ∷ []) bytes _ (saidHanded (c .before .before .before .before .before .before .finish .result)) _ _
-    (c .with-run2 .ensures ∙ ap (λ (k : Run). withRun k (saidHanded (c .before .before .before .before .before .before .finish .result))) (c .before .no-run2 .ensures))
-    (c .before .before .before .before .before .before .finish .ensures ∙ ap (λ (l : List ℕ). layBoth (s .args .avc) g o (take at g ++ l) ((s .args .head ∷ take at g ++ l) ∷ [])) (rest-of 2 p))
-    ∙ tested s false true true (c .before .before .before .before .before .before .before .before .before .before .before .before .before .before .if1 .left) (c .before .before .before .before .before .before .before .before .before .before .before .if4 .taken) (not-back (c .before .before .before .before .before .before .before .before .before .before .before .before .if3 .left))
+    finished-heard recorded (s .args .avc) g o none (s .args .head ∷ []) (take at g ++ drop 2 p) _ (saidHanded (done .finish .result)) _ _
+    (c .with-run2 .ensures ∙ ap (λ (k : Run). withRun k (saidHanded (done .finish .result))) (c .before .no-run2 .ensures))
+    (done .finish .ensures ∙ ap (λ (l : List ℕ). layBoth (s .args .avc) g o (take at g ++ l) ((s .args .head ∷ take at g ++ l) ∷ [])) (rest-of 2 p))
+    ∙ tested s false true true (open-run .before .if1 .left) (last .if4 .taken) (not-back (open-run .if3 .left))
 
 returns-5 : tie.Need-returns-5
 returns-5 c =
-    let s = c .before .before .before .before .before .before .before .before .before .before .before .before .before .before in
+    let middle = c .before .before .before .before .before .before .before in
+    let open-run = middle .before in
+    let s = start-of (open-run .before) in
     let g = s .args .gather .now in
     let p = s .args .payload .now in
     let at = s .args .run .gathered in
@@ -85,7 +95,7 @@ returns-5 c =
     ongoing-heard recorded (s .args .avc) g (s .args .out .now) (gathering tt bytes) bytes _ _ _ _ (c .with-run3 .ensures)
     (c .before .before .before .before .gather-on2 .ensures ∙ ap (λ (l : List ℕ). layGather g (take at g ++ l)) (rest-of 2 p))
     (c .before .open-run2 .ensures ∙ ap (λ (n : ℕ). record { running = true; gathered = n }) (omega (arith, length-gathered g (drop 2 p) at (search needs), length-drop 2 p)))
-    ∙ tested s false false true (c .before .before .before .before .before .before .before .before .before .before .if1 .left) (c .before .before .before .before .before .before .before .if4 .left) (not-back (c .before .before .before .before .before .before .before .before .if3 .left))
+    ∙ tested s false false true (open-run .before .if1 .left) (middle .if4 .left) (not-back (open-run .if3 .left))
 
 pub feed-fragment-spec : {M : Type 1} → statement M
 feed-fragment-spec =
