@@ -1,4 +1,3 @@
-pub mod Bools
 pub mod Codes
 pub mod Pieces
 pub mod Written

@@ -14,7 +14,7 @@ use Rattle.wire.specs.Each.{Each}
 use Rattle.annexb.specs.Search.{zerosBy, endsCode}
 use Rattle.annexb.specs.Units.{Cut, cut, cutBy, units, unitsOfCut}
 use Rattle.annexb.specs.AnnexB.{Prefixed, written, Apart, unitsWritten}
-use Rattle.annexb.proofs.Bools.{and-both}
+use Rattle.wire.proofs.Bools.{and-both}
 use Rattle.annexb.proofs.Pieces.{zero-on}
 
 -- ---- zeros

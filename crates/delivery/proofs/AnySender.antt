@@ -14,6 +14,7 @@ use Rattle.rfc6184.specs.Sending as rfc
 use Rattle.rfc6184.proofs.Octets.{fields-of-octet}
 use Rattle.nal.specs.Unpack.{sizedUnits}
 use Rattle.nal.specs.Unpack as unpacking
+use Rattle.h264_rfc.proofs.Complete.{aggregated-sized, sized}
 use Rattle.sequence.specs.Group.{Group, packetsIn, packetsOf}
 use Rattle.joiner_step.specs.Run.{Units}
 use Rattle.joiner.specs.Sent.{Sent, alone, fragmented, groupOf, groupsOf, PlainUnit}
@@ -39,10 +40,6 @@ sentBy (fuA g) =
     fragmented (octet (g .f) (g .nri) (g .type)) (g .first .octets) (map octetsIn (g .middle)) (g .last .octets)
 
 -- ---- the same group
-
-aggregated-sized : (us : List Nal) → aggregated us ≡ sizedUnits (map octetsOf us)
-aggregated-sized [] = refl
-aggregated-sized (u ∷ us) = ap (λ (l : List ℕ). be16 (length (octetsOf u)) ++ (octetsOf u ++ l)) (aggregated-sized us)
 
 module _ (g : Fragmented) (k : Formed (g .f) (g .nri) (g .type)) where
   abbrev head : ℕ
@@ -113,14 +110,10 @@ taken-unit u w t long = by (fields-of-octet (u .f) (u .nri) (u .type) w .2) long
     by e (inl h) = inl (record { long = h; type-low = omega (arith, t .low); type-high = omega (arith, t .high) })
     by e (inr h) = inr (record { long = h .0; type = e ∙ h .1 })
 
-sized-units : (us : List Nal) → Each Sized us → unpacking.Sized (map octetsOf us)
-sized-units us w =
-    each-map (λ (u : List ℕ). length u < 65536) octetsOf us (each-by (λ (u : Nal). length (octetsOf u) < 65536) Sized (λ u z. z .size) us w)
-
 taken-by : (s : rfc.Sending) → FormedSending s → Ruled s → Taken s → owing.Taken (sentBy s)
 taken-by (single u) w r t = taken-unit u w r t
 taken-by (stapA f nri []) w r t = absurd (omega (arith, w .1))
-taken-by (stapA f nri (u ∷ us)) w r t = (fields-of-octet f nri 24 (w .0) .2, sized-units (u ∷ us) (w .2))
+taken-by (stapA f nri (u ∷ us)) w r t = (fields-of-octet f nri 24 (w .0) .2, sized (u ∷ us) (w .2))
 taken-by (fuA g) w r t = (
   (
     omega (arith, t .0),

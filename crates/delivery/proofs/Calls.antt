@@ -20,11 +20,12 @@ use Rattle.h264_put.specs.Groups.{Saved, nothingSaved, keep, keepAll, groupsOf,
 use Rattle.h264_put.specs.Step.{tooLong}
 use Rattle.h264.specs.Payload.{Counts, Left, layOut, savedIn, outside, overLimit, tooSmall, refusedWith, emptySink, sentAs, leftBy, payloadOf}
 use Rattle.h264.specs.Frames.{groupsFrom, groupsSent}
-use Rattle.annexb.proofs.Bools.{or-false-left, or-false-right}
+use Rattle.wire.proofs.Bools.{or-false-left, or-false-right}
 use Rattle.h264_put.proofs.Sizes.{packets-append}
+use Rattle.h264.proofs.Calls.{fits-small}
 use Rattle.h264.proofs.State.{saved-laid, Short}
 use Rattle.h264.proofs.Walks.{short-keep}
-use Rattle.error.proofs.Refusing.{not-says}
+use Rattle.error.proofs.Refusing.{not-says, same-answer}
 use Rattle.sequence.specs.Number.{numberOf}
 use Rattle.sequence.specs.Arrival.{Arrival, ours, other, raised, Window}
 use Rattle.sequence.specs.Joiner.{bytesOf}
@@ -84,11 +85,6 @@ none-long : (us : List (List ℕ)) → Each (λ (u : List ℕ). tooLong u ≡ fa
 none-long [] w = refl
 none-long (u ∷ us) w = ap₂ (λ (x y : Bool). x || y) (w .0) (none-long us (w .1))
 
-room-enough : (ps : List (List ℕ)) (out ends : List ℕ) → Room (emptySink out ends) ps → tooSmall ps out ends ≡ false
-room-enough ps out ends r =
-    ap₂ (λ (x y : Bool). x || y) (le-ltb (length out) (length (joined ps)) (omega (arith, r .bytes)))
-    (le-ltb (length ends) (length ps) (omega (arith, r .places)))
-
 short-all : (v : Saved) (us : List (List ℕ)) → Short v → Each (λ (u : List ℕ). tooLong u ≡ false) us → Short (keepAll v us)
 short-all v [] s w = s
 short-all v (u ∷ us) s w = short-all (keep v u) us (short-keep v u s (w .0)) (w .1)
@@ -140,7 +136,7 @@ module _ (mtu : ℕ) where
         answers (outside (layOut v) mtu frame) (overLimit (unitsAt mtu frame)) (tooSmall (sent (savedIn (layOut v)) frame) out ends)
         (refusedWith 8 (layOut v) out ends) (refusedWith 7 (layOut v) out ends) (refusedWith 5 (layOut v) out ends) (as-saved (savedIn (layOut v)))
         (inside v mtu frame short m f) (none-long (unitsAt mtu frame) sets)
-        (ap (λ (x : Saved). tooSmall (sent x frame) out ends) (saved-laid v) ∙ room-enough (sent v frame) out ends room)
+        (ap (λ (x : Saved). tooSmall (sent x frame) out ends) (saved-laid v) ∙ fits-small (sent v frame) out ends room)
         ∙ ap as-saved (saved-laid v)
       where
         as-saved : Saved → Left
@@ -159,9 +155,6 @@ module _ (mtu : ℕ) where
         )
 
 -- ---- the packets
-
-said-same : {A : Type 0} (x : Said A) (a b : A) → x ≡ says a → x ≡ says b → a ≡ b
-said-same x a b p q = cc
 
 -- packets of ours that are the same, and whatever else comes
 same-arrivals : (sent onWire : ℕ → List ℕ) (n m : ℕ) → ((i : ℕ) → i < n → onWire i ≡ sent i) → (later : List (Arrival (List ℕ))) → Window n m later →
@@ -197,7 +190,7 @@ module _ (avc : Bool) (x : Sending) (p : SendingPremises avc x) (lent : ℕ → 
   arrives : (onWire : ℕ → List ℕ) → ((i : ℕ) → i < count (showOf x) → Wrote x lent onWire i) → map (bytesOf onWire) (x .arrivals) ≡ arriving (showOf x)
   arrives onWire wrote =
       same-arrivals (packet (showOf x)) onWire (count (showOf x)) 0
-      (λ i h. let k : Wrote x lent onWire i = wrote i h in said-same _ (onWire i) (packet (showOf x) i) (k .wrote) (writes-packets i (k .room) h (k .enough)))
+      (λ i h. let k : Wrote x lent onWire i = wrote i h in same-answer _ (onWire i) (packet (showOf x) i) (k .wrote) (writes-packets i (k .room) h (k .enough)))
       (x .arrivals) (p .received .window)
 
   pub from-the-calls : avcOf (opened (x .source) (x .first)) ≡ avc → FromTheCalls avc x lent

@@ -32,7 +32,7 @@ use Rattle.joiner_step.specs.Run.{Units, Run, none}
 use Rattle.joiner_step.specs.Step.{Accepted, opening, wrong}
 use Rattle.joiner_step.specs.General.{Room, Enough, refusing, codec, heardFrom, reader, parts}
 use Rattle.joiner_step.specs.Play.{handedOut, joinerAfter}
-use Rattle.joiner_step.proofs.Lying.{or-left}
+use Rattle.wire.proofs.Bools.{or-false-left}
 use Rattle.joiner_step.proofs.Rooms.{Small, small-enough}
 use Rattle.joiner_step.proofs.Playing.{accepted-as, refused-as, handed-as, rooms, Plays, plays}
 use Rattle.joiner_feed.specs.Content.{Content, Note}
@@ -206,7 +206,7 @@ module _ (avc : Bool) (w : Show) (prefix : avcOf (opened (w .source) (w .first))
   within st g =
       let fits : st .joiner .gathered ≤ length (st .gather) =
       ltb-false (length (st .gather)) (st .joiner .gathered)
-      (or-left (ltb (length (st .gather)) (st .joiner .gathered)) (wrong (choice avc) (keptOf (st .joiner) .run)) (g .0 .ready .inside)) in
+      (or-false-left (ltb (length (st .gather)) (st .joiner .gathered)) (wrong (choice avc) (keptOf (st .joiner) .run)) (g .0 .ready .inside)) in
       (omega (arith, g .1), g .1)
 
   pub all-delivered : Delivered avc ourJoiner w

@@ -9,7 +9,7 @@ use native.Mathlib.Omega.{arith}
 use lib.Dec.{leb, ltb}
 use lib.ListN.{length}
 use borrow.Author.Tests.{le-leb, lt-leb}
-use Rattle.annexb.proofs.Bools.{and-both}
+use Rattle.wire.proofs.Bools.{and-both}
 use Rattle.h264_put.specs.declared.fate.Fate.{Fate}
 use Rattle.h264_put.specs.declared.fate.Fate.the-variants.{Empty, Dropped, Sps, Pps, Coded}
 use Rattle.h264_put.specs.Groups.{Saved, nothingSaved, bothSaved, Group, plain, fateOf, pairFor, fragmentsOf, unitFor, keepAll, groupsOf}

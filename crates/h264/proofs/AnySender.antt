@@ -8,7 +8,7 @@ use native.Mathlib.Omega.{arith}
 use lib.Dec.{eqb, leb, ltb}
 use lib.ListN.{length}
 use borrow.Author.Tests.{ltb-true, eqb-true}
-use Rattle.annexb.proofs.Bools.{and-both}
+use Rattle.wire.proofs.Bools.{and-both}
 use Rattle.rfc6184.specs.Sending.{Each, Nal, UnitType, Packetization}
 use Rattle.rfc6184.proofs.Each.{each-append, each-by}
 use Rattle.annexb.specs.AnnexB.{unitsWritten}

@@ -19,7 +19,7 @@ use Rattle.h264.specs.Payload.{layOut, savedIn, outside, overLimit, tooS
 use Rattle.h264_put.specs.Step.{tooLong}
 use Rattle.h264.specs.Step.{Tidy, Done}
 use Rattle.h264_measure.specs.Measured.{Lengths, measured, measuredAll, nothingYet}
-use Rattle.annexb.proofs.Bools.{or-false-left, or-false-right}
+use Rattle.wire.proofs.Bools.{or-false-left, or-false-right}
 use Rattle.h264_put.proofs.Sizes.{packets-append}
 use Rattle.h264.proofs.State.{Short, saved-laid, tidy-laid}
 
@@ -62,7 +62,7 @@ module _ (mtu : ℕ) where
 abbrev pub leftWith : H264Payloader → Sink → Left
 leftWith h s = record { sender = h; answer = says (record { packets = s .n; bytes = s .at }); out = s .out; ends = s .ends }
 
-fits-small : (packets : List (List ℕ)) (out ends : List ℕ) → Room (emptySink out ends) packets → tooSmall packets out ends ≡ false
+pub fits-small : (packets : List (List ℕ)) (out ends : List ℕ) → Room (emptySink out ends) packets → tooSmall packets out ends ≡ false
 fits-small packets out ends r =
     ap₂ (λ (x y : Bool). x || y)
     (le-ltb (length out) (length (joined packets)) (omega (arith, r .bytes)))

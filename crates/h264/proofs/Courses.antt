@@ -7,7 +7,7 @@ use Prim.Native.Nat.{ℕ}
 use lib.Dec.{leb}
 use lib.ListN.{length}
 use borrow.Author.Tests.{leb-false}
-use Rattle.annexb.proofs.Bools.{and-both, or-false-left, or-false-right}
+use Rattle.wire.proofs.Bools.{and-both, or-false-left, or-false-right}
 use Rattle.h264_put.specs.declared.fate.Fate.{Fate}
 use Rattle.h264_put.specs.declared.fate.Fate.the-variants.{Empty, Dropped, Sps, Pps, Coded}
 use Rattle.h264_put.specs.Groups.{Saved, nothingSaved, bothSaved, Group, fateOf, keep, keepBy, keepAll, pairFor, unitFor, groupsBy, groupsFor, groupsOf}

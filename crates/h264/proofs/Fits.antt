@@ -15,7 +15,7 @@ use Rattle.h264_put.specs.declared.fate.Fate.{Fate}
 use Rattle.h264_put.specs.declared.fate.Fate.the-variants.{Empty, Dropped, Sps, Pps, Coded}
 use Rattle.h264_put.specs.Groups.{Saved, Group, pair, plain, fragments, bothSaved, fateOf, keep, stapA, fragment, pairFor, fragmentsOf, unitFor, groupsBy, groupsFor, groupsOf, packetsOfGroup, packetsOf}
 use Rattle.h264.specs.Conformance.{Sendable}
-use Rattle.annexb.proofs.Bools.{and-both}
+use Rattle.wire.proofs.Bools.{and-both}
 use Rattle.h264_put.proofs.UnitFates.{coded-some}
 use Rattle.h264_put.proofs.Sinks.{length-stapA, length-fragment}
 use Rattle.h264_put.proofs.Sizes.{unit-alone, unit-dropped, unit-divided}

@@ -18,7 +18,7 @@ use Rattle.h264_put.specs.Groups.{Saved, nothingSaved, bothSaved, fateOf, keep,
 use Rattle.h264.specs.Payload.{layOut, savedIn, overLimit}
 use Rattle.h264_put.specs.Step.{isSaved, tooLong}
 use Rattle.h264.specs.Step.{Tidy, Ready, Done}
-use Rattle.annexb.proofs.Bools.{or-false-left, or-false-right}
+use Rattle.wire.proofs.Bools.{or-false-left, or-false-right}
 use Rattle.h264_put.proofs.Sizes.{packets-append}
 use Rattle.h264.proofs.State.{Short, saved-laid, tidy-laid, sps-length, pps-length}
 

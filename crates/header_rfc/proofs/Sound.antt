@@ -9,6 +9,7 @@ use native.Mathlib.Nat.{lt-of-not-le}
 use native.Mathlib.Decide.{decLe, ℕ-discrete}
 use native.Mathlib.Omega.{arith}
 use lib.ListN.{length, drop}
+use Rattle.error.proofs.Refusing.{same-answer}
 use Rattle.error.specs.Said.{Said, says, refused, refuse}
 use Rattle.header.specs.declared.HeaderRead.the-variants as read
 use Rattle.header.specs.declared.Unmarshalled.{Unmarshalled}
@@ -55,9 +56,6 @@ cut-refused s fits (content-cut x g h) =
 
 pub not-refused : {A : Type 0} (a : Said A) (n : ℕ) (r : A) → a ≡ refuse n → a ≡ says r → ⊥
 not-refused a n r p q = let z : _≡_ {A = ℕ} 0 1 = cc in omega arith
-
-pub same-answer : {A : Type 0} (a : Said A) (r t : A) → a ≡ says r → a ≡ says t → r ≡ t
-same-answer a r t p q = cc
 
 pub fits-accepted : (s : List ℕ) (r : Reading) → readHeader s ≡ says r → Fits s
 fits-accepted s r e =

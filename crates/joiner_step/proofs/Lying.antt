@@ -11,22 +11,15 @@ use borrow.Author.Tests.{ltb-false, le-ltb}
 use Rattle.error.specs.Refusal.{Refusal}
 use Rattle.error.specs.Said.{Said, says, refused}
 use Rattle.wire.specs.Part.{splice}
+use Rattle.wire.proofs.Bools.{or-false-left, or-false-right}
 use Rattle.wire.proofs.Part.{part-of-splice, length-splice}
-use Rattle.nal.specs.Fed.{tooLong}
+use Rattle.nal.specs.Fed.{isOver, tooLong}
 use Rattle.sequence.specs.Codec.{Fed, refusal, fed}
 use Rattle.sequence.specs.Refines.{fedAs, Refines}
 use Rattle.joiner_step.specs.Run.{Units, Run, gathering, Does, hands, gathers, ends, fedBy, nothing, heldOf}
 use Rattle.joiner_step.specs.Choice.{Choice}
 use Rattle.joiner_step.specs.Step.{wrong, outside}
-use Rattle.joiner_step.specs.General.{Room, refusing, groupIn, isOver, Lying, within, codec, lain, lyingCodec, runIn}
-
-pub or-left : (a b : Bool) → (a || b) ≡ false → a ≡ false
-or-left true b e = e
-or-left false b e = refl
-
-pub or-right : (a b : Bool) → (a || b) ≡ false → b ≡ false
-or-right true b e = absurd (true≢false e)
-or-right false b e = e
+use Rattle.joiner_step.specs.General.{Room, refusing, groupIn, Lying, within, codec, lain, lyingCodec, runIn}
 
 -- what is gathered has room
 pub record Roomy (n most : ℕ) : Type 0 where
@@ -36,8 +29,8 @@ pub record Roomy (n most : ℕ) : Type 0 where
 pub roomy : (n most : ℕ) → isOver most n ≡ false → Roomy n most
 roomy n most e =
     record {
-      fits = ltb-false most n (or-left (ltb most n) (ltb 16777215 n) e);
-      few = ltb-false 16777215 n (or-right (ltb most n) (ltb 16777215 n) e);
+      fits = ltb-false most n (or-false-left (ltb most n) (ltb 16777215 n) e);
+      few = ltb-false 16777215 n (or-false-right (ltb most n) (ltb 16777215 n) e);
     }
 
 module _ {P C N : Type 0} (c : Choice P C N) where

@@ -2,7 +2,7 @@
 -- nothing.
 use mathlib.Core.Path.{_≡_, refl, sym, ap, ap₂, subst, _∙_}
 use mathlib.Core.Bool.{Bool}
-use mathlib.Core.List.{List, [], _∷_, _++_, map, map-map, map-append}
+use mathlib.Core.List.{List, [], _∷_, _++_, map, map-map, map-append, map-congr-left}
 use Prim.Native.Nat.{ℕ, suc}
 use lib.ListN.{length}
 use Rattle.error.specs.Refusal.{Refusal}
@@ -22,21 +22,17 @@ use Rattle.joiner_step.specs.Play.{steps, joinerAfter, isAccepted, isRef
 abbrev pub told : {J : Type 0} → Stepped J → Answer Refusal (List ℕ)
 told st = seenBy (st .answer) (st .out)
 
-same-map : {A C : Type 0} (f g : A → C) → ((x : A) → f x ≡ g x) → (l : List A) → map f l ≡ map g l
-same-map f g e [] = refl
-same-map {C = C} f g e (x ∷ l) = ap₂ (λ (c : C) (cs : List C). c ∷ cs) (e x) (same-map f g e l)
-
 module _ {J : Type 0} (avc : Bool) (sts : List (Stepped J)) (l : List (Answer Refusal Units)) (same : map told sts ≡ map (asBytes avc) l) where
   -- what can be told of an answer call by call
   seen-as : {C : Type 0} (f : Said step.Answer → C) (g : Answer Refusal (List ℕ) → C) (h : Answer Refusal Units → C) →
       ((a : Said step.Answer) (out : List ℕ) → f a ≡ g (seenBy a out)) → ((a : Answer Refusal Units) → g (asBytes avc a) ≡ h a) →
       map (λ (st : Stepped J). f (st .answer)) sts ≡ map h l
   seen-as f g h e d =
-      same-map (λ (st : Stepped J). f (st .answer)) (λ (st : Stepped J). g (told st)) (λ st. e (st .answer) (st .out)) sts
+      map-congr-left {f = λ (st : Stepped J). f (st .answer)} {g = λ (st : Stepped J). g (told st)} {l = sts} (λ st there. e (st .answer) (st .out))
       ∙ sym (map-map g told sts)
       ∙ ap (map g) same
       ∙ map-map g (asBytes avc) l
-      ∙ same-map (λ (a : Answer Refusal Units). g (asBytes avc a)) h d l
+      ∙ map-congr-left {f = λ (a : Answer Refusal Units). g (asBytes avc a)} {g = h} {l = l} (λ a there. d a)
 
   pub accepted-as : map (λ (st : Stepped J). isAccepted (st .answer)) sts ≡ map isTaken l
   accepted-as = seen-as isAccepted isTaken isTaken one other

@@ -12,7 +12,7 @@ use Rattle.joiner_step.specs.Run.{Held}
 use Rattle.joiner_step.specs.Choice.{Arrived, Choice}
 use Rattle.joiner_step.specs.Step.{Kept, Stepped, unchanged, late, stray, wrong, outside, byCheck, byDistance, bySource, byReading, step, ClosingStepped, stillOpen, shut, closeBy, closing}
 use Rattle.joiner_step.specs.Paragraph.{InDomain, Open}
-use Rattle.joiner_step.proofs.Lying.{or-left, or-right}
+use Rattle.wire.proofs.Bools.{or-false-left, or-false-right}
 
 -- ---- the domain
 
@@ -23,8 +23,8 @@ module _ {P C N : Type 0} (c : Choice P C N) (h : Held N) where
   pub in-domain : wrong c h ≡ false → InDomain c h
   in-domain e =
       record {
-        few = ltb-false 16777215 (h .gathered) (or-left (ltb 16777215 (h .gathered)) (stray c h) e);
-        sure = λ off. nothing-more (sym (ap (λ (b : Bool). cond b false saysMore) off) ∙ or-right (ltb 16777215 (h .gathered)) (stray c h) e);
+        few = ltb-false 16777215 (h .gathered) (or-false-left (ltb 16777215 (h .gathered)) (stray c h) e);
+        sure = λ off. nothing-more (sym (ap (λ (b : Bool). cond b false saysMore) off) ∙ or-false-right (ltb 16777215 (h .gathered)) (stray c h) e);
       }
     where
       not-false : (b : Bool) → not b ≡ false → b ≡ true
@@ -33,8 +33,8 @@ module _ {P C N : Type 0} (c : Choice P C N) (h : Held N) where
 
       nothing-more : saysMore ≡ false → (h .gathered ≡ 0) × (c .noted (h .note) ≡ false)
       nothing-more e = (
-        eqb-true (h .gathered) 0 (not-false (eqb (h .gathered) 0) (or-left (not (eqb (h .gathered) 0)) (c .noted (h .note)) e)),
-        or-right (not (eqb (h .gathered) 0)) (c .noted (h .note)) e,
+        eqb-true (h .gathered) 0 (not-false (eqb (h .gathered) 0) (or-false-left (not (eqb (h .gathered) 0)) (c .noted (h .note)) e)),
+        or-false-right (not (eqb (h .gathered) 0)) (c .noted (h .note)) e,
       )
 
   pub domain-right : InDomain c h → wrong c h ≡ false
@@ -50,7 +50,7 @@ module _ {P C N : Type 0} (c : Choice P C N) (h : Held N) where
   domain-by few e = in-domain (ap₂ (λ (a b : Bool). a || b) (le-ltb 16777215 (h .gathered) few) e)
 
   pub strays-out : stray c h ≡ true → InDomain c h → ⊥
-  strays-out e d = true≢false (sym e ∙ or-right (ltb 16777215 (h .gathered)) (stray c h) (domain-right d))
+  strays-out e d = true≢false (sym e ∙ or-false-right (ltb 16777215 (h .gathered)) (stray c h) (domain-right d))
 
 -- ---- 22, 8
 
@@ -76,8 +76,8 @@ module _ {P C N : Type 0} (c : Choice P C N) (j : Kept N) (packet gather out : L
           (never
           (record {
             not-closed = e;
-            domain = in-domain c (j .run) (or-right (ltb (length gather) (j .run .gathered)) (wrong c (j .run)) is);
-            lies = ltb-false (length gather) (j .run .gathered) (or-left (ltb (length gather) (j .run .gathered)) (wrong c (j .run)) is);
+            domain = in-domain c (j .run) (or-false-right (ltb (length gather) (j .run .gathered)) (wrong c (j .run)) is);
+            lies = ltb-false (length gather) (j .run .gathered) (or-false-left (ltb (length gather) (j .run .gathered)) (wrong c (j .run)) is);
           }))
 
   pub step-reads : Open c j packet gather out → step c j packet gather out ≡ byReading c j gather out (c .reads packet)

@@ -26,7 +26,7 @@ use Rattle.joiner_step.specs.Choice.{Arrived, Choice}
 use Rattle.joiner_step.specs.Step.{Kept, Answer, late, Stepped, unchanged, stillOpen, outside, wrong, laidBy, fedTo, runAt, byCheck, byDistance, bySource, byReading, step, closeBy, closing}
 use Rattle.joiner_step.specs.Step as step
 use Rattle.joiner_step.specs.General.{Room, refusing, groupIn, checkedAs, Lying, lain, lyingCodec, heardFrom, partsOf, lying, handedBytes, seenBy, asBytes, closingSeen}
-use Rattle.joiner_step.proofs.Lying.{or-right}
+use Rattle.wire.proofs.Bools.{or-false-right}
 
 -- ---- what is handed out
 
@@ -178,7 +178,7 @@ module _ {P C N : Type 0} (c : Choice P C N) (j : Kept N) (gather out : List ℕ
     unfolding closing
     closing-plain number =
         ap₂ (λ (shut off : Bool). closingSeen (cond shut (stillOpen j 22) (cond off (stillOpen j 8) (closeBy c j d))))
-        not-closed (or-right (ltb (length gather) (j .run .gathered)) (wrong c (j .run)) inside)
+        not-closed (or-false-right (ltb (length gather) (j .run .gathered)) (wrong c (j .run)) inside)
         ∙ go (leb 32768 d) (ltb 4294967295 (j .missed + d)) (ltb (length out) 0) (le-ltb (length out) 0 (omega arith))
       where
         d : ℕ

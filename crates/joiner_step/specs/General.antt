@@ -9,7 +9,7 @@ use Rattle.error.specs.Refusal.{Refusal}
 use Rattle.error.specs.Said.{Said, says, refused}
 use Rattle.wire.specs.Part.{splice}
 use Rattle.wire.specs.Packets.{joined}
-use Rattle.nal.specs.Fed.{prefixed, tooLong}
+use Rattle.nal.specs.Fed.{prefixed, isOver, tooLong}
 use Rattle.sequence.specs.Rule.{Rule}
 use Rattle.sequence.specs.Codec.{Checked, bad, good, Fed, refusal, fed, Codec}
 use Rattle.sequence.specs.Joiner.{Heard, turnedAway, numbered, Parts, State, refuses, tooLate, takes, notShut, shut}
@@ -39,10 +39,6 @@ groupIn (u ∷ us) = (u ∷ us) ∷ []
 abbrev pub checkedAs : {C : Type 0} → Said C → Checked Refusal C
 checkedAs (refused r) = bad r
 checkedAs (says x) = good x
-
--- "6: gather buffer too small for the fragments, or the run over 16,777,215 bytes"
-abbrev pub isOver : ℕ → ℕ → Bool
-isOver room n = ltb room n || ltb 16777215 n
 
 -- a run as the record and the gather buffer have it
 pub record Lying (N : Type 0) : Type 0 where

@@ -65,9 +65,12 @@ pub record Laid (A : Type 0) : Type 0 where
   pub gather : List ℕ
   pub out : List ℕ
 
--- "6: gather buffer too small for the fragments, or the run over 16,777,215 bytes"
-abbrev pub tooLong : List ℕ → List ℕ → Bool
-tooLong gather kept = ltb (length gather) (length kept) || ltb 16777215 (length kept)
+-- "6: gather buffer too small for the fragments, or the run over 16,777,215 bytes"; by the buffer's length, and by the buffer
+abbrev pub isOver : (room n : ℕ) → Bool
+isOver room n = ltb room n || ltb 16777215 n
+
+abbrev pub tooLong : (gather kept : List ℕ) → Bool
+tooLong gather kept = isOver (length gather) (length kept)
 
 -- what is gathered stays only where nothing is refused
 abbrev pub gatherAfter : List ℕ → List ℕ → Said ℕ → List ℕ

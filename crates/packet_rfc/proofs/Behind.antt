@@ -16,7 +16,8 @@ use Rattle.rfc3550.specs.Rfc3550.{Octets}
 use Rattle.rfc3550.specs.Packet.{Padding, countIn, paddingOctets, Padded, Uncounted, lastOctet, Short, nothing-there, over-counted}
 use Rattle.rfc3550.proofs.Octets.{below-drop}
 use Rattle.rfc3550.proofs.Packets.{last-at, count-last, length-padded, padded-or-not}
-use Rattle.header_rfc.proofs.Sound.{not-refused, same-answer}
+use Rattle.error.proofs.Refusing.{same-answer}
+use Rattle.header_rfc.proofs.Sound.{not-refused}
 use Rattle.packet.specs.Read.{stripped, PacketReading, with-fields, behind, readPacket}
 use Rattle.packet_rfc.specs.Says.{headerOf, Measured, all, without-padding, uncounted}
 

@@ -3,3 +3,4 @@ pub mod Part
 pub mod Packets
 pub mod Turns
 pub mod Each
+pub mod Bools

@@ -1,7 +1,7 @@
 -- Each test says its half.
 use mathlib.Core.Path.{refl}
 use borrow.Author.Tests.{eq-eqb, ne-eqb}
-use Rattle.annexb.proofs.Bools.{or-yes, or-no}
+use Rattle.wire.proofs.Bools.{or-yes, or-no}
 use Rattle.h264.proofs.send.is_nothing.Statement.{statement}
 use Rattle.h264.proofs.send.is_nothing.Tie as tie
 
