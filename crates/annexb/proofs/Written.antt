@@ -2,7 +2,7 @@
 -- the last: zeros are only counted, a unit in which no start code lies is one piece, and each code ends one. Assumes nothing.
 use mathlib.Core.Path.{_≡_, refl, sym, ap, ap₂, subst, _∙_}
 use mathlib.Core.List.{List, [], _∷_, _++_, append-nil, append-assoc}
-use mathlib.Core.Bool.{Bool, true, false}
+use mathlib.Core.Bool.{Bool, true, false, and-eq-true-iff}
 use Prim.Native.Nat.{ℕ, zero, suc, _+_, _-_, _≤_}
 use native.Mathlib.Nat.{zero-add, add-zero}
 use native.Mathlib.Numerals.{add-one}
@@ -14,7 +14,6 @@ use Rattle.wire.specs.Each.{Each}
 use Rattle.annexb.specs.Search.{zerosBy, endsCode}
 use Rattle.annexb.specs.Units.{Cut, cut, cutBy, units, unitsOfCut}
 use Rattle.annexb.specs.AnnexB.{Prefixed, written, Apart, unitsWritten}
-use Rattle.wire.proofs.Bools.{and-both}
 use Rattle.annexb.proofs.Pieces.{zero-on}
 
 -- ---- zeros
@@ -56,7 +55,7 @@ cut-unit (b ∷ s) z rest p = go (eqb b 0) (endsCode b z) refl refl (λ k q. cut
         ∙ again (z + 1) (subst Apart (sym (on s)) p)
         ∙ ap (λ (l : List ℕ). record { before = l; behind = cut rest 0 .behind }) (on (s ++ cut rest 0 .before))
     go false true e q again =
-        let two = and-both (eqb b 1) (leb 2 z) q in
+        let two = and-eq-true-iff (eqb b 1) (leb 2 z) .0 q in
         let e1 : b ≡ 1 = eqb-true b 1 (two .0) in
         let long : 2 ≤ z = leb-true 2 z (two .1) in
         let k : z - 2 + 2 ≡ z = omega arith in

@@ -7,13 +7,10 @@ use Prim.Native.Nat.{ℕ, _+_, _*_, _/_, _%_, _≤_, _<_}
 use native.Mathlib.Omega.{arith}
 use lib.ListN.{length}
 use Rattle.wire.specs.Each.{Each}
-use Rattle.wire.specs.Net.{be16}
 use Rattle.wire.proofs.Each.{each-by, each-map}
-use Rattle.rfc6184.specs.Sending.{Nal, octet, octetsOf, Part, Fragmented, single, stapA, fuA, aggregated, fragment, payloadsOf, payloadsOfAll, bodyOf, UnitType, Formed, Sized, FormedSending, Rules, Lawful}
+use Rattle.rfc6184.specs.Sending.{Nal, octet, octetsOf, Part, Fragmented, single, stapA, fuA, aggregated, fragment, payloadsOf, payloadsOfAll, bodyOf, UnitType, Formed, FormedSending, Rules, Lawful}
 use Rattle.rfc6184.specs.Sending as rfc
 use Rattle.rfc6184.proofs.Octets.{fields-of-octet}
-use Rattle.nal.specs.Unpack.{sizedUnits}
-use Rattle.nal.specs.Unpack as unpacking
 use Rattle.h264_rfc.proofs.Complete.{aggregated-sized, sized}
 use Rattle.sequence.specs.Group.{Group, packetsIn, packetsOf}
 use Rattle.joiner_step.specs.Run.{Units}

@@ -8,7 +8,7 @@ use native.Mathlib.Omega.{arith}
 use lib.Dec.{ltb}
 use lib.ListN.{length, take, getD}
 use borrow.Author.Tests.{ltb-false, le-ltb}
-use Rattle.error.specs.Said.{Said, says}
+use Rattle.error.specs.Said.{says}
 use Rattle.wire.specs.Each.{Each}
 use Rattle.wire.specs.Packets.{joined, cut, Sink, whole, Room}
 use Rattle.wire.proofs.Each.{each-by}

@@ -2,14 +2,13 @@
 -- those sent, those left out and those that still wait. Each stretch of a course is balanced unit by unit. Assumes nothing.
 use mathlib.Core.Path.{_≡_, refl, sym, ap, ap₂, subst, _∙_}
 use mathlib.Core.List.{List, [], _∷_, _++_, append-assoc}
-use mathlib.Core.Bool.{Bool, true, false, cond, not, _&&_, _||_, true≢false}
+use mathlib.Core.Bool.{Bool, true, false, cond, not, _&&_, _||_, true≢false, and-eq-true-iff}
 use Prim.Native.Nat.{ℕ, _+_, _-_, _≤_}
 use native.Mathlib.Decide.{decLe}
 use native.Mathlib.Omega.{arith}
 use lib.Dec.{leb, ltb}
 use lib.ListN.{length}
 use borrow.Author.Tests.{le-leb, lt-leb}
-use Rattle.wire.proofs.Bools.{and-both}
 use Rattle.h264_put.specs.declared.fate.Fate.{Fate}
 use Rattle.h264_put.specs.declared.fate.Fate.the-variants.{Empty, Dropped, Sps, Pps, Coded}
 use Rattle.h264_put.specs.Groups.{Saved, nothingSaved, bothSaved, Group, plain, fateOf, pairFor, fragmentsOf, unitFor, keepAll, groupsOf}
@@ -52,7 +51,7 @@ those-alone mtu (u ∷ us) = go (goesOut mtu u) refl (those-alone mtu us)
         carried-append (unitFor mtu u) (alone mtu others)
         ∙ ap₂ (λ (a b : List (List ℕ)). a ++ b)
         (unit-carried mtu u ∙ unit-carries mtu u
-        ∙ ap (λ (t : Bool). cond t (u ∷ []) []) (and-both (isCoded (fateOf u)) (leb (length u) mtu || leb 3 mtu) e .1))
+        ∙ ap (λ (t : Bool). cond t (u ∷ []) []) (and-eq-true-iff (isCoded (fateOf u)) (leb (length u) mtu || leb 3 mtu) .0 e .1))
         rest
 
 some-there : (s : List ℕ) → ltb 0 (length s) ≡ true → some s ≡ s ∷ []
@@ -61,7 +60,7 @@ some-there (b ∷ s) e = refl
 
 pub both-there : (w : Saved) → bothSaved w ≡ true → setsOf w ≡ w .sps ∷ w .pps ∷ []
 both-there w e =
-    let two = and-both (ltb 0 (length (w .sps))) (ltb 0 (length (w .pps))) e in
+    let two = and-eq-true-iff (ltb 0 (length (w .sps))) (ltb 0 (length (w .pps))) .0 e in
     ap₂ (λ (a b : List (List ℕ)). a ++ b) (some-there (w .sps) (two .0)) (some-there (w .pps) (two .1))
 
 pair-carried : (mtu : ℕ) (w : Saved) → bothSaved w ≡ true → carriedIn (pairFor mtu w) ≡ cond (pairFits mtu w) (setsOf w) []

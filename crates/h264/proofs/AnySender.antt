@@ -2,13 +2,12 @@
 -- the course. Assumes nothing.
 use mathlib.Core.Path.{_≡_, refl, sym, ap, ap₂, subst, _∙_}
 use mathlib.Core.List.{List, [], _∷_, _++_, map, map-append}
-use mathlib.Core.Bool.{Bool, true, false, cond, _&&_, _||_, true≢false}
+use mathlib.Core.Bool.{Bool, true, false, cond, _&&_, _||_, true≢false, and-eq-true-iff}
 use Prim.Native.Nat.{ℕ, _-_, _%_, _≤_, _<_}
 use native.Mathlib.Omega.{arith}
 use lib.Dec.{eqb, leb, ltb}
 use lib.ListN.{length}
 use borrow.Author.Tests.{ltb-true, eqb-true}
-use Rattle.wire.proofs.Bools.{and-both}
 use Rattle.rfc6184.specs.Sending.{Each, Nal, UnitType, Packetization}
 use Rattle.rfc6184.proofs.Each.{each-append, each-by}
 use Rattle.annexb.specs.AnnexB.{unitsWritten}
@@ -58,7 +57,7 @@ fair-pair mtu v p = go (bothSaved v && leb (length (stapA (v .sps) (v .pps))) mt
     go : (t : Bool) → (bothSaved v && leb (length (stapA (v .sps) (v .pps))) mtu) ≡ t → Each Fair (cond t (pair (v .sps) (v .pps) ∷ []) [])
     go false e = tt
     go true e =
-        let two = and-both (ltb 0 (length (v .sps))) (ltb 0 (length (v .pps))) (and-both (bothSaved v) (leb (length (stapA (v .sps) (v .pps))) mtu) e .0) in
+        let two = and-eq-true-iff (ltb 0 (length (v .sps))) (ltb 0 (length (v .pps))) .0 (and-eq-true-iff (bothSaved v) (leb (length (stapA (v .sps) (v .pps))) mtu) .0 e .0) in
         let sps = p .sps (ltb-true 0 (length (v .sps)) (two .0)) in
         let pps = p .pps (ltb-true 0 (length (v .pps)) (two .1)) in
         let a = rules-of Sps (v .sps) (sps .0) (sps .1) in

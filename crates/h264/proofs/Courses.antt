@@ -2,12 +2,12 @@
 -- sent are the coded units, each by itself; where one is due, the pair goes before the unit and nothing is kept. Assumes nothing.
 use mathlib.Core.Path.{_≡_, refl, sym, ap, ap₂, _∙_}
 use mathlib.Core.List.{List, [], _∷_, _++_, append-assoc}
-use mathlib.Core.Bool.{Bool, true, false, cond, _&&_, _||_, true≢false}
+use mathlib.Core.Bool.{Bool, true, false, cond, _&&_, _||_, true≢false, and-eq-true-iff}
 use Prim.Native.Nat.{ℕ}
 use lib.Dec.{leb}
 use lib.ListN.{length}
 use borrow.Author.Tests.{leb-false}
-use Rattle.wire.proofs.Bools.{and-both, or-false-left, or-false-right}
+use Rattle.wire.proofs.Bools.{or-false-left, or-false-right}
 use Rattle.h264_put.specs.declared.fate.Fate.{Fate}
 use Rattle.h264_put.specs.declared.fate.Fate.the-variants.{Empty, Dropped, Sps, Pps, Coded}
 use Rattle.h264_put.specs.Groups.{Saved, nothingSaved, bothSaved, Group, fateOf, keep, keepBy, keepAll, pairFor, unitFor, groupsBy, groupsFor, groupsOf}
@@ -43,7 +43,7 @@ has-course v (u ∷ us) = go (isCoded (fateOf u) && bothSaved v) refl (λ w. has
   where
     go : (t : Bool) → (isCoded (fateOf u) && bothSaved v) ≡ t → ((w : Saved) → Coursed w us) → Coursed v (u ∷ us)
     go true e again =
-        let two = and-both (isCoded (fateOf u)) (bothSaved v) e in
+        let two = and-eq-true-iff (isCoded (fateOf u)) (bothSaved v) .0 e in
         let r = again nothingSaved in
         record {
           course = due [] u (r .course);

@@ -2,7 +2,7 @@
 -- parts of which each fits with its two bytes. Assumes nothing.
 use mathlib.Core.Path.{_≡_, refl, sym, ap, subst}
 use mathlib.Core.List.{List, [], _∷_, map}
-use mathlib.Core.Bool.{Bool, true, false, cond, _&&_}
+use mathlib.Core.Bool.{Bool, true, false, cond, _&&_, and-eq-true-iff}
 use Prim.Native.Nat.{ℕ, _+_, _-_, _≤_, _<_}
 use native.Mathlib.Decide.{decLe}
 use native.Mathlib.Omega.{arith}
@@ -15,7 +15,6 @@ use Rattle.h264_put.specs.declared.fate.Fate.{Fate}
 use Rattle.h264_put.specs.declared.fate.Fate.the-variants.{Empty, Dropped, Sps, Pps, Coded}
 use Rattle.h264_put.specs.Groups.{Saved, Group, pair, plain, fragments, bothSaved, fateOf, keep, stapA, fragment, pairFor, fragmentsOf, unitFor, groupsBy, groupsFor, groupsOf, packetsOfGroup, packetsOf}
 use Rattle.h264.specs.Conformance.{Sendable}
-use Rattle.wire.proofs.Bools.{and-both}
 use Rattle.h264_put.proofs.UnitFates.{coded-some}
 use Rattle.h264_put.proofs.Sinks.{length-stapA, length-fragment}
 use Rattle.h264_put.proofs.Sizes.{unit-alone, unit-dropped, unit-divided}
@@ -31,8 +30,8 @@ pair-sendable mtu v = go (bothSaved v && leb (length (stapA (v .sps) (v .pps))) 
         Each (Sendable mtu) (cond t (pair (v .sps) (v .pps) ∷ []) [])
     go false e = tt
     go true e =
-        let two = and-both (bothSaved v) (leb (length (stapA (v .sps) (v .pps))) mtu) e in
-        let each = and-both (ltb 0 (length (v .sps))) (ltb 0 (length (v .pps))) (two .0) in
+        let two = and-eq-true-iff (bothSaved v) (leb (length (stapA (v .sps) (v .pps))) mtu) .0 e in
+        let each = and-eq-true-iff (ltb 0 (length (v .sps))) (ltb 0 (length (v .pps))) .0 (two .0) in
         let l : length (stapA (v .sps) (v .pps)) ≡ 5 + length (v .sps) + length (v .pps) = length-stapA (v .sps) (v .pps) in
         let f : length (stapA (v .sps) (v .pps)) ≤ mtu = leb-true (length (stapA (v .sps) (v .pps))) mtu (two .1) in
         ((ltb-true 0 (length (v .sps)) (each .0), ltb-true 0 (length (v .pps)) (each .1), omega arith), tt)

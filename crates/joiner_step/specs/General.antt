@@ -1,6 +1,6 @@
 -- The joiner of a choice as one of those of any rule, reader and codec: its parts, how record, buffers and answers stand for theirs, and
 -- the codec with its buffers. Assumes nothing.
-use mathlib.Core.Bool.{Bool, cond, _||_}
+use mathlib.Core.Bool.{Bool, cond}
 use mathlib.Core.List.{List, [], _∷_, map}
 use Prim.Native.Nat.{ℕ, _≤_}
 use lib.Dec.{ltb, eqb}

@@ -1,6 +1,6 @@
--- Tests joined by "or" or "and", and each of them. Assumes nothing.
+-- Tests joined by "or", and each of them. Assumes nothing.
 use mathlib.Core.Path.{_≡_, refl, sym, ap, _∙_}
-use mathlib.Core.Bool.{Bool, true, false, _&&_, _||_, true≢false}
+use mathlib.Core.Bool.{Bool, true, false, _||_, true≢false}
 
 pub or-yes : (a b : Bool) → a ≡ true → true ≡ (a || b)
 or-yes a b e = sym (ap (λ (t : Bool). t || b) e)
@@ -15,7 +15,3 @@ or-false-left false b e = refl
 pub or-false-right : (a b : Bool) → (a || b) ≡ false → b ≡ false
 or-false-right true b e = absurd (true≢false e)
 or-false-right false b e = e
-
-pub and-both : (a b : Bool) → (a && b) ≡ true → (a ≡ true) × (b ≡ true)
-and-both true b e = (refl, e)
-and-both false b e = (e, absurd (true≢false (sym e)))
