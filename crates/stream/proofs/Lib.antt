@@ -1,3 +1,4 @@
 pub mod Numbers
 pub mod ReadBack
 pub mod Steps
+pub mod Words

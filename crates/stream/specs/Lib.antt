@@ -1,4 +1,6 @@
 pub mod Argument
+pub mod Files
 pub mod Framing
 pub mod Records
+pub mod Text
 pub mod Window

@@ -2,6 +2,8 @@
 //
 // A program writes a new file and replaces none: `./rtp` gives it a name that is free, and the file its own name when all is
 // written.
+ghost use mathlib.Core.Path.{_≡_};
+ghost use Rattle.stream.specs.Files.{accountTo, OpenedFor, Finished};
 use crate::status;
 use crate::text::Text;
 use libc::STDERR_FILENO;
@@ -37,7 +39,9 @@ pub fn open(i: usize, new: bool) -> i32 {
 }
 
 // Opens what the first argument names and makes what the second does, where the others are right.
-pub fn open_files(right: bool) -> Opened {
+pub fn open_files(right: bool) -> Opened
+    ensures { λ r. ⌜ OpenedFor right r ⌝ }
+{
     if !right {
         return Opened {
             from: -1,
@@ -69,7 +73,9 @@ pub fn open_files(right: bool) -> Opened {
 }
 
 // Where the account goes: to standard error where standard output has the data.
-pub fn account_to(data: i32) -> i32 {
+pub fn account_to(data: i32) -> i32
+    ensures { λ r. ⌜ r ≡ accountTo «data» ⌝ }
+{
     if data == STDOUT_FILENO {
         return STDERR_FILENO;
     }
@@ -77,7 +83,9 @@ pub fn account_to(data: i32) -> i32 {
 }
 
 // Writes the account and closes the data: the status, where that goes well.
-pub fn finish(account: Text, data: i32, status: u8) -> u8 {
+pub fn finish(account: Text, data: i32, status: u8) -> u8
+    ensures { λ r. ⌜ Finished status r ⌝ }
+{
     if !account.write(account_to(data)) {
         return status::unwritten();
     }

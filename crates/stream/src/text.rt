@@ -1,4 +1,7 @@
 // Text that is put together before it is written, so that one answer says whether all of it was.
+ghost use mathlib.Core.Bool.{cond};
+ghost use mathlib.Core.Path.{_≡_};
+ghost use Rattle.stream.specs.Text.{noText, wordOn, Numbered};
 use crate::parts::front;
 
 pub struct Text {
@@ -8,7 +11,9 @@ pub struct Text {
 }
 
 impl Text {
-    pub fn new() -> Text {
+    pub fn new() -> Text
+        ensures { λ r. ⌜ r ≡ noText ⌝ }
+    {
         Text {
             bytes: [0; 2048],
             len: 0,
@@ -16,7 +21,9 @@ impl Text {
     }
 
     // With a word behind it; one that has no room is left out.
-    pub fn word(mut self, word: &[u8]) -> Text {
+    pub fn word(mut self, word: &[u8]) -> Text
+        ensures { λ r. ⌜ r ≡ wordOn self (now (word .entry)) ⌝ }
+    {
         let at = self.len;
         if 2048 < at {
             return self;
@@ -32,7 +39,9 @@ impl Text {
     }
 
     // With a word behind it where that is so.
-    pub fn when(self, so: bool, word: &[u8]) -> Text {
+    pub fn when(self, so: bool, word: &[u8]) -> Text
+        ensures { λ r. ⌜ r ≡ cond so (wordOn self (now (word .entry))) self ⌝ }
+    {
         if so {
             return self.word(word);
         }
@@ -40,7 +49,9 @@ impl Text {
     }
 
     // With a name and a number behind it.
-    pub fn number(self, name: &[u8], n: u64) -> Text {
+    pub fn number(self, name: &[u8], n: u64) -> Text
+        ensures { λ r. ⌜ Numbered self (now (name .entry)) n r ⌝ }
+    {
         let mut digits = [0u8; 20];
         let k = io::decimal(n, &mut digits);
         self.word(name).word(&digits[..k])
