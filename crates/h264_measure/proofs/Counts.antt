@@ -86,15 +86,12 @@ module _ (mtu : ℕ) (u : List ℕ) where
       ap (λ (gs : List Group). sizeOf (packetsOf gs)) (unit-dropped mtu u h g)
 
   size-cut : mtu < length u → 3 ≤ mtu → sizeOf (packetsOf (unitFor mtu u)) ≡
-      record { packets = (length u - 2) / (mtu - 2) + 1; bytes = length u - 1 + 2 * ((length u - 2) / (mtu - 2) + 1) }
+      record { packets = (length u - 1 - 1) / (mtu - 2) + 1; bytes = length u - 1 + 2 * ((length u - 1 - 1) / (mtu - 2) + 1) }
   unfolding sizeOf
   size-cut h g =
       let m = fragments-many (mtu - 2) u (omega arith) (omega arith) in
-      let two : length u - 1 - 1 ≡ length u - 2 = omega arith in
-      let n : length (packetsOf (fragmentsOf (mtu - 2) u)) ≡ (length u - 2) / (mtu - 2) + 1 =
-      m .count ∙ ap (λ (k : ℕ). k / (mtu - 2) + 1) two in
       ap (λ (gs : List Group). sizeOf (packetsOf gs)) (unit-divided mtu u h g)
-      ∙ ap₂ (λ (a b : ℕ). record { packets = a; bytes = b }) n (m .total ∙ ap (λ (k : ℕ). length u - 1 + 2 * k) n)
+      ∙ ap₂ (λ (a b : ℕ). record { packets = a; bytes = b }) (m .count) (m .total ∙ ap (λ (k : ℕ). length u - 1 + 2 * k) (m .count))
 
 -- the same, of a unit whose length is told
 module _ (mtu : ℕ) (u : List ℕ) (len : ℕ) (e : length u ≡ len) where
@@ -108,11 +105,9 @@ module _ (mtu : ℕ) (u : List ℕ) (len : ℕ) (e : length u ≡ len) where
   pub dropped : mtu < len → mtu < 3 → _≡_ {A = Size} (record { packets = 0; bytes = 0 }) (sizeOf (packetsOf (unitFor mtu u)))
   dropped h g = sym (size-dropped mtu u (rw e h) g)
 
-  pub divided : mtu < len → 3 ≤ mtu → _≡_ {A = Size}
-      (record { packets = (len - 2) / (mtu - 2) + 1; bytes = len - 1 + 2 * ((len - 2) / (mtu - 2) + 1) })
-      (sizeOf (packetsOf (unitFor mtu u)))
+  pub divided : (fragments : ℕ) → fragments ≡ (len - 1 - 1) / (mtu - 2) + 1 → mtu < len → 3 ≤ mtu → _≡_ {A = Size}
+      (record { packets = fragments; bytes = len - 1 + 2 * fragments }) (sizeOf (packetsOf (unitFor mtu u)))
   unfolding taken
-  divided =
-      subst
-      (λ (n : ℕ). mtu < n → 3 ≤ mtu → record { packets = (n - 2) / (mtu - 2) + 1; bytes = n - 1 + 2 * ((n - 2) / (mtu - 2) + 1) } ≡ taken)
-      e (λ h g. sym (size-cut mtu u h g))
+  divided fragments n =
+      subst₂ (λ (k m : ℕ). mtu < k → 3 ≤ mtu → record { packets = m; bytes = k - 1 + 2 * m } ≡ taken)
+      e (ap (λ (k : ℕ). (k - 1 - 1) / (mtu - 2) + 1) e ∙ sym n) (λ h g. sym (size-cut mtu u h g))

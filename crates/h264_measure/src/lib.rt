@@ -40,7 +40,7 @@ fn unit_size(len: usize, mtu: usize) -> Size
             bytes: 0,
         };
     }
-    let fragments = (len - 2) / (mtu - 2) + 1;
+    let fragments = parts::count(len - 1, mtu - 2);
     Size {
         packets: fragments,
         bytes: len - 1 + 2 * fragments,
