@@ -1,5 +1,5 @@
 -- The sender's cases: outside the domain, nothing to send, too little room, and sent. Assumes nothing.
-use mathlib.Core.Path.{_≡_, refl, sym, ap, ap₂, subst, _∙_}
+use mathlib.Core.Path.{_≡_, refl, sym, ap, ap₂, subst, subst₂, _∙_}
 use mathlib.Core.Bool.{Bool, true, false, cond}
 use mathlib.Core.List.{List, [], _∷_}
 use Prim.Native.Nat.{ℕ, _+_, _-_, _*_, _/_, _≤_, _<_}
@@ -8,13 +8,12 @@ use native.Mathlib.Omega.{arith}
 use lib.ListN.{length}
 use borrow.Author.Tests.{lt-ltb, le-ltb, le-leb, lt-leb}
 use Rattle.error.specs.Said.{says}
-use Rattle.wire.specs.Packets.{joined, whole, Room}
+use Rattle.wire.specs.Packets.{joined, Sink, whole, Room}
 use Rattle.wire.proofs.Part.{splice-nothing}
 use Rattle.vp8_send.specs.declared.Vp8Payloader.{Vp8Payloader}
 use Rattle.vp8_send.specs.Send.{headerSize, partsOf, headed, packetsOf, advanced, afterPackets, from0, refusing, sentAll, delivered, payloaded}
 use Rattle.vp8_send.specs.declared.Vp8Payloaded.{Vp8Payloaded}
 use Rattle.vp8_send.specs.SendAnswer.{sentBy, sending}
-use Rattle.vp8_send.specs.Written.{Written}
 use Rattle.vp8_send.proofs.Header.{header-bounds}
 use Rattle.vp8_send.proofs.Parts.{parts-none, joined-parts, count-parts, length-headed, bytes-headed}
 
@@ -104,16 +103,15 @@ module _ (v : Vp8Payloader) (mtu : ℕ) (frame : List ℕ) (above : headerSize v
       (ap length (joined-parts (length frame) (mtu - headerSize v) frame (omega arith) (omega arith)))
       (count-parts (length frame) (mtu - headerSize v) frame (omega arith) h (omega arith))
 
--- what is known of the packets, by the header's size, before any of them is written
-pub record Measured (v : Vp8Payloader) (mtu : ℕ) (frame : List ℕ) (header : ℕ) : Type 0 where
+-- what is known of the packets, by their number and the header's size, before any of them is written
+pub record Measured (v : Vp8Payloader) (mtu : ℕ) (frame : List ℕ) (header packets : ℕ) : Type 0 where
   pub are : packetsOf v mtu frame ≡ headed v true (partsOf (mtu - header) frame)
-  pub count : length (packetsOf v mtu frame) ≡ (length frame - 1) / (mtu - header) + 1
-  pub bytes : length (joined (packetsOf v mtu frame)) ≡ length frame + ((length frame - 1) / (mtu - header) + 1) * header
-  pub few : (length frame - 1) / (mtu - header) + 1 ≤ length frame
-  pub small : ((length frame - 1) / (mtu - header) + 1) * header ≤ 67108864
+  pub count : length (packetsOf v mtu frame) ≡ packets
+  pub bytes : length (joined (packetsOf v mtu frame)) ≡ length frame + packets * header
+  pub small : packets * header ≤ 67108864
 
 at-header : (v : Vp8Payloader) (mtu : ℕ) (frame : List ℕ) → headerSize v < mtu → 0 < length frame → length frame ≤ 16777216 →
-    Measured v mtu frame (headerSize v)
+    Measured v mtu frame (headerSize v) ((length frame - 1) / (mtu - headerSize v) + 1)
 at-header v mtu frame above some limit =
     let d : (length frame - 1) / (mtu - headerSize v) ≤ length frame - 1 = div-le-self (length frame - 1) (mtu - headerSize v) in
     let c : (length frame - 1) / (mtu - headerSize v) + 1 ≤ 16777216 = omega arith in
@@ -121,41 +119,37 @@ at-header v mtu frame above some limit =
       are = packets-are v mtu frame above;
       count = packets-count v mtu frame above some;
       bytes = packets-bytes v mtu frame above some;
-      few = omega arith;
       small = mul-le-mul c (header-bounds v .1);
     }
 
-pub measured : (v : Vp8Payloader) (mtu : ℕ) (frame : List ℕ) (header : ℕ) → header ≡ headerSize v → header < mtu → 0 < length frame →
-    length frame ≤ 16777216 → Measured v mtu frame header
-measured v mtu frame header e above some limit =
-    subst (Measured v mtu frame) (sym e) (at-header v mtu frame (omega arith) some limit)
+pub measured : (v : Vp8Payloader) (mtu : ℕ) (frame : List ℕ) (header packets : ℕ) → header ≡ headerSize v →
+    packets ≡ (length frame - 1) / (mtu - header) + 1 → header < mtu → 0 < length frame → length frame ≤ 16777216 →
+    Measured v mtu frame header packets
+measured v mtu frame header packets e n above some limit =
+    subst₂ (Measured v mtu frame) (sym e) (ap (λ (h : ℕ). (length frame - 1) / (mtu - h) + 1) (sym e) ∙ sym n)
+    (at-header v mtu frame (omega arith) some limit)
 
 -- there is a first packet, so the id advances
 pub some-packets : (v : Vp8Payloader) (ps : List (List ℕ)) → 0 < length ps → afterPackets v ps ≡ advanced v
 some-packets v [] h = absurd (not-suc-le-zero h)
 some-packets v (p ∷ ps) h = refl
 
--- written: what the loop left of both buffers, and the counts, are what the definition says
-module _ (v : Vp8Payloader) (mtu : ℕ) (frame : List ℕ) (header : ℕ) (out ends : List ℕ) (m : Measured v mtu frame header)
-    (bytes : length frame + ((length frame - 1) / (mtu - header) + 1) * header ≤ length out)
-    (places : (length frame - 1) / (mtu - header) + 1 ≤ length ends) where
-  pub room : Room (from0 out ends) (headed v true (partsOf (mtu - header) frame))
-  room = subst (Room (from0 out ends)) (m .are) (record { bytes = omega (arith, m .bytes); places = omega (arith, m .count) })
+pub room : (v : Vp8Payloader) (mtu : ℕ) (frame : List ℕ) (header packets : ℕ) (out ends : List ℕ) → Measured v mtu frame header packets →
+    length frame + packets * header ≤ length out → packets ≤ length ends → Room (from0 out ends) (headed v true (partsOf (mtu - header) frame))
+room v mtu frame header packets out ends m bytes places =
+    subst (Room (from0 out ends)) (m .are) (record { bytes = omega (arith, m .bytes); places = omega (arith, m .count) })
 
-  pub all-sent : (next : Vp8Payloader) (r : Vp8Payloaded) (out′ ends′ : List ℕ) → Written v (mtu - header) frame out ends out′ ends′ →
-      next ≡ advanced v →
-      r ≡ sentBy next ((length frame - 1) / (mtu - header) + 1) (length frame + ((length frame - 1) / (mtu - header) + 1) * header) →
-      sending r out′ ends′ ≡ delivered v (packetsOf v mtu frame) out ends
-  all-sent next r out′ ends′ w n q =
-      let ps : List (List ℕ) = packetsOf v mtu frame in
-      let o : out′ ≡ whole (from0 out ends) ps .out = w .out ∙ ap (λ (l : List (List ℕ)). whole (from0 out ends) l .out) (sym (m .are)) in
-      let e : ends′ ≡ whole (from0 out ends) ps .ends = w .ends ∙ ap (λ (l : List (List ℕ)). whole (from0 out ends) l .ends) (sym (m .are)) in
-      let a : afterPackets v ps ≡ advanced v = some-packets v ps (omega (arith, m .count)) in
-      ap (λ (r′ : Vp8Payloaded). sending r′ out′ ends′) q
-      ∙ (λ i. record {
-        payloader = (n ∙ sym a) i;
-        said = says (record { packets = sym (m .count) i; bytes = sym (m .bytes) i });
-        out = o i;
-        ends = e i;
-      })
-      ∙ sym (has-room v ps out ends (omega (arith, m .bytes)) (omega (arith, m .count)))
+-- written: where the loop ended is what the definition says, and so is the answer
+pub all-sent : (v next : Vp8Payloader) (ps : List (List ℕ)) (out ends : List ℕ) (s : Sink) (r : Vp8Payloaded) → s ≡ whole (from0 out ends) ps →
+    0 < length ps → next ≡ advanced v → r ≡ sentBy next (s .n) (s .at) → sending r (s .out) (s .ends) ≡ sentAll v ps out ends
+unfolding whole
+all-sent v next ps out ends s r w some e q =
+    let count : s .n ≡ length ps = ap (λ (x : Sink). x .n) w ∙ omega arith in
+    let bytes : s .at ≡ length (joined ps) = ap (λ (x : Sink). x .at) w ∙ omega arith in
+    ap (λ (r′ : Vp8Payloaded). sending r′ (s .out) (s .ends)) q
+    ∙ (λ i. record {
+      payloader = (e ∙ sym (some-packets v ps some)) i;
+      said = says (record { packets = count i; bytes = bytes i });
+      out = w i .out;
+      ends = w i .ends;
+    })

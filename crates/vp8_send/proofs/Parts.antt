@@ -1,6 +1,6 @@
 -- A frame cut into parts: the first part and the others, how many they are, and that they make up the frame. Assumes nothing.
 use mathlib.Core.Path.{_≡_, refl, sym, ap, _∙_}
-use mathlib.Core.Bool.{Bool, false}
+use mathlib.Core.Bool.{Bool, true, false}
 use mathlib.Core.List.{List, [], _∷_, _++_}
 use Prim.Native.Nat.{ℕ, zero, suc, _+_, _-_, _*_, _/_, _≤_, _<_, min}
 use native.Mathlib.Nat.{not-suc-le-zero, min-eq-left, min-eq-right, div-eq-of-lt, div-eq-sub-div, suc-mul}
@@ -10,7 +10,7 @@ use lib.ListN.{length, take, drop, length-append, length-drop, take-append-drop,
 use lib.Seq.{take-all, drop-drop}
 use Rattle.wire.specs.Packets.{joined}
 use Rattle.vp8_send.specs.declared.Vp8Payloader.{Vp8Payloader}
-use Rattle.vp8_send.specs.Send.{headerSize, partsBy, headed}
+use Rattle.vp8_send.specs.Send.{headerSize, partsBy, partsOf, headed}
 use Rattle.vp8_send.proofs.Header.{length-descriptor}
 
 pub parts-none : (fuel size : ℕ) (s : List ℕ) → length s ≤ 0 → partsBy fuel size s ≡ []
@@ -89,6 +89,11 @@ pub length-headed : (v : Vp8Payloader) (start : Bool) (ps : List (List ℕ)) →
 unfolding headed
 length-headed v start [] = refl
 length-headed v start (p ∷ ps) = ap suc (length-headed v false ps)
+
+pub some-headed : (v : Vp8Payloader) (size : ℕ) (s : List ℕ) → 0 < size → 0 < length s → 0 < length (headed v true (partsOf size s))
+some-headed v size s z some =
+    let n = length-headed v true (partsOf size s) ∙ count-parts (length s) size s z some (omega arith) in
+    omega arith
 
 pub bytes-headed : (v : Vp8Payloader) (start : Bool) (ps : List (List ℕ)) →
     length (joined (headed v start ps)) ≡ length (joined ps) + length ps * headerSize v

@@ -1,3 +1,3 @@
 pub mod Send
 pub mod SendAnswer
-pub mod Written
+pub mod Asked

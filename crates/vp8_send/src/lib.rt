@@ -1,12 +1,13 @@
 // Cutting a VP8 frame into payloads: `Vp8Payloader` of codecs/vp8/mod.rs of rtp 0.17.2.
 ghost use mathlib.Core.Path.{_≡_};
+ghost use mathlib.Core.Bool.{true};
 ghost use mathlib.Core.List.{_++_};
 ghost use Prim.Native.Nat.{_+_, _<_, _≤_, min};
 ghost use lib.ListN.{length};
 ghost use Rattle.wire.specs.Part.{splice};
-ghost use Rattle.vp8_send.specs.Send.{headerSize, startOctet, descriptorOf, packetsOf, advanced, delivered, payloaded};
+ghost use Rattle.vp8_send.specs.Send.{headerSize, startOctet, descriptorOf, partsOf, headed, packetsOf, advanced, sentAll, delivered, payloaded};
 ghost use Rattle.vp8_send.specs.SendAnswer.{refusedBy, sentBy, sending};
-ghost use Rattle.vp8_send.specs.Written.{InDomain, ToWrite, Written};
+ghost use Rattle.vp8_send.specs.Asked.{InDomain, ToWrite};
 use error::Error;
 
 #[repr(C)]
@@ -66,16 +67,14 @@ impl Vp8Payloader {
             return self.sent(0, 0);
         }
         let size = mtu - header;
-        let packets = (frame.len() - 1) / size + 1;
-        let bytes = frame.len() + packets * header;
-        if out.len() < bytes {
+        let packets = parts::count(frame.len(), size);
+        if out.len() < frame.len() + packets * header {
             return self.refused(Error::ErrBufferTooSmall);
         }
         if ends.len() < packets {
             return self.refused(Error::ErrBufferTooSmall);
         }
-        self.write(size, frame, out, ends);
-        self.next().sent(packets, bytes)
+        self.write(size, frame, out, ends)
     }
 
     fn refused(self, error: Error) -> Vp8Payloaded
@@ -116,9 +115,9 @@ impl Vp8Payloader {
     }
 
     // Writes all payloads, each size bytes of the frame, the last perhaps fewer.
-    fn write(self, size: usize, frame: &[u8], out: &mut [u8], ends: &mut [usize])
+    fn write(self, size: usize, frame: &[u8], out: &mut [u8], ends: &mut [usize]) -> Vp8Payloaded
         requires { ⌜ ToWrite self size (now frame) (now out) (now ends) ⌝ }
-        ensures { λ _. ⌜ Written self size (now (frame .entry)) (now (out .entry)) (now (ends .entry)) (now (out .exit)) (now (ends .exit)) ⌝ }
+        ensures { λ r. ⌜ sending r (now (out .exit)) (now (ends .exit)) ≡ sentAll self (headed self true (partsOf size (now (frame .entry)))) (now (out .entry)) (now (ends .entry)) ⌝ }
     {
         let mut start = true;
         let mut from = 0;
@@ -132,6 +131,7 @@ impl Vp8Payloader {
             start = false;
             from = end;
         }
+        self.next().sent(n, at)
     }
 
     // One payload: the descriptor, and the part behind it. Hands back where it ends.

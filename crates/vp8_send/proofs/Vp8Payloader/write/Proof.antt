@@ -1,5 +1,5 @@
--- The loop's invariant is `Going`: a turn is `turn`, and where nothing is left the sink is the goal.
-use mathlib.Core.Path.{_≡_, refl, ap, _∙_}
+-- The loop's invariant is `Going`: a turn is `turn`, and where nothing is left the sink is the goal, with all packets and their bytes counted.
+use mathlib.Core.Path.{_≡_, refl, _∙_}
 use mathlib.Core.Bool.{true}
 use Prim.Native.Nat.{_-_, _+_, _*_, _<_}
 use native.Mathlib.Omega.{arith}
@@ -7,9 +7,11 @@ use mir.Syntax.{w64}
 use mir.Val.{Fits}
 use lib.ListN.{length, length-set}
 use borrow.Author.Needs.{needs}
-use Rattle.wire.specs.Packets.{Sink, putAll}
+use Rattle.wire.specs.Packets.{putAll}
 use Rattle.wire.proofs.Packets.{putAll-whole}
 use Rattle.vp8_send.specs.Send.{headed, partsOf, from0}
+use Rattle.vp8_send.proofs.Parts.{some-headed}
+use Rattle.vp8_send.proofs.Deliver.{all-sent}
 use Rattle.vp8_send.proofs.Going.{Going, room-here, turn, ended}
 use Rattle.vp8_send.proofs.Vp8Payloader.write.Statement.{statement}
 use Rattle.vp8_send.proofs.Vp8Payloader.write.Tie as tie
@@ -73,10 +75,13 @@ loop-again c =
 
 returns : tie.Need-returns Inv-loop μ-loop
 returns c =
-    let start = c .before .before .before .before .before in
-    let all = ended _ _ _ _ _ _ _ (c .before .loop .inv .0) (c .loop-test .left)
-    ∙ putAll-whole (from0 (start .args .out .now) (start .args .ends .now)) (headed (start .args .self) true (partsOf (start .args .size) (start .args .frame .now))) (start .pre .room) in
-    record { out = ap (λ (s : Sink). s .out) all; ends = ap (λ (s : Sink). s .ends) all }
+    let start = c .before .before .before .before .before .before .before in
+    let a = start .args in
+    let ps = headed (a .self) true (partsOf (a .size) (a .frame .now)) in
+    let all = ended _ _ _ _ _ _ _ (c .before .before .before .loop .inv .0) (c .before .before .loop-test .left)
+    ∙ putAll-whole (from0 (a .out .now) (a .ends .now)) ps (start .pre .room) in
+    all-sent _ _ ps _ _ _ _ all (some-headed (a .self) (a .size) (a .frame .now) (start .pre .positive) (start .pre .some))
+    (c .before .next .ensures) (c .sent .ensures)
 
 pub write-spec : {M : Type 1} → statement M
 write-spec =
@@ -101,6 +106,8 @@ write-spec =
       c .before .before .before .before .before .before .before .before .before .before .before .pre .positive,
     ))
     loop-again
+    (λ c κs. search needs)
+    (λ c κs. search needs)
     (λ c. search needs)
     (λ c. search needs)
     returns)
