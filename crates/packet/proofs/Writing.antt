@@ -30,6 +30,10 @@ use Rattle.packet.specs.Write.{paddingLength, paddingOctets, payloadOcte
 
 -- ---- the padding
 
+pub padding-few : (padding : Bool) (len : ℕ) → paddingLength padding len ≤ 4
+padding-few true len = omega arith
+padding-few false len = omega arith
+
 pub padding-some : (n : ℕ) → 0 < n → paddingOctets n ≡ replicate (n - 1) 0 ++ (n ∷ [])
 padding-some zero h = absurd (omega arith)
 padding-some (suc n) h =

@@ -11,11 +11,12 @@ use error::Error;
 use header::Header;
 use header::Length;
 
-// How many bytes more make the length a multiple of 4.
+// How many bytes more make the length a multiple of 4: its two low bits tell.
 fn get_padding(len: usize) -> usize
     ensures { λ r. ⌜ ((len + r) % 4 ≡ 0) × (r < 4) ⌝ }
 {
-    if len % 4 == 0 { 0 } else { 4 - len % 4 }
+    let low = len & 3;
+    if low == 0 { 0 } else { 4 - low }
 }
 
 // How many bytes of padding a payload gets: with the padding bit never none.
@@ -29,7 +30,9 @@ fn padding_len(padding: bool, len: usize) -> usize
     if n == 0 { 4 } else { n }
 }
 
-pub fn marshal_size(header: Header, payload: &[u8]) -> Length
+// The packet's size, where its padding is known.
+fn size_with(header: Header, payload: &[u8], padding: usize) -> Length
+    requires { ⌜ padding ≡ paddingLength (header .padding) (length (now payload)) ⌝ }
     ensures { λ r. ⌜ saidLength r ≡ packetSizeAsked header (now (payload .entry)) ⌝ }
 {
     let size = header.marshal_size();
@@ -40,7 +43,13 @@ pub fn marshal_size(header: Header, payload: &[u8]) -> Length
     if 65535 < len {
         return Length::Refused(Error::OutsideDomain);
     }
-    Length::Bytes(n + len + padding_len(header.padding, len))
+    Length::Bytes(n + len + padding)
+}
+
+pub fn marshal_size(header: Header, payload: &[u8]) -> Length
+    ensures { λ r. ⌜ saidLength r ≡ packetSizeAsked header (now (payload .entry)) ⌝ }
+{
+    size_with(header, payload, padding_len(header.padding, payload.len()))
 }
 
 // RFC 3550, section 5.1: "The last octet of the padding contains a count of how many padding octets should be ignored, including
@@ -75,7 +84,8 @@ pub fn marshal_to(header: Header, payload: &[u8], buf: &mut [u8]) -> Length
     if !header.is_writable() {
         return Length::Refused(Error::OutsideDomain);
     }
-    let size = marshal_size(header, payload);
+    let padding = padding_len(header.padding, payload.len());
+    let size = size_with(header, payload, padding);
     let Length::Bytes(needed) = size else {
         return size;
     };
@@ -86,6 +96,5 @@ pub fn marshal_to(header: Header, payload: &[u8], buf: &mut [u8]) -> Length
     let Length::Bytes(at) = head else {
         return head;
     };
-    let padding = padding_len(header.padding, payload.len());
     Length::Bytes(at + put_payload(payload, padding, &mut buf[at..]))
 }

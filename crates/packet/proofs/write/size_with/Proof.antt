@@ -1,4 +1,4 @@
--- The header's size, asked first, with payload and padding.
+-- The header's size, asked first, with the payload and a padding of four at most.
 use mathlib.Core.Path.{_≡_, refl, sym, ap, ap₂, _∙_}
 use mathlib.Core.Bool.{true}
 use Prim.Native.Nat.{ℕ, _+_, _≤_}
@@ -10,9 +10,9 @@ use Rattle.error.specs.Said.{says}
 use Rattle.header.specs.Fields.{fieldsOf, inDomain}
 use Rattle.header.specs.Size.{headerSize}
 use Rattle.header.proofs.Sizes.{Arrays, size-asked, size-said, size-refused, size-small}
-use Rattle.packet.proofs.Writing.{size-tests, packet-size}
-use Rattle.packet.proofs.write.marshal_size.Statement.{statement}
-use Rattle.packet.proofs.write.marshal_size.Tie as tie
+use Rattle.packet.proofs.Writing.{padding-few, size-tests, packet-size}
+use Rattle.packet.proofs.write.size_with.Statement.{statement}
+use Rattle.packet.proofs.write.size_with.Tie as tie
 
 arrays : (c : tie.Start) → Arrays (c .args .header)
 arrays c = record { csrc = search needs; ids = search needs; lens = search needs; bytes = search needs }
@@ -44,17 +44,22 @@ returns-2 c =
     let a = c .before .before .before .before .before .before .args in
     sym (size-tests (a .header) (a .payload .now) (sized (c .before) .0) (lt-leb (length (a .payload .now)) 65535 (c .if1 .taken)))
 
+add-t10 : tie.Need-add-t10
+add-t10 c =
+    let start = c .before .before .before .before .before .before in
+    omega (arith, few (c .before), padding-few (start .args .header .padding) (length (start .args .payload .now)), start .pre)
+
 returns-3 : tie.Need-returns-3
 returns-3 c =
-    let a = c .before .before .before .before .before .before .before .args in
-    let s = sized (c .before .before) in
+    let start = c .before .before .before .before .before .before in
+    let a = start .args in
+    let s = sized (c .before) in
     let n = length (a .payload .now) in
-    ap says
-    (ap₂ (λ (k m : ℕ). k + n + m) (sym (s .1)) (c .padding-len .ensures .0) ∙ sym (packet-size (a .header) (a .payload .now)))
-    ∙ sym (size-tests (a .header) (a .payload .now) (s .0) (le-leb n 65535 (c .before .if1 .left)))
+    ap says (ap₂ (λ (k m : ℕ). k + n + m) (sym (s .1)) (start .pre) ∙ sym (packet-size (a .header) (a .payload .now)))
+    ∙ sym (size-tests (a .header) (a .payload .now) (s .0) (le-leb n 65535 (c .if1 .left)))
 
-pub marshal-size-spec : {M : Type 1} → statement M
-marshal-size-spec =
+pub size-with-spec : {M : Type 1} → statement M
+size-with-spec =
     tie.close
     (tie.spec
     (λ c κs. search needs)
@@ -63,6 +68,5 @@ marshal-size-spec =
     returns
     returns-2
     (λ c. let f = few (c .before) in search needs)
-    (λ c κs. search needs)
-    (λ c. let f = few (c .before .before) in search needs)
+    add-t10
     returns-3)
