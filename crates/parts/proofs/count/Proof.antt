@@ -1,7 +1,7 @@
 -- Long division: steps taken and bytes left make up the length at every turn, and at the last a step is one part.
-use mathlib.Core.Path.{_≡_, sym, ap, subst, _∙_}
+use mathlib.Core.Path.{_≡_, sym, ap, _∙_}
 use Prim.Native.Nat.{ℕ, zero, suc, _+_, _-_, _*_, _/_, _^_, _≤_, _<_}
-use native.Mathlib.Nat.{mul-one, mul-assoc, mul-left-comm, mul-le-mul-left, add-mul, one-mul, pow-suc, div-eq-of-lt-le}
+use native.Mathlib.Nat.{mul-one, mul-assoc, mul-left-comm, le-mul-of-pos-right, add-mul, one-mul, pow-succ', div-eq-of-lt-le}
 use native.Mathlib.Omega.{arith}
 use lib.Pow.{pow-pos}
 use borrow.Author.Needs.{needs}
@@ -32,9 +32,7 @@ abbrev μ-loop2 : tie.MeasureT-loop2
 μ-loop2 len size step₀ taken₀ left₀ step taken left = step
 
 doubled : (size times : ℕ) → size * 2 ^ suc times ≡ 2 * (size * 2 ^ times)
-doubled size times =
-    let last : size * 2 ^ suc times ≡ size * 2 ^ times * 2 = ap (λ (k : ℕ). size * k) (pow-suc 2 times) ∙ sym (mul-assoc size (2 ^ times) 2) in
-    omega arith
+doubled size times = ap (λ (k : ℕ). size * k) (pow-succ' 2 times) ∙ mul-left-comm size 2 (2 ^ times)
 
 -- a step that is more than a part halves to a step
 halved : (size step : ℕ) → Step size step → size < step → Step size (step / 2) × (step ≡ 2 * (step / 2))
@@ -58,10 +56,6 @@ turn len size step taken left s more d =
 one-more : (n k : ℕ) → (n + 1) * k ≡ n * k + k
 one-more n k = add-mul n 1 k ∙ ap (λ (m : ℕ). n * k + m) (one-mul k)
 
--- no fewer than it was
-times-some : (n k : ℕ) → 0 < k → n ≤ n * k
-times-some n k some = subst (λ (m : ℕ). m ≤ n * k) (mul-one n) (mul-le-mul-left n some)
-
 loop-holds : tie.Need-loop-holds Inv-loop μ-loop Inv-loop2 μ-loop2
 loop-holds c = (record { times = 0; is = sym (mul-one _) }, search needs, search needs)
 
@@ -75,7 +69,7 @@ loop2-holds c = (c .before .loop .inv .0, record { whole = search needs; some = 
 
 -- in the second loop
 small : (c : tie.At-loop2 Inv-loop μ-loop Inv-loop2 μ-loop2) → c .loop2 .taken < c .before .before .before .args .len
-small c = omega (arith, times-some (c .loop2 .taken) (c .loop2 .step) (search needs), c .loop2 .inv .1 .whole)
+small c = omega (arith, le-mul-of-pos-right {m = c .loop2 .step} (c .loop2 .taken) (search needs), c .loop2 .inv .1 .whole)
 
 loop2-again : tie.Need-loop2-again Inv-loop μ-loop Inv-loop2 μ-loop2
 loop2-again c =
@@ -94,7 +88,7 @@ returns : tie.Need-returns Inv-loop μ-loop Inv-loop2 μ-loop2
 returns c =
     let a = c .before .before .before .before .args in
     let at = c .before .loop2 in
-    let least = times-some (a .size) (2 ^ (at .inv .0 .times)) (pow-pos (at .inv .0 .times)) in
+    let least = le-mul-of-pos-right (a .size) (pow-pos (at .inv .0 .times)) in
     let part : at .step ≡ a .size = omega (arith, at .inv .0 .is) in
     let product : at .taken * at .step ≡ at .taken * a .size = ap (λ (k : ℕ). at .taken * k) part in
     let next = one-more (at .taken) (a .size) in
