@@ -1,3 +1,4 @@
 pub mod Stap
 pub mod Shapes
+pub mod Never
 pub mod Sayable
