@@ -56,7 +56,7 @@ impl Header {
         if buf.len() < size_of(csrcs, self.extension, len, padding) {
             return Length::Refused(Error::ErrBufferTooSmall);
         }
-        let judged = judge(self.extension, profile, len, count, &self.extensions.lens);
+        let judged = judge(self.extension, profile, len, count);
         let Length::Bytes(_) = judged else {
             return judged;
         };

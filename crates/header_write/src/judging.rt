@@ -1,11 +1,8 @@
 // What the elements of a block must be to be written.
 ghost use mathlib.Core.Path.{_≡_};
 ghost use mathlib.Core.Bool.{cond};
-ghost use Prim.Native.Nat.{_≤_};
-ghost use lib.ListN.{length, take};
 ghost use Rattle.error.specs.Said.{says};
-ghost use Rattle.elements.specs.Elements.{sum};
-ghost use Rattle.block.specs.Form.{formOf, lengthFor};
+ghost use Rattle.block.specs.Form.{formOf};
 ghost use Rattle.header_write.specs.Judge.{judged};
 ghost use Rattle.header_write.specs.Said.{saidLength};
 use crate::Length;
@@ -13,10 +10,8 @@ use block::EXTENSION_PROFILE_ONE_BYTE;
 use block::EXTENSION_PROFILE_TWO_BYTE;
 use error::Error;
 
-// 9 and 10: the length of the elements, if they can stand in a block.
-pub fn judge(extension: bool, profile: u16, len: usize, count: usize, lens: &[u16]) -> Length
-    requires { ⌜ count ≤ length (now lens) ⌝ }
-    requires { ⌜ len ≡ lengthFor profile count (sum (take count (now lens))) ⌝ }
+// 9 and 10: the length of the elements with their heads, if `count` of them can stand in a block.
+pub fn judge(extension: bool, profile: u16, len: usize, count: usize) -> Length
     ensures { λ r. ⌜ saidLength r ≡ cond extension (judged (formOf profile) len count (says len)) (says len) ⌝ }
 {
     if !extension {
@@ -31,10 +26,6 @@ pub fn judge(extension: bool, profile: u16, len: usize, count: usize, lens: &[u1
             }
             if count != 1 {
                 return Length::Refused(Error::ErrRfc3550headerIdrange);
-            }
-            // The Rust tests this too; it never holds.
-            if wire::wide16(lens[0]) % 4 != 0 {
-                return Length::Refused(Error::HeaderExtensionPayloadNot32BitWords);
             }
             Length::Bytes(len)
         }

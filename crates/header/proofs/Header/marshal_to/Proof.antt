@@ -38,7 +38,7 @@ abbrev room-domain : tie.Else2 → tie.Else1
 room-domain c = c .before .before .before .before .before
 
 abbrev judged-room : tie.After-enum-told → tie.Else2
-judged-room c = c .before .before .before .before .before .before
+judged-room c = c .before .before .before
 
 abbrev put-judged : tie.After-put-csrcs → tie.After-enum-told
 put-judged c = c .before .before .before .before .before .before .before .before .before .before .before
@@ -111,9 +111,6 @@ roomy c = let e = sized (c .before) in omega (arith, c .if2 .left)
 
 -- ---- 9, 10
 
-judge-requires : tie.Need-judge-requires
-judge-requires c κs = (able (c .before .before .before .before .before .before .before .before) .packing .lengths, c .before .before .before .before .before .payload-len .ensures .0)
-
 asked-block : (c : tie.Else2) → let h = header (room-start c) in
     asked (room-start c)
     ≡ blockAsked (h .extension) (formOf (h .«extension_profile»)) (c .before .before .payload-len .result) (h .extensions .count) (octetsOf (fieldsOf h))
@@ -129,7 +126,7 @@ asked-block c =
 
 returns-3 : tie.Need-returns-3
 returns-3 c =
-    let room = c .before .before .before .before .before .before in
+    let room = c .before .before .before in
     let start = room-start room in
     let h = header start in
     let len = room .before .before .payload-len .result in
@@ -248,7 +245,7 @@ marshal-to-spec =
     payload-len-requires
     size-of-requires
     returns-2
-    judge-requires
+    (λ c κs. search needs)
     (λ c. search needs)
     (λ c. search needs)
     returns-3
