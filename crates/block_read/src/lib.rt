@@ -166,10 +166,6 @@ fn read_whole(packet: &[u8], start: usize, len: usize) -> BlockRead
     requires { ⌜ start + len ≤ length (now packet) ⌝ }
     ensures { λ r. ⌜ heardBlock r ≡ blockHeard (length (now (packet .entry))) (wholeBlock (blockAt (now (packet .entry)) start len)) ⌝ }
 {
-    // The Rust tests this again; it never holds.
-    if packet.len() < start + len {
-        return refused_block(Error::ErrHeaderSizeInsufficientForExtension);
-    }
     if 1024 < len {
         return refused_block(Error::OverLimits);
     }

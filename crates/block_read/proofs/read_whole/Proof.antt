@@ -1,4 +1,4 @@
--- The block fits the packet, so the second test of its length never holds; the one element is the whole block.
+-- The block lies in the packet, and the one element is the whole block.
 use mathlib.Core.Path.{_≡_, refl, sym, ap, _∙_}
 use mathlib.Core.List.{[]}
 use Prim.Native.Nat.{ℕ, _+_, _-_, _≤_, _<_}
@@ -14,27 +14,24 @@ use Rattle.block_read.proofs.read_whole.Statement.{statement}
 use Rattle.block_read.proofs.read_whole.Tie as tie
 
 returns : tie.Need-returns
-returns c = absurd (omega arith)
-
-returns-2 : tie.Need-returns-2
-returns-2 c =
-    let a = c .before .before .before .before .args in
-    c .refused-block2 .ensures
-    ∙ sym (ap (blockHeard (length (a .packet .now))) (whole-full (a .packet .now) (a .start) (a .len) (c .before .if2 .taken)))
+returns c =
+    let a = c .before .before .before .args in
+    c .refused-block .ensures
+    ∙ sym (ap (blockHeard (length (a .packet .now))) (whole-full (a .packet .now) (a .start) (a .len) (c .before .if1 .taken)))
 
 push-requires : tie.Need-push-requires
 unfolding layElements
 push-requires c κs =
-    let a = c .before .before .before .before .before .args in
+    let a = c .before .before .before .before .args in
     let len : a .start + a .len - a .start ≡ a .len = omega arith in
     let n : length (take (a .len) (drop (a .start) (a .packet .now))) ≡ a .len =
     length-take-le (a .len) (drop (a .start) (a .packet .now)) (rw (length-drop (a .start) (a .packet .now)) (omega arith)) in
     let count : c .before .new .result .count ≡ 0 = ap (λ (x : Extensions). x .count) (c .before .new .ensures) in
     (omega arith, rw len (omega arith))
 
-returns-3 : tie.Need-returns-3
-returns-3 c =
-    let a = c .before .before .before .before .before .before .args in
+returns-2 : tie.Need-returns-2
+returns-2 c =
+    let a = c .before .before .before .before .before .args in
     let s = a .packet .now in
     let end = a .start + a .len in
     let len : end - a .start ≡ a .len = omega arith in
@@ -52,11 +49,8 @@ pub read-whole-spec : {M : Type 1} → statement M
 read-whole-spec =
     tie.close
     (tie.spec
-    (λ c. search needs)
     (λ c κs. search needs)
     returns
-    (λ c κs. search needs)
-    returns-2
     (λ c. search needs)
     (λ c κs. search needs)
     (λ c. search needs)
@@ -64,4 +58,4 @@ read-whole-spec =
     (λ c. search needs)
     (λ c. search needs)
     push-requires
-    returns-3)
+    returns-2)
