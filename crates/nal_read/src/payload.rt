@@ -36,10 +36,6 @@ pub fn kind_of(payload: &[u8]) -> Kind
         return Kind::Aggregate;
     }
     if nalu_type == FUA_NALU_TYPE {
-        // The Rust tests this too; it never holds.
-        if payload.len() < 2 {
-            return Kind::Short;
-        }
         let b1 = payload[1];
         return Kind::Fragment {
             first: b1 / 128 % 2 == 1,

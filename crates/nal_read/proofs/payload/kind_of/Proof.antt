@@ -1,4 +1,4 @@
--- The tests are those of `shape`; the second test of an FU-A's length never holds.
+-- The tests are those of `shape`.
 use mathlib.Core.Path.{sym}
 use native.Mathlib.Omega.{arith}
 use borrow.Author.Needs.{needs}
@@ -24,23 +24,20 @@ unfolding shape
 returns-4 c = sym (rw (lt-leb _ 1 (c .before .before .before .if1 .left), lt-leb _ 2 (c .before .if2 .left), eq-eqb _ 24 (c .if4 .taken)))
 
 returns-5 : tie.Need-returns-5
-returns-5 c = absurd (omega arith)
+unfolding shape
+returns-5 c = sym (rw (lt-leb _ 1 (c .before .before .before .before .before .if1 .left), lt-leb _ 2 (c .before .before .before .if2 .left), ne-eqb _ 24 (c .before .before .if4 .left), eq-eqb _ 28 (c .before .if5 .taken)))
 
 returns-6 : tie.Need-returns-6
 unfolding shape
-returns-6 c = sym (rw (lt-leb _ 1 (c .before .before .before .before .before .before .if1 .left), lt-leb _ 2 (c .before .before .before .before .if2 .left), ne-eqb _ 24 (c .before .before .before .if4 .left), eq-eqb _ 28 (c .before .before .if5 .taken)))
+returns-6 c = sym (rw (lt-leb _ 1 (c .before .before .before .before .before .if1 .left), lt-leb _ 2 (c .before .before .before .if2 .left), ne-eqb _ 24 (c .before .before .if4 .left), ne-eqb _ 28 (c .before .if5 .left), eq-eqb _ 0 (c .if6 .taken)))
 
 returns-7 : tie.Need-returns-7
 unfolding shape
-returns-7 c = sym (rw (lt-leb _ 1 (c .before .before .before .before .before .if1 .left), lt-leb _ 2 (c .before .before .before .if2 .left), ne-eqb _ 24 (c .before .before .if4 .left), ne-eqb _ 28 (c .before .if5 .left), eq-eqb _ 0 (c .if7 .taken)))
+returns-7 c = sym (rw (lt-leb _ 1 (c .before .before .before .before .before .before .if1 .left), lt-leb _ 2 (c .before .before .before .before .if2 .left), ne-eqb _ 24 (c .before .before .before .if4 .left), ne-eqb _ 28 (c .before .before .if5 .left), ne-eqb _ 0 (c .before .if6 .left), le-leb _ 23 (c .if7 .taken)))
 
 returns-8 : tie.Need-returns-8
 unfolding shape
-returns-8 c = sym (rw (lt-leb _ 1 (c .before .before .before .before .before .before .if1 .left), lt-leb _ 2 (c .before .before .before .before .if2 .left), ne-eqb _ 24 (c .before .before .before .if4 .left), ne-eqb _ 28 (c .before .before .if5 .left), ne-eqb _ 0 (c .before .if7 .left), le-leb _ 23 (c .if8 .taken)))
-
-returns-9 : tie.Need-returns-9
-unfolding shape
-returns-9 c = sym (rw (lt-leb _ 1 (c .before .before .before .before .before .before .if1 .left), lt-leb _ 2 (c .before .before .before .before .if2 .left), ne-eqb _ 24 (c .before .before .before .if4 .left), ne-eqb _ 28 (c .before .before .if5 .left), ne-eqb _ 0 (c .before .if7 .left), lt-leb _ 23 (c .if8 .left)))
+returns-8 c = sym (rw (lt-leb _ 1 (c .before .before .before .before .before .before .if1 .left), lt-leb _ 2 (c .before .before .before .before .if2 .left), ne-eqb _ 24 (c .before .before .before .if4 .left), ne-eqb _ 28 (c .before .before .if5 .left), ne-eqb _ 0 (c .before .if6 .left), lt-leb _ 23 (c .if7 .left)))
 
 pub kind-of-spec : {M : Type 1} → statement M
 kind-of-spec =
@@ -51,11 +48,10 @@ kind-of-spec =
     returns-2
     returns-3
     returns-4
+    (λ c. search needs)
+    (λ c. search needs)
+    (λ c. search needs)
     returns-5
-    (λ c. search needs)
-    (λ c. search needs)
-    (λ c. search needs)
     returns-6
     returns-7
-    returns-8
-    returns-9)
+    returns-8)
