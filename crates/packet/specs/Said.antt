@@ -1,7 +1,7 @@
 -- What each answer says, in the paper's numbers and values. Assumes nothing.
-use Prim.Native.Nat.{ℕ}
+use Prim.Native.Nat.{ℕ, _-_, _≤_}
 use Rattle.error.specs.Refusal.{refusalOf}
-use Rattle.error.specs.Said.{Said, says, refused, refuse}
+use Rattle.error.specs.Said.{Said, says, refused}
 use Rattle.header.specs.declared.Header.{Header}
 use Rattle.header.specs.declared.HeaderRead.{HeaderRead}
 use Rattle.header.specs.declared.HeaderRead.the-variants as head
@@ -15,10 +15,15 @@ abbrev pub saidRead : PacketRead → Said Payload
 saidRead (read.Payload place len) = says (record { place = place; len = len })
 saidRead (read.Refused e) = refused (refusalOf e)
 
--- the header's refusal as the packet's; a place is none
-abbrev pub passedOn : HeaderRead → Said Payload
-passedOn (head.Payload place) = refuse 8
-passedOn (head.Refused e) = refused (refusalOf e)
+-- the payload's place, where the header says one, lies within n bytes
+abbrev pub Begins : ℕ → HeaderRead → Type 0
+Begins n (head.Payload place) = place ≤ n
+Begins n (head.Refused e) = Unit
+
+-- the header's answer as that of a packet of n bytes without padding
+abbrev pub unpadded : ℕ → HeaderRead → Said Payload
+unpadded n (head.Payload place) = says (record { place = place; len = n - place })
+unpadded n (head.Refused e) = refused (refusalOf e)
 
 -- the answer and the record beside it
 pub record Heard : Type 0 where

@@ -2,22 +2,21 @@
 ghost use mathlib.Core.Path.{_≡_};
 ghost use Prim.Native.Nat.{_<_, _≤_};
 ghost use lib.ListN.{length};
-ghost use Rattle.error.specs.Refusal.{refusalOf};
-ghost use Rattle.error.specs.Said.{refused};
 ghost use Rattle.packet.specs.Read.{stripped, readPacket};
-ghost use Rattle.packet.specs.Said.{saidRead, heard, readingHeard, passedOn};
+ghost use Rattle.packet.specs.Said.{saidRead, heard, readingHeard, Begins, unpadded};
 use crate::PacketRead;
 use crate::Unmarshalled;
 use error::Error;
 use header::Header;
 use header::HeaderRead;
 
-// The header's refusal is the packet's.
-fn passed_on(read: HeaderRead) -> PacketRead
-    ensures { λ r. ⌜ saidRead r ≡ passedOn read ⌝ }
+// The header's answer as that of a packet without padding: its refusal, or all from the payload's place on.
+fn unpadded(read: HeaderRead, len: usize) -> PacketRead
+    requires { ⌜ Begins len read ⌝ }
+    ensures { λ r. ⌜ saidRead r ≡ unpadded len read ⌝ }
 {
     match read {
-        HeaderRead::Payload(_) => PacketRead::Refused(Error::OutsideDomain),
+        HeaderRead::Payload(at) => PacketRead::Payload { at, len: len - at },
         HeaderRead::Refused(e) => PacketRead::Refused(e),
     }
 }
@@ -46,17 +45,14 @@ pub fn unmarshal(packet: &[u8]) -> Unmarshalled
     let read = answer.read;
     let HeaderRead::Payload(at) = read else {
         return Unmarshalled {
-            read: passed_on(read),
+            read: unpadded(read, packet.len()),
             header: Header::default(),
         };
     };
     let header = answer.header;
     if !header.padding {
         return Unmarshalled {
-            read: PacketRead::Payload {
-                at,
-                len: packet.len() - at,
-            },
+            read: unpadded(read, packet.len()),
             header,
         };
     }

@@ -1,17 +1,21 @@
 -- The header's answer is taken apart first; what follows is `stripped` with the padding bit, and the rest of the packet without.
-use mathlib.Core.Path.{_≡_, refl, sym, ap, ap₂, _∙_}
-use Prim.Native.Nat.{_-_}
+use mathlib.Core.Path.{sym, ap, ap₂, subst, _∙_}
 use lib.ListN.{length}
 use borrow.Author.Needs.{needs}
 use borrow.Author.Tests.{not-true, not-false}
-use Rattle.error.specs.Said.{Said, says}
+use Rattle.error.specs.Said.{Said}
 use Rattle.header.specs.declared.Header.{Header}
 use Rattle.header.proofs.Reading.{Answered, answered, answered-refusal, place-inside}
-use Rattle.packet.specs.Read.{Payload, stripped, with-fields}
-use Rattle.packet.specs.Said.{Heard, readingHeard, passedOn}
+use Rattle.packet.specs.Read.{Payload, with-fields}
+use Rattle.packet.specs.Said.{readingHeard, Begins, unpadded}
 use Rattle.packet.proofs.Reading.{packet-refused, packet-plain, packet-padded, beside-payload, beside-refusal}
 use Rattle.packet.proofs.read.unmarshal.Statement.{statement}
 use Rattle.packet.proofs.read.unmarshal.Tie as tie
+
+unpadded-requires : tie.Need-unpadded-requires
+unpadded-requires c κs =
+    let s = c .before .before .before .before .args .packet .now in
+    subst (Begins (length s)) (sym (c .enum-told .given .1)) tt
 
 returns : tie.Need-returns
 returns c =
@@ -20,7 +24,7 @@ returns c =
     let e = c .before .before .enum-told .given .0 .0 in
     let told = c .before .before .enum-told .given .1 in
     ap₂ (λ (x : Said Payload) (h : Header). record { answer = x; header = h })
-    (c .before .passed-on .ensures ∙ ap passedOn told)
+    (c .before .unpadded .ensures ∙ ap (unpadded (length s)) told)
     (c .default .ensures)
     ∙ sym (ap readingHeard (packet-refused s e (answered-refusal (u .result) s e (u .ensures) told .0)))
 
@@ -31,16 +35,15 @@ header : (c : tie.After-header) →
     (c .before .before .read .given .0 .0)
 header c = answered (c .before .before .before .before .unmarshal .result) _ _ (c .before .before .before .before .unmarshal .ensures) (c .before .before .read .given .1)
 
-sub-t11 : tie.Need-sub-t11
-sub-t11 c = place-inside _ _ (header (c .before .before) .reads)
+unpadded-requires-2 : tie.Need-unpadded-requires-2
+unpadded-requires-2 c κs = place-inside _ _ (header (c .before .before) .reads)
 
 returns-2 : tie.Need-returns-2
 returns-2 c =
-    let s = c .before .before .before .before .before .before .before .before .args .packet .now in
-    let a = header (c .before .before) in
-    let at = c .before .before .before .before .read .given .0 .0 in
-    ap (λ (h : Header). record { answer = says (record { place = at; len = length s - at }); header = h }) (a .laid)
-    ∙ sym (ap readingHeard (packet-plain s _ at a (not-true _ (c .if1 .taken))))
+    let s = c .before .before .before .before .before .before .before .before .before .args .packet .now in
+    let a = header (c .before .before .before) in
+    ap₂ (λ (x : Said Payload) (h : Header). record { answer = x; header = h }) (c .unpadded2 .ensures) (a .laid)
+    ∙ sym (ap readingHeard (packet-plain s _ _ a (not-true _ (c .before .if1 .taken))))
 
 strip-requires : tie.Need-strip-requires
 strip-requires c κs = place-inside _ _ (header (c .before .before) .reads)
@@ -68,10 +71,10 @@ unmarshal-spec =
     (λ c κs. search needs)
     (λ c. search needs)
     (λ c. search needs)
-    (λ c κs. search needs)
+    unpadded-requires
     (λ c κs. search needs)
     returns
-    sub-t11
+    unpadded-requires-2
     returns-2
     strip-requires
     (λ c. search needs)
