@@ -40,10 +40,11 @@ pub fn told(a: &[u8], refusal: usize, x: usize, y: usize, z: usize) -> bool {
 }
 
 pub fn refused(a: &[u8], e: Error) -> bool {
+    let refusal = rows::wide(e.number());
     match e {
-        Error::StapASizeLargerThanBuffer(size, left) => told(a, 17, size, left, 0),
-        Error::NaluTypeIsNotHandled(kind) => told(a, 19, rows::wide(kind), 0, 0),
-        _ => told(a, rows::wide(e.number()), 0, 0, 0),
+        Error::StapASizeLargerThanBuffer(size, left) => told(a, refusal, size, left, 0),
+        Error::NaluTypeIsNotHandled(kind) => told(a, refusal, rows::wide(kind), 0, 0),
+        _ => told(a, refusal, 0, 0, 0),
     }
 }
 
