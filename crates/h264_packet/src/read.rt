@@ -5,7 +5,7 @@ ghost use Prim.Native.Nat.{_≤_};
 ghost use lib.ListN.{length, take, drop};
 ghost use Rattle.error.specs.Refusal.{refusalOf};
 ghost use Rattle.error.specs.Said.{says, refused};
-ghost use Rattle.nal_read.specs.Said.{shapeSaid};
+ghost use Rattle.nal_read.specs.Kind.{shape};
 ghost use Rattle.nal.specs.Said.{saidHanded};
 ghost use Rattle.nal.specs.Ran.{withRun, layRun};
 ghost use Rattle.h264_packet.specs.Run.{runOf, recorded};
@@ -73,10 +73,11 @@ fn read_payload(avc: bool, run: usize, payload: &[u8], gather: &mut [u8], out: &
 }
 
 // What shows the body of the unit that a payload completes.
-fn shown_by(kind: Kind, run: usize, len: usize) -> Shown
-    requires { ⌜ (len ≤ 65535) × (run ≤ 16777215) ⌝ }
-    ensures { λ r. ⌜ saidShown r ≡ shownOf (shapeSaid kind) run len ⌝ }
+fn shown_by(payload: &[u8], run: usize) -> Shown
+    requires { ⌜ (length (now payload) ≤ 65535) × (run ≤ 16777215) ⌝ }
+    ensures { λ r. ⌜ saidShown r ≡ shownOf (shape (now (payload .entry))) run (length (now (payload .entry))) ⌝ }
 {
+    let kind = nal_read::kind_of(payload);
     match kind {
         Kind::Short => Shown::Nowhere,
         Kind::Unknown(_) => Shown::Nowhere,
@@ -88,11 +89,7 @@ fn shown_by(kind: Kind, run: usize, len: usize) -> Shown
             head: _,
         } => {
             if last {
-                // A fragment has 3 bytes or more; this spares a premise.
-                if len < 2 {
-                    return Shown::Gather(run);
-                }
-                return Shown::Gather(run + (len - 2));
+                return Shown::Gather(run + (payload.len() - 2));
             }
             Shown::Nowhere
         }
@@ -132,7 +129,7 @@ impl H264Packet {
                     gathered,
                 },
                 answer: Depacketize::Bytes(bytes),
-                shown: shown_by(nal_read::kind_of(payload), run, payload.len()),
+                shown: shown_by(payload, run),
             },
             Ran::Refused(e) => self.refused(e),
         }
