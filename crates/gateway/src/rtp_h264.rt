@@ -1,10 +1,11 @@
 // H.264: frames sent, payloads read, the partition tests.
 ghost use mathlib.Core.Path.{_≡_};
 ghost use mathlib.Core.List.{[]};
+ghost use Prim.Native.Nat.{ℕ, _≤_};
 ghost use lib.ListN.{length};
 ghost use Rattle.h264_put.specs.Groups.{nothingSaved};
 ghost use Rattle.h264.specs.Payload.{layOut, left, payloadOf};
-ghost use Rattle.h264_packet.specs.Depacketize.{depacketized, headTest};
+ghost use Rattle.h264_packet.specs.Depacketize.{depacketized, in-packet, Lies, headTest};
 ghost use Rattle.h264_packet.specs.Said.{saidShown, heard, depacketizedHeard, saidHead};
 ghost use Rattle.gateway.specs.Refused.{testAs};
 ghost use Rattle.gateway.specs.H264Answers.{h264SentAs, bodyNowhere, bodyAs, h264ReadAs};
@@ -87,37 +88,29 @@ fn nowhere() -> RtpBody
     }
 }
 
-// Where `h264_packet::body` shows it, in a payload and a gather buffer of these lengths.
-fn body(shown: Shown, payload: usize, gather: usize) -> RtpBody
-    ensures { λ r. ⌜ r ≡ bodyAs (saidShown shown) payload gather ⌝ }
+// Where `h264_packet::body` shows it, in a payload of this length and any gather buffer that holds it.
+fn body(shown: Shown, payload: usize) -> RtpBody
+    requires { ⌜ (saidShown shown ≡ in-packet → 1 ≤ payload) ⌝ }
+    ensures { λ r. ⌜ ((gather : ℕ) → Lies (saidShown shown) payload gather → r ≡ bodyAs (saidShown shown) payload gather) ⌝ }
 {
     match shown {
         Shown::Nowhere => nowhere(),
-        Shown::Packet => {
-            if payload == 0 {
-                return nowhere();
-            }
-            RtpBody {
-                lies_in: 1,
-                at: 1,
-                len: payload - 1,
-            }
-        }
-        Shown::Gather(len) => {
-            if gather < len {
-                return nowhere();
-            }
-            RtpBody {
-                lies_in: 2,
-                at: 0,
-                len,
-            }
-        }
+        Shown::Packet => RtpBody {
+            lies_in: 1,
+            at: 1,
+            len: payload - 1,
+        },
+        Shown::Gather(len) => RtpBody {
+            lies_in: 2,
+            at: 0,
+            len,
+        },
     }
 }
 
-fn h264_read(answer: Depacketized, payload: usize, gather: usize) -> RtpH264Read
-    ensures { λ r. ⌜ r ≡ h264ReadAs (heard answer [] []) payload gather ⌝ }
+fn h264_read(answer: Depacketized, payload: usize) -> RtpH264Read
+    requires { ⌜ (saidShown (answer .shown) ≡ in-packet → 1 ≤ payload) ⌝ }
+    ensures { λ r. ⌜ ((gather : ℕ) → Lies (saidShown (answer .shown)) payload gather → r ≡ h264ReadAs (heard answer [] []) payload gather) ⌝ }
 {
     let read = answer.answer;
     let shown = answer.shown;
@@ -126,13 +119,13 @@ fn h264_read(answer: Depacketized, payload: usize, gather: usize) -> RtpH264Read
         Depacketize::Bytes(bytes) => RtpH264Read {
             refused: answered(),
             bytes,
-            body: body(shown, payload, gather),
+            body: body(shown, payload),
             packet,
         },
         Depacketize::Refused(e) => RtpH264Read {
             refused: refusal(e),
             bytes: 0,
-            body: body(shown, payload, gather),
+            body: body(shown, payload),
             packet,
         },
     }
@@ -183,12 +176,7 @@ pub extern "C" fn rtp_h264_depacketize(
     ensures { λ _. ⌜ now (gather .exit) ≡ depacketizedHeard packet (now (payload .entry)) (depacketized (packet .«is_avc») (packet .gathered) (now (payload .entry)) (now (gather .entry)) (now (out .entry))) .gather ⌝ }
     ensures { λ _. ⌜ now (out .exit) ≡ depacketizedHeard packet (now (payload .entry)) (depacketized (packet .«is_avc») (packet .gathered) (now (payload .entry)) (now (gather .entry)) (now (out .entry))) .out ⌝ }
 {
-    let room = gather.len();
-    h264_read(
-        packet.depacketize(payload, gather, out),
-        payload.len(),
-        room,
-    )
+    h264_read(packet.depacketize(payload, gather, out), payload.len())
 }
 
 #[no_mangle]

@@ -1,2 +1,3 @@
 pub mod Depacketizing
+pub mod Never
 pub mod Only

@@ -3,7 +3,7 @@
 -- nothing.
 use mathlib.Core.Bool.{Bool, true, false, cond, _||_}
 use mathlib.Core.List.{List, [], _∷_, _++_}
-use Prim.Native.Nat.{ℕ, _+_, _-_, _/_, _%_}
+use Prim.Native.Nat.{ℕ, _+_, _-_, _/_, _%_, _≤_}
 use lib.Dec.{ltb, eqb, leb}
 use lib.ListN.{length, take, drop, getD}
 use Rattle.error.specs.Said.{Said, says, refused, refuse}
@@ -63,6 +63,12 @@ shownOf plain n len = in-packet
 shownOf aggregate n len = nowhere
 shownOf (fragment first false head) n len = nowhere
 shownOf (fragment first true head) n len = in-gather (n + (len - 2))
+
+-- what is shown is there: in a payload of p bytes, or in front of a gather buffer of g
+abbrev pub Lies : Showing → ℕ → ℕ → Type 0
+Lies nowhere p g = Unit {0}
+Lies in-packet p g = 1 ≤ p
+Lies (in-gather len) p g = len ≤ g
 
 -- "The body is all after the unit's first byte"; a length beyond the buffer shows nothing
 unfoldable pub bodyOf : Showing → List ℕ → List ℕ → List ℕ

@@ -17,10 +17,9 @@ use Rattle.nal.proofs.Running.{run-beside}
 use Rattle.nal_read.proofs.Shapes.{Facts, told}
 use Rattle.h264_packet.specs.Run.{Run, runOf, recorded}
 use Rattle.h264_packet.specs.Depacketize.{beside, readBy, readPayload, depacketized}
-use Rattle.h264_packet.proofs.Depacketizing.{gathered-run, length-run}
+use Rattle.h264_packet.proofs.Depacketizing.{gathered-run, length-run, by-domain}
 use Rattle.h264_rfc.specs.Reading.{State, gatheredThen, next, calls}
 use Rattle.h264_rfc.specs.Meaning.{RunKept}
-use Rattle.h264_rfc.proofs.Steps.{by-domain}
 
 nothing-done : (n : ℕ) (gather out : List ℕ) (r : Refusal) → RunKept n gather (record { answer = refused r; gather = gather; out = out })
 nothing-done n gather out r = record { count = refl; bytes = refl }

@@ -33,13 +33,13 @@ use Rattle.rfc6184.proofs.Octets.{formed-fields, octets-of-nal}
 use Rattle.h264.specs.Conformance.{Octets}
 use Rattle.h264_packet.specs.Run.{Run, gathered, runOf, recorded, ongoing, finished}
 use Rattle.h264_packet.specs.Depacketize.{beside, gatheredOn, readBy, readPayload, depacketized}
-use Rattle.h264_packet.proofs.Depacketizing.{gathered-run, length-run}
+use Rattle.h264_packet.proofs.Depacketizing.{gathered-run, length-run, by-domain}
 use Rattle.h264_rfc.specs.Reading.{gatheredThen, handedBy}
 use Rattle.h264_rfc.specs.Loose.{looseOctets, looseOf, LooseFormed, headFrom}
 use Rattle.h264_rfc.specs.Meaning.{SingleUnit, InnerUnit, Inner, a-unit, stray, Stray, Somewhere, Aggregation, AsSent, RunKept, Means, unit-alone, units-together, part-gathered, unit-joined}
 use Rattle.h264_rfc.proofs.Complete.{aggregated-sized}
 use Rattle.h264_rfc.proofs.Runs.{each-or-some, fragment-kind}
-use Rattle.h264_rfc.proofs.Steps.{laid, Fits, laid-run, fits-if, by-domain, handed-laid}
+use Rattle.h264_rfc.proofs.Steps.{laid, Fits, laid-run, fits-if, handed-laid}
 
 -- ---- a single unit
 

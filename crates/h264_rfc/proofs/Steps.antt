@@ -19,7 +19,7 @@ use Rattle.nal.proofs.Handing.{bytes-short, bytes-fit, both-long, both-by}
 use Rattle.rfc6184.specs.Sending.{Each}
 use Rattle.h264_packet.specs.Run.{Run, gathered, runOf, recorded}
 use Rattle.h264_packet.specs.Depacketize.{readPayload, depacketized}
-use Rattle.h264_packet.proofs.Depacketizing.{read-outside, read-inside}
+use Rattle.h264_packet.proofs.Depacketizing.{read-inside}
 use Rattle.h264_rfc.specs.Reading.{Reader, State, next, calls, behind, handedBy, Answered, Hears}
 
 -- what a call leaves that does f
@@ -72,21 +72,6 @@ module _ (avc : Bool) (n : ℕ) (payload gather out : List ℕ)
   pub not-taken : (r : Refusal) → readPayload (runOf n gather) payload ≡ refused r →
       depacketized avc n payload gather out ≡ record { answer = refused r; gather = gather; out = out }
   not-taken r e = read-inside avc n payload gather out short within run ∙ ap (layRun recorded avc gather out) e
-
--- a call outside the domain is 8, and one inside is told by what the payload does
-pub by-domain : (P : Laid (RanOn ℕ) → Type 0) (avc : Bool) (n : ℕ) (payload gather out : List ℕ) → P (record { answer = refuse 8; gather = gather; out = out }) →
-    (length payload ≤ 65535 → n ≤ length gather → n ≤ 16777215 → P (layRun recorded avc gather out (readPayload (runOf n gather) payload))) →
-    P (depacketized avc n payload gather out)
-by-domain P avc n payload gather out outside inside = by (decLe (length payload) 65535) (decLe n (length gather)) (decLe n 16777215)
-  where
-    far : (65535 < length payload) ⊎ ((length gather < n) ⊎ (16777215 < n)) → P (depacketized avc n payload gather out)
-    far h = subst P (sym (read-outside avc n payload gather out h)) outside
-
-    by : Dec (length payload ≤ 65535) → Dec (n ≤ length gather) → Dec (n ≤ 16777215) → P (depacketized avc n payload gather out)
-    by (no h) g k = far (inl (lt-of-not-le h))
-    by (yes h) (no g) k = far (inr (inl (lt-of-not-le g)))
-    by (yes h) (yes g) (no k) = far (inr (inr (lt-of-not-le k)))
-    by (yes h) (yes g) (yes k) = subst P (sym (read-inside avc n payload gather out h g k)) (inside h g k)
 
 -- what it hands out
 pub handed-laid : (avc : Bool) (gather out : List ℕ) (f : Fed Run) → handedBy (laid avc gather out f) ≡ prefixed avc (f .handed)

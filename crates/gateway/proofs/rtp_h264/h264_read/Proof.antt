@@ -19,17 +19,17 @@ laid d payload gather read =
     payload gather
 
 returns : tie.Need-returns
-returns c =
+returns c gather lies =
     let a = c .before .before .before .before .before .before .args in
     let bytes = c .before .before .before .read .given .0 .0 in
-    ap₂ (λ (x : Refused) (b : RtpBody). record { refused = x; bytes = bytes; body = b; packet = a .answer .packet }) (c .before .answered .ensures) (c .body .ensures)
-    ∙ sym (ap (laid (a .answer) (a .payload) (a .gather)) (c .before .before .before .read .given .1))
+    ap₂ (λ (x : Refused) (b : RtpBody). record { refused = x; bytes = bytes; body = b; packet = a .answer .packet }) (c .before .answered .ensures) (c .body .ensures gather lies)
+    ∙ sym (ap (laid (a .answer) (a .payload) gather) (c .before .before .before .read .given .1))
 
 returns-2 : tie.Need-returns-2
-returns-2 c =
+returns-2 c gather lies =
     let a = c .before .before .before .before .before .before .args in
-    ap₂ (λ (x : Refused) (b : RtpBody). record { refused = x; bytes = 0; body = b; packet = a .answer .packet }) (c .before .refusal .ensures) (c .body2 .ensures)
-    ∙ sym (ap (laid (a .answer) (a .payload) (a .gather)) (c .before .before .before .read2 .given .1))
+    ap₂ (λ (x : Refused) (b : RtpBody). record { refused = x; bytes = 0; body = b; packet = a .answer .packet }) (c .before .refusal .ensures) (c .body2 .ensures gather lies)
+    ∙ sym (ap (laid (a .answer) (a .payload) gather) (c .before .before .before .read2 .given .1))
 
 pub h264-read-spec : {M : Type 1} → statement M
 h264-read-spec =
