@@ -1,4 +1,5 @@
 -- What each answer says, in the paper's numbers and values. Assumes nothing.
+use mathlib.Core.Path.{_≡_}
 use mathlib.Core.Bool.{Bool}
 use mathlib.Core.List.{List}
 use Prim.Native.Nat.{ℕ}
@@ -22,7 +23,7 @@ use Rattle.h264_packet.specs.Depacketize.{Showing, nowhere, in-packet, i
 
 -- what became of a payload, inside
 abbrev pub ranSaid : Ran → Said (RanOn ℕ)
-ranSaid (ran.On gathered bytes) = says (record { run = gathered; bytes = bytes })
+ranSaid (ran.On gathered bytes shown) = says (record { run = gathered; bytes = bytes })
 ranSaid (ran.Refused e) = refused (refusalOf e)
 
 abbrev pub ranHeard : Ran → List ℕ → List ℕ → Laid (RanOn ℕ)
@@ -32,6 +33,11 @@ abbrev pub saidShown : Shown → Showing
 saidShown shown.Nowhere = nowhere
 saidShown shown.Packet = in-packet
 saidShown (shown.Gather n) = in-gather n
+
+-- an answer shows the body so
+abbrev pub Shows : Ran → Showing → Type 0
+Shows (ran.On gathered bytes shown) x = saidShown shown ≡ x
+Shows (ran.Refused e) x = Unit {0}
 
 abbrev pub saidDepacketize : Depacketize → Said ℕ
 saidDepacketize (dep.Bytes n) = says n

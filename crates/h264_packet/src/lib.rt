@@ -41,8 +41,13 @@ pub struct Depacketized {
 
 // What became of a payload.
 enum Ran {
-    // the run that is now open has `gathered` bytes, 0 for none, and `bytes` bytes were handed out
-    On { gathered: usize, bytes: usize },
+    // the run that is now open has `gathered` bytes, 0 for none, `bytes` bytes were handed out, and the body of the unit that
+    // was completed is shown
+    On {
+        gathered: usize,
+        bytes: usize,
+        shown: Shown,
+    },
     Refused(Error),
 }
 

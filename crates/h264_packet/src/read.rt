@@ -5,12 +5,13 @@ ghost use Prim.Native.Nat.{_≤_};
 ghost use lib.ListN.{length, take, drop};
 ghost use Rattle.error.specs.Refusal.{refusalOf};
 ghost use Rattle.error.specs.Said.{says, refused};
-ghost use Rattle.nal_read.specs.Kind.{shape};
+ghost use mathlib.Core.Bool.{false};
+ghost use Rattle.nal_read.specs.Kind.{fragment, shape};
 ghost use Rattle.nal.specs.Said.{saidHanded};
 ghost use Rattle.nal.specs.Ran.{withRun, layRun};
 ghost use Rattle.h264_packet.specs.Run.{runOf, recorded};
 ghost use Rattle.h264_packet.specs.Depacketize.{gatheredOn, readPayload, depacketized, shownOf};
-ghost use Rattle.h264_packet.specs.Said.{ranSaid, ranHeard, saidShown, saidDepacketize, heard, depacketizedHeard};
+ghost use Rattle.h264_packet.specs.Said.{ranSaid, ranHeard, Shows, saidShown, saidDepacketize, heard, depacketizedHeard};
 ghost use Rattle.h264_packet.specs.Depacketize.{nowhere};
 use crate::Depacketize;
 use crate::Depacketized;
@@ -21,12 +22,16 @@ use error::Error;
 use nal::Handed;
 use nal_read::Kind;
 
-// The answer of handing out, where a run of `gathered` bytes is open afterwards.
-fn with_run(handed: Handed, gathered: usize) -> Ran
-    ensures { λ r. ⌜ ranSaid r ≡ withRun gathered (saidHanded handed) ⌝ }
+// The answer of handing out, where a run of `gathered` bytes is open afterwards and the body is shown so.
+fn with_run(handed: Handed, gathered: usize, shown: Shown) -> Ran
+    ensures { λ r. ⌜ (ranSaid r ≡ withRun gathered (saidHanded handed)) × Shows r (saidShown shown) ⌝ }
 {
     match handed {
-        Handed::Bytes(bytes) => Ran::On { gathered, bytes },
+        Handed::Bytes(bytes) => Ran::On {
+            gathered,
+            bytes,
+            shown,
+        },
         Handed::Refused(e) => Ran::Refused(e),
     }
 }
@@ -42,57 +47,45 @@ fn read_fragment(
     out: &mut [u8],
 ) -> Ran
     requires { ⌜ (3 ≤ length (now payload)) × (length (now payload) ≤ 65535) × (run ≤ length (now gather)) ⌝ }
-    ensures { λ r. ⌜ ranHeard r (now (gather .exit)) (now (out .exit)) ≡ layRun recorded avc (now (gather .entry)) (now (out .entry)) (says (gatheredOn (take run (now (gather .entry)) ++ drop 2 (now (payload .entry))) last head)) ⌝ }
+    ensures { λ r. ⌜ (ranHeard r (now (gather .exit)) (now (out .exit)) ≡ layRun recorded avc (now (gather .entry)) (now (out .entry)) (says (gatheredOn (take run (now (gather .entry)) ++ drop 2 (now (payload .entry))) last head)))
+        × Shows r (shownOf (fragment false last head) run (length (now (payload .entry)))) ⌝ }
 {
+    let end = run + (payload.len() - 2);
     if last {
         let first = [head];
-        return with_run(nal::finish(&payload[2..], run, &first, avc, gather, out), 0);
+        return with_run(
+            nal::finish(&payload[2..], run, &first, avc, gather, out),
+            0,
+            Shown::Gather(end),
+        );
     }
     with_run(
         nal::gather_on(&payload[2..], run, gather),
-        run + (payload.len() - 2),
+        end,
+        Shown::Nowhere,
     )
 }
 
 fn read_payload(avc: bool, run: usize, payload: &[u8], gather: &mut [u8], out: &mut [u8]) -> Ran
     requires { ⌜ (length (now payload) ≤ 65535) × (run ≤ length (now gather)) × (run ≤ 16777215) ⌝ }
-    ensures { λ r. ⌜ ranHeard r (now (gather .exit)) (now (out .exit)) ≡ layRun recorded avc (now (gather .entry)) (now (out .entry)) (readPayload (runOf run (now (gather .entry))) (now (payload .entry))) ⌝ }
+    ensures { λ r. ⌜ (ranHeard r (now (gather .exit)) (now (out .exit)) ≡ layRun recorded avc (now (gather .entry)) (now (out .entry)) (readPayload (runOf run (now (gather .entry))) (now (payload .entry))))
+        × Shows r (shownOf (shape (now (payload .entry))) run (length (now (payload .entry)))) ⌝ }
 {
     let kind = nal_read::kind_of(payload);
     match kind {
         Kind::Short => Ran::Refused(Error::ErrShortPacket),
         Kind::Unknown(t) => Ran::Refused(Error::NaluTypeIsNotHandled(t)),
-        Kind::Plain => with_run(nal::hand_plain(payload, avc, out), run),
-        Kind::Aggregate => with_run(nal_read::hand_stap_a(payload, avc, out), run),
+        Kind::Plain => with_run(nal::hand_plain(payload, avc, out), run, Shown::Packet),
+        Kind::Aggregate => with_run(
+            nal_read::hand_stap_a(payload, avc, out),
+            run,
+            Shown::Nowhere,
+        ),
         Kind::Fragment {
             first: _,
             last,
             head,
         } => read_fragment(avc, run, last, head, payload, gather, out),
-    }
-}
-
-// What shows the body of the unit that a payload completes.
-fn shown_by(payload: &[u8], run: usize) -> Shown
-    requires { ⌜ (length (now payload) ≤ 65535) × (run ≤ 16777215) ⌝ }
-    ensures { λ r. ⌜ saidShown r ≡ shownOf (shape (now (payload .entry))) run (length (now (payload .entry))) ⌝ }
-{
-    let kind = nal_read::kind_of(payload);
-    match kind {
-        Kind::Short => Shown::Nowhere,
-        Kind::Unknown(_) => Shown::Nowhere,
-        Kind::Plain => Shown::Packet,
-        Kind::Aggregate => Shown::Nowhere,
-        Kind::Fragment {
-            first: _,
-            last,
-            head: _,
-        } => {
-            if last {
-                return Shown::Gather(run + (payload.len() - 2));
-            }
-            Shown::Nowhere
-        }
     }
 }
 
@@ -123,13 +116,17 @@ impl H264Packet {
         }
         let ran = read_payload(self.is_avc, run, payload, gather, out);
         match ran {
-            Ran::On { gathered, bytes } => Depacketized {
+            Ran::On {
+                gathered,
+                bytes,
+                shown,
+            } => Depacketized {
                 packet: H264Packet {
                     is_avc: self.is_avc,
                     gathered,
                 },
                 answer: Depacketize::Bytes(bytes),
-                shown: shown_by(payload, run),
+                shown,
             },
             Ran::Refused(e) => self.refused(e),
         }

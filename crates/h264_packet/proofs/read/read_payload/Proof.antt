@@ -1,6 +1,6 @@
 -- By the payload's kind, each as its own function has it.
-use mathlib.Core.Path.{_≡_, sym, ap, _∙_}
-use mathlib.Core.Bool.{Bool}
+use mathlib.Core.Path.{_≡_, refl, sym, ap, subst, _∙_}
+use mathlib.Core.Bool.{Bool, true, false}
 use mathlib.Core.List.{List, [], _∷_, _++_}
 use Prim.Native.Nat.{ℕ, _≤_}
 use native.Mathlib.Omega.{arith}
@@ -11,12 +11,14 @@ use Rattle.nal.specs.Fed.{OutLaid, layUnits, Laid}
 use Rattle.nal.specs.Ran.{handing, RanOn, withRun, layRun}
 use Rattle.nal.proofs.Running.{units-heard}
 use Rattle.nal_read.specs.declared.Kind.{Kind}
-use Rattle.nal_read.specs.Kind.{Shape}
+use Rattle.nal_read.specs.Kind.{Shape, fragment, shape}
 use Rattle.nal_read.specs.Said.{shapeSaid}
 use Rattle.nal_read.specs.Unpack.{unpack}
 use Rattle.nal_read.proofs.Shapes.{aggregate-long, fragment-long}
 use Rattle.h264_packet.specs.Run.{runOf, recorded}
-use Rattle.h264_packet.specs.Depacketize.{beside, gatheredOn, readBy, readPayload}
+use Rattle.h264_packet.specs.declared.Ran.{Ran}
+use Rattle.h264_packet.specs.Depacketize.{beside, gatheredOn, readBy, readPayload, shownOf}
+use Rattle.h264_packet.specs.Said.{Shows}
 use Rattle.h264_packet.proofs.Depacketizing.{gathered-run, length-run}
 use Rattle.h264_packet.proofs.read.read_payload.Statement.{statement}
 use Rattle.h264_packet.proofs.read.read_payload.Tie as tie
@@ -31,6 +33,19 @@ by-shape c k e =
     let a = c .before .before .before .before .args in
     ap (λ (x : Shape). layRun recorded (a .avc) (a .gather .now) (a .out .now) (readBy x (runOf (a .run) (a .gather .now)) (a .payload .now)))
     (sym (c .kind-of .ensures) ∙ ap shapeSaid e)
+
+-- .. and so is what shows the body
+shows-by : (c : tie.After-kind-of) (k : Kind) (r : Ran) → c .kind-of .result ≡ k →
+    let a = c .before .before .before .before .args in
+    Shows r (shownOf (shapeSaid k) (a .run) (length (a .payload .now))) → Shows r (shownOf (shape (a .payload .now)) (a .run) (length (a .payload .now)))
+shows-by c k r e h =
+    let a = c .before .before .before .before .args in
+    subst (λ (s : Shape). Shows r (shownOf s (a .run) (length (a .payload .now)))) (sym (ap shapeSaid e) ∙ c .kind-of .ensures) h
+
+-- the start bit counts for nothing
+start-apart : (first last : Bool) (head n len : ℕ) → shownOf (fragment false last head) n len ≡ shownOf (fragment first last head) n len
+start-apart first true head n len = refl
+start-apart first false head n len = refl
 
 -- units that leave the run as it is
 beside-heard : (avc : Bool) (g o : List ℕ) (n : ℕ) (x : Said (List (List ℕ))) (answer : Said (RanOn ℕ)) (handed : Said ℕ) (o′ : List ℕ) →
@@ -54,31 +69,44 @@ read-fragment-requires c κs = (
 )
 
 returns : tie.Need-returns
-returns c = sym (by-shape (c .before .before) _ (c .enum-told .given .1))
+returns c = (sym (by-shape (c .before .before) _ (c .enum-told .given .1)), tt)
 
 returns-2 : tie.Need-returns-2
-returns-2 c = sym (by-shape (c .before .before .before) _ (c .before .kind .given .1))
+returns-2 c = (sym (by-shape (c .before .before .before) _ (c .before .kind .given .1)), tt)
 
 returns-3 : tie.Need-returns-3
 returns-3 c =
-    let a = c .before .before .before .before .before .before .before .before .before .before .before .args in
-    beside-heard (a .avc) (a .gather .now) (a .out .now) (a .run) (says (a .payload .now ∷ [])) _ _ _ (c .with-run .ensures) (c .before .before .before .hand-plain .ensures) (search needs) (search needs)
-    ∙ sym (by-shape (c .before .before .before .before .before .before .before) _ (c .before .before .before .before .before .enum-told2 .given .1))
+    let read = c .before .before .before .before .before .before .before in
+    let a = read .before .before .before .before .args in
+    let told = c .before .before .before .before .before .enum-told2 .given .1 in (
+      beside-heard (a .avc) (a .gather .now) (a .out .now) (a .run) (says (a .payload .now ∷ [])) _ _ _ (c .with-run .ensures .0) (c .before .before .before .hand-plain .ensures) (search needs) (search needs)
+          ∙ sym (by-shape read _ told),
+      shows-by read _ (c .with-run .result) told (c .with-run .ensures .1),
+    )
 
 returns-4 : tie.Need-returns-4
 returns-4 c =
-    let a = c .before .before .before .before .before .before .before .before .before .before .before .args in
-    beside-heard (a .avc) (a .gather .now) (a .out .now) (a .run) (unpack (a .payload .now)) _ _ _ (c .with-run2 .ensures) (c .before .before .before .hand-stap-a .ensures) (search needs) (search needs)
-    ∙ sym (by-shape (c .before .before .before .before .before .before .before) _ (c .before .before .before .before .before .enum-told3 .given .1))
+    let read = c .before .before .before .before .before .before .before in
+    let a = read .before .before .before .before .args in
+    let told = c .before .before .before .before .before .enum-told3 .given .1 in (
+      beside-heard (a .avc) (a .gather .now) (a .out .now) (a .run) (unpack (a .payload .now)) _ _ _ (c .with-run2 .ensures .0) (c .before .before .before .hand-stap-a .ensures) (search needs) (search needs)
+          ∙ sym (by-shape read _ told),
+      shows-by read _ (c .with-run2 .result) told (c .with-run2 .ensures .1),
+    )
 
 returns-5 : tie.Need-returns-5
 returns-5 c =
-    let a = c .before .before .before .before .before .before .before .before .before .before .before .before .before .before .args in
-    let k = c .before .before .before .before .before .before .before .before .kind2 .given .0 in
-    c .before .before .before .before .read-fragment .ensures
-    ∙ sym
-    (by-shape (c .before .before .before .before .before .before .before .before .before .before) _ (c .before .before .before .before .before .before .before .before .kind2 .given .1)
-    ∙ ap (λ (l : List ℕ). layRun recorded (a .avc) (a .gather .now) (a .out .now) (says (gatheredOn (l ++ drop 2 (a .payload .now)) (k .1 .0) (k .1 .1 .0)))) (gathered-run (a .run) (a .gather .now)))
+    let read = c .before .before .before .before .before .before .before .before .before .before in
+    let a = read .before .before .before .before .args in
+    let kind = c .before .before .before .before .before .before .before .before .kind2 .given in
+    let k = kind .0 in
+    let fed = c .before .before .before .before .read-fragment in (
+      fed .ensures .0
+          ∙ sym
+          (by-shape read _ (kind .1)
+          ∙ ap (λ (l : List ℕ). layRun recorded (a .avc) (a .gather .now) (a .out .now) (says (gatheredOn (l ++ drop 2 (a .payload .now)) (k .1 .0) (k .1 .1 .0)))) (gathered-run (a .run) (a .gather .now))),
+      shows-by read _ (fed .result) (kind .1) (subst (Shows (fed .result)) (start-apart (k .0) (k .1 .0) (k .1 .1 .0) (a .run) (length (a .payload .now))) (fed .ensures .1)),
+    )
 
 pub read-payload-spec : {M : Type 1} → statement M
 read-payload-spec =
