@@ -157,6 +157,32 @@ static void joining(void) {
     CHECK(rtp_joiner_close(closed.joiner, 4).refused.number == RTP_ALREADY_CLOSED);
 }
 
+/* What takes 16 MiB, more than the gate's programs have room for: a frame of one byte too many, and runs around the longest. */
+static void limits(void) {
+    const size_t frame = 16777216;
+    uint8_t *bytes = calloc(frame + 1, 1), out[16];
+    size_t ends[4];
+    CHECK(bytes != NULL);
+    CHECK(rtp_h264_payload(rtp_h264_payloader_new(), 1200, bytes, frame + 1, out, sizeof out, ends, 4).refused.number == RTP_OUTSIDE_DOMAIN);
+    CHECK(rtp_vp8_payload((struct rtp_vp8_payloader){0}, 1200, bytes, frame + 1, out, sizeof out, ends, 4).refused.number == RTP_OUTSIDE_DOMAIN);
+
+    struct rtp_h264_packet reader = {.is_avc = false, .gathered = frame - 1};
+    struct rtp_h264_read read = rtp_h264_depacketize(reader, (const uint8_t *)"\x7C\5\1", 3, bytes, frame, out, sizeof out);
+    CHECK(read.refused.number == RTP_GATHER_TOO_SMALL && read.packet.gathered == frame - 1);
+    read = rtp_h264_depacketize(reader, (const uint8_t *)"\x7C\x45\1", 3, bytes, frame, out, sizeof out);
+    CHECK(read.refused.number == RTP_GATHER_TOO_SMALL && read.packet.gathered == frame - 1 && bytes[frame - 1] == 0);
+    reader.gathered = frame;
+    read = rtp_h264_depacketize(reader, (const uint8_t *)"\x41\0\0", 3, bytes, frame, out, sizeof out);
+    CHECK(read.refused.number == RTP_OUTSIDE_DOMAIN && read.packet.gathered == frame);
+
+    struct rtp_joiner joiner = rtp_joiner_open(3, 1);
+    joiner.running = true;
+    joiner.gathered = frame;
+    CHECK(rtp_joiner_join(&joiner, H, 12, bytes, frame, out, sizeof out).refused.number == RTP_OUTSIDE_DOMAIN);
+    CHECK(joiner.awaited == 1 && joiner.running && joiner.gathered == frame);
+    free(bytes);
+}
+
 int main(void) {
     sizes();
     headers();
@@ -165,5 +191,6 @@ int main(void) {
     h264();
     vp8();
     joining();
+    limits();
     return 0;
 }
