@@ -124,7 +124,10 @@ told s = by-length (leb (length s) 1) (leb (length s) 2) refl refl
     by-length false false e f =
         by-type (leb-false (length s) 2 f) (eqb (type s) 24) (eqb (type s) 28) (eqb (type s) 0) (leb (type s) 23) refl refl refl refl
 
--- a STAP-A and a fragment have three bytes at least
+-- a unit by itself has two bytes at least, a STAP-A and a fragment three
+pub plain-long : (s : List ℕ) → shape s ≡ plain → 2 ≤ length s
+plain-long s e = elim (subst (Facts s) e (told s) .long) [ inl three ↦ omega arith | inr two ↦ omega arith ]
+
 pub aggregate-long : (s : List ℕ) → shape s ≡ aggregate → 3 ≤ length s
 aggregate-long s e = subst (Facts s) e (told s) .0
 

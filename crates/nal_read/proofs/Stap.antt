@@ -1,29 +1,21 @@
 -- A STAP-A's measure is that of its sizes, with 17 and 18 as its refusals. Assumes nothing.
 use mathlib.Core.Path.{_≡_, refl, sym, ap, _∙_}
-use mathlib.Core.List.{List, [], _∷_}
+use mathlib.Core.List.{List}
 use Prim.Native.Nat.{ℕ, _-_}
-use native.Mathlib.Omega.{arith}
 use lib.ListN.{length, take, drop}
 use Rattle.error.specs.Refusal.{Refusal}
 use Rattle.error.specs.Said.{Said, says, refused}
 use Rattle.error.proofs.Refusing.{not-says}
 use Rattle.wire.specs.Packets.{joined}
-use Rattle.wire.specs.Turns.{run}
 use Rattle.nal.specs.declared.Measured.{Measured}
 use Rattle.nal.specs.Said.{Measure}
 use Rattle.nal.specs.Said as sizes
-use Rattle.nal.specs.Unpack.{Unpacked, right, past, lone, unpackTurn, unitsIn}
+use Rattle.nal.specs.Unpack.{Unpacked, right, past, lone, unitsIn}
 use Rattle.nal.specs.Unpack as any
 use Rattle.nal.proofs.Handing.{rest-of}
 use Rattle.nal.proofs.Unpacking.{Units}
 use Rattle.nal_read.specs.Said.{measureOf}
 use Rattle.nal_read.specs.Unpack.{stapSaid, unpack}
-
--- nothing behind no first byte
-pub measure-nothing : (s : List ℕ) → length s ≡ 0 → says (record { count = 0; bytes = 0 }) ≡ measureOf (unpack s)
-unfolding unpack any.unpack run unpackTurn
-measure-nothing [] e = refl
-measure-nothing (a ∷ s) e = absurd (omega arith)
 
 measure-by : (x : Unpacked Units) → stapSaid (sizes.measureOf x) ≡ measureOf (stapSaid x)
 measure-by (right us) = refl

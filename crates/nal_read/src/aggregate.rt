@@ -20,11 +20,9 @@ use nal::Handed;
 // |STAP-A NAL HDR |         NALU 1 Size           | NALU 1 HDR    |
 // +-+-+-+-+-+-+-+-+-+-+-+-+-+-+-+-+-+-+-+-+-+-+-+-+-+-+-+-+-+-+-+-+
 pub fn measure(payload: &[u8]) -> Measured
+    requires { ⌜ 1 ≤ length (now payload) ⌝ }
     ensures { λ r. ⌜ measureSaid r ≡ measureOf (unpack (now (payload .entry))) ⌝ }
 {
-    if payload.len() == 0 {
-        return Measured::Units { count: 0, bytes: 0 };
-    }
     let measured = nal::measure(&payload[1..]);
     match measured {
         nal::Measured::Units { count, bytes } => Measured::Units { count, bytes },

@@ -1,4 +1,6 @@
 // What a payload is, by its codec.
+ghost use Prim.Native.Nat.{_≤_};
+ghost use lib.ListN.{length};
 use crate::line::refused;
 use error::Error;
 use nal_read::Kind;
@@ -8,7 +10,9 @@ use vp8::Vp8Packet;
 use vp8::Vp8Read;
 
 // The units of a STAP-A.
-fn aggregate(text: Text, payload: &[u8]) -> Text {
+fn aggregate(text: Text, payload: &[u8]) -> Text
+    requires { ⌜ 1 ≤ length (now payload) ⌝ }
+{
     let measured = nal_read::measure(payload);
     match measured {
         Measured::Units { count, bytes: _ } => text.number(b"STAP-A of ", count as u64),
@@ -23,10 +27,9 @@ fn fragment(text: Text, first: bool, last: bool, head: u8) -> Text {
 }
 
 // The type of the unit that a payload is.
-fn plain(text: Text, payload: &[u8]) -> Text {
-    if payload.len() == 0 {
-        return text;
-    }
+fn plain(text: Text, payload: &[u8]) -> Text
+    requires { ⌜ 1 ≤ length (now payload) ⌝ }
+{
     text.number(b"unit ", (payload[0] % 32) as u64)
 }
 
