@@ -9,45 +9,22 @@ use lib.ListN.{length, getD}
 use borrow.Author.Tests.{lt-ltb, le-ltb}
 use Rattle.wire.specs.Turns.{Turn, more, done, run}
 use Rattle.wire.proofs.Turns.{run-more, run-done}
-use Rattle.annexb.specs.declared.Found.{Found}
 use Rattle.annexb.specs.declared.Found.the-variants as found
-use Rattle.error.specs.Said.{Said, says, refuse}
-use Rattle.error.specs.declared.Error.{Error}
-use Rattle.annexb.specs.declared.Search.{Search}
-use Rattle.annexb.specs.declared.Search.the-variants.{Yields, Refused}
-use Rattle.annexb.specs.Search.{nextCode, beyond, saidSearch, nextInd}
+use Rattle.annexb.specs.Search.{nextCode}
 use Rattle.annexb.proofs.Pieces.{piece-at}
 use Rattle.send.specs.declared.access.Edge.{Edge}
 use Rattle.send.specs.declared.access.Edge.the-variants.{At, Nothing}
-use Rattle.send.specs.Access.{isSlice, begins, Looked, judged, byCode, orNothing, codeFrom, look, edgeOf}
-
--- what the search says, once taken apart
-pub code-told : (s : List ℕ) (start : ℕ) (r : Search) (f : Found) → saidSearch r ≡ nextInd s start → r ≡ Yields f → f ≡ codeFrom s start
-unfolding codeFrom
-code-told s start r f e q = sym (ap (λ (x : Search). orNothing (saidSearch x)) q) ∙ ap orNothing e
-
-pub code-refused : (s : List ℕ) (start : ℕ) (r : Search) (why : Error) → saidSearch r ≡ nextInd s start → r ≡ Refused why → found.Nothing ≡ codeFrom s start
-unfolding codeFrom
-code-refused s start r why e q = sym (ap (λ (x : Search). orNothing (saidSearch x)) q) ∙ ap orNothing e
-
--- what the search finds is a start code
-found-is : (s : List ℕ) (start at len : ℕ) → codeFrom s start ≡ found.At at len → nextCode s start ≡ found.At at len
-unfolding codeFrom nextInd
-found-is s start at len e = go (beyond s start) e
-  where
-    go : (b : Bool) → orNothing (cond b (refuse 8) (says (nextCode s start))) ≡ found.At at len → nextCode s start ≡ found.At at len
-    go true e = cc
-    go false e = e
+use Rattle.send.specs.Access.{isSlice, begins, Looked, byCode, look, edgeOf}
 
 abbrev pub looked : ℕ → Bool → Looked
 looked start coded = record { start = start; coded = coded }
 
 module _ (s : List ℕ) (start : ℕ) (coded : Bool) where
-  look-none : codeFrom s start ≡ found.Nothing → look s (looked start coded) ≡ done Nothing
+  look-none : nextCode s start ≡ found.Nothing → look s (looked start coded) ≡ done Nothing
   unfolding look
   look-none e = ap (byCode s coded) e
 
-  module _ (at len : ℕ) (e : codeFrom s start ≡ found.At at len) where
+  module _ (at len : ℕ) (e : nextCode s start ≡ found.At at len) where
     look-short : length s < at + len + 2 → look s (looked start coded) ≡ done Nothing
     unfolding look
     look-short h = ap (byCode s coded) e ∙ rw (lt-ltb (length s) (at + len + 2) h)
@@ -75,14 +52,14 @@ module _ (s : List ℕ) (start : ℕ) (coded : Bool) (g : Going s start coded) w
   ends : (r : Edge) → look s (looked start coded) ≡ done r → r ≡ edgeOf s
   ends r e = sym (run-done (look s) Nothing (g .fuel) (looked start coded) r (omega (arith, g .enough, g .within)) e) ∙ g .same
 
-  pub ends-none : codeFrom s start ≡ found.Nothing → Nothing ≡ edgeOf s
+  pub ends-none : nextCode s start ≡ found.Nothing → Nothing ≡ edgeOf s
   ends-none e = ends Nothing (look-none s start coded e)
 
-  module _ (at len : ℕ) (e : codeFrom s start ≡ found.At at len) where
+  module _ (at len : ℕ) (e : nextCode s start ≡ found.At at len) where
     -- the unit lies further on, and within the bytes
     pub onward : (start < at + len) × (at + len ≤ length s)
     onward =
-        let p = piece-at s start at len (g .within) (found-is s start at len e) in
+        let p = piece-at s start at len (g .within) e in
         (omega (arith, p .from, p .onward), p .within)
 
     pub ends-short : length s < at + len + 2 → Nothing ≡ edgeOf s

@@ -8,8 +8,7 @@ use lib.ListN.{length, getD}
 use Rattle.wire.specs.Turns.{Turn, more, done, run}
 use Rattle.annexb.specs.declared.Found.{Found}
 use Rattle.annexb.specs.declared.Found.the-variants as found
-use Rattle.error.specs.Said.{Said, says, refused}
-use Rattle.annexb.specs.Search.{nextInd}
+use Rattle.annexb.specs.Search.{nextCode}
 use Rattle.send.specs.declared.access.Edge.{Edge}
 use Rattle.send.specs.declared.access.Edge.the-variants.{At, Nothing}
 
@@ -46,17 +45,9 @@ abbrev pub byCode : List ℕ → Bool → Found → Turn Looked Edge
 byCode s coded (found.At at len) = judged s coded at (at + len)
 byCode s coded found.Nothing = done Nothing
 
--- a search that is refused finds nothing
-abbrev pub orNothing : Said Found → Found
-orNothing (says f) = f
-orNothing (refused r) = found.Nothing
-
-unfoldable pub codeFrom : List ℕ → ℕ → Found
-codeFrom s start = orNothing (nextInd s start)
-
 -- the next unit
 unfoldable pub look : List ℕ → Looked → Turn Looked Edge
-look s l = byCode s (l .coded) (codeFrom s (l .start))
+look s l = byCode s (l .coded) (nextCode s (l .start))
 
 -- the start code before the second access unit; none where the bytes end before it is certain
 unfoldable pub edgeOf : List ℕ → Edge
@@ -74,7 +65,7 @@ allBy s found.Nothing = 0
 
 abbrev pub lenBy : List ℕ → Bool → Edge → ℕ
 lenBy s ended (At n) = n
-lenBy s ended Nothing = cond ended (allBy s (codeFrom s 0)) 0
+lenBy s ended Nothing = cond ended (allBy s (nextCode s 0)) 0
 
 -- how long the first access unit is, where the file may end with these bytes: 0 where that is not certain, or no start code is there
 unfoldable pub firstLen : List ℕ → Bool → ℕ

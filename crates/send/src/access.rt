@@ -7,10 +7,9 @@
 ghost use mathlib.Core.Path.{_≡_};
 ghost use Prim.Native.Nat.{_≤_};
 ghost use lib.ListN.{length};
-ghost use Rattle.send.specs.Access.{isSlice, isBefore, hasHeader, begins as beginsOf, codeFrom, edgeOf, Inside, firstLen};
-use h264::Found;
-use h264::Search;
-use h264::next_ind;
+ghost use Rattle.send.specs.Access.{isSlice, isBefore, hasHeader, begins as beginsOf, edgeOf, Inside, firstLen};
+use annexb::Found;
+use annexb::next_code;
 
 pub enum Edge {
     // the place of the start code before the second access unit
@@ -69,17 +68,6 @@ fn begins(head: u8, next: u8) -> bool
         return 128 <= next;
     }
     false
-}
-
-// The next start code; none where the search is refused.
-fn next_code(s: &[u8], start: usize) -> Found
-    ensures { λ r. ⌜ r ≡ codeFrom (now (s .entry)) start ⌝ }
-{
-    let search = next_ind(s, start);
-    match search {
-        Search::Yields(found) => found,
-        Search::Refused(_) => Found::Nothing,
-    }
 }
 
 // The end of the first access unit: none where the bytes end before it is certain.

@@ -5,7 +5,7 @@ use native.Mathlib.Omega.{arith}
 use lib.ListN.{length}
 use borrow.Author.Needs.{needs}
 use Rattle.annexb.specs.declared.Found.the-variants.{At}
-use Rattle.send.specs.Access.{codeFrom}
+use Rattle.annexb.specs.Search.{nextCode}
 use Rattle.send.proofs.Edges.{Going, going-first, onward, ends-none, ends-short, ends-edge, goes-on-behind, goes-on-before}
 use Rattle.send.proofs.access.find_edge.Statement.{statement}
 use Rattle.send.proofs.access.find_edge.Tie as tie
@@ -21,7 +21,7 @@ loop-holds c = going-first _
 
 -- the start code that was found
 code : (c : tie.After-known-told Inv-loop μ-loop) →
-    codeFrom (c .before .before .before .before .before .before .args .s .now) (c .before .before .before .before .loop .start) ≡ At (c .before .found .given .0 .0) (c .before .found .given .0 .1 .0)
+    nextCode (c .before .before .before .before .before .before .args .s .now) (c .before .before .before .before .loop .start) ≡ At (c .before .found .given .0 .0) (c .before .found .given .0 .1 .0)
 code c = sym (c .before .before .before .next-code .ensures) ∙ c .before .found .given .1
 
 -- the unit behind it

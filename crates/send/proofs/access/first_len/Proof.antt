@@ -7,9 +7,10 @@ use native.Mathlib.Omega.{arith}
 use lib.ListN.{length}
 use borrow.Author.Needs.{needs}
 use Rattle.annexb.specs.declared.Found.{Found}
+use Rattle.annexb.specs.Search.{nextCode}
 use Rattle.send.specs.declared.access.Edge.{Edge}
 use Rattle.send.specs.declared.access.Edge.the-variants.{Nothing}
-use Rattle.send.specs.Access.{codeFrom, edgeOf, Inside, allBy, lenBy, firstLen}
+use Rattle.send.specs.Access.{edgeOf, Inside, allBy, lenBy, firstLen}
 use Rattle.send.proofs.access.first_len.Statement.{statement}
 use Rattle.send.proofs.access.first_len.Tie as tie
 
@@ -18,7 +19,7 @@ unfolding firstLen
 len-so s ended e is = sym (ap (lenBy s ended) is)
 
 -- no edge was found
-none-so : (s : List ℕ) (ended b : Bool) → edgeOf s ≡ Nothing → not ended ≡ b → (f : Found) → codeFrom s 0 ≡ f → cond b 0 (allBy s f) ≡ firstLen s ended
+none-so : (s : List ℕ) (ended b : Bool) → edgeOf s ≡ Nothing → not ended ≡ b → (f : Found) → nextCode s 0 ≡ f → cond b 0 (allBy s f) ≡ firstLen s ended
 none-so s true b is q f code = ap (λ (t : Bool). cond t 0 (allBy s f)) (sym q) ∙ ap (allBy s) (sym code) ∙ len-so s true Nothing is
 none-so s false b is q f code = ap (λ (t : Bool). cond t 0 (allBy s f)) (sym q) ∙ len-so s false Nothing is
 
