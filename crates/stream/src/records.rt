@@ -72,9 +72,8 @@ pub fn ending(last: Next) -> u8
         return status::unread();
     }
     let found = last.found;
-    match found {
-        Record::Packet { at: _, len: _ } => status::DONE,
-        Record::Cut => status::CUT,
-        Record::End => status::DONE,
+    if let Record::Cut = found {
+        return status::CUT;
     }
+    status::DONE
 }
