@@ -7,7 +7,7 @@ use crate::parts::front;
 pub struct Text {
     pub bytes: [u8; 2048],
     // how many of them are text, 0 to 2,048
-    pub len: usize,
+    pub len: u16,
 }
 
 impl Text {
@@ -24,17 +24,15 @@ impl Text {
     pub fn word(mut self, word: &[u8]) -> Text
         ensures { λ r. ⌜ r ≡ wordOn self (now (word .entry)) ⌝ }
     {
-        let at = self.len;
-        if 2048 < at {
-            return self;
-        }
-        if 2048 - at < word.len() {
+        let at = self.len as usize;
+        let end = at + word.len();
+        if 2048 < end {
             return self;
         }
         let mut bytes = self.bytes;
         wire::copy_at(word, &mut bytes, at);
         self.bytes = bytes;
-        self.len = at + word.len();
+        self.len = end as u16;
         self
     }
 
@@ -60,7 +58,6 @@ impl Text {
     // Writes it. Whether all of it was written.
     pub fn write(self, fd: i32) -> bool {
         let bytes = self.bytes;
-        let len = self.len;
-        io::write_all(fd, front(&bytes, len))
+        io::write_all(fd, front(&bytes, self.len as usize))
     }
 }

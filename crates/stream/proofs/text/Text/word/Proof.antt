@@ -10,18 +10,15 @@ use Rattle.stream.proofs.text.Text.word.Statement.{statement}
 use Rattle.stream.proofs.text.Text.word.Tie as tie
 
 returns : tie.Need-returns
-returns c = let a = c .before .before .args in sym (word-out (a .self) (a .word .now) (omega arith))
-
-returns-2 : tie.Need-returns-2
-returns-2 c = let a = c .before .before .before .args in sym (word-out (a .self) (a .word .now) (omega arith))
+returns c = let a = c .before .before .before .args in sym (word-out (a .self) (a .word .now) (c .if1 .taken))
 
 copy-at-requires : tie.Need-copy-at-requires
 copy-at-requires c κs =
     let l : length (c .before .before .before .before .before .args .self .bytes) ≡ 2048 = search needs in
     omega arith
 
-returns-3 : tie.Need-returns-3
-returns-3 c =
+returns-2 : tie.Need-returns-2
+returns-2 c =
     let a = c .before .before .before .before .before .before .before .args in
     ap (λ (b : List ℕ). record { bytes = b; len = a .self .len + length (a .word .now) }) (c .before .copy-at .ensures)
     ∙ sym (word-fits (a .self) (a .word .now) (omega arith))
@@ -30,9 +27,10 @@ pub word-spec : {M : Type 1} → statement M
 word-spec =
     tie.close
     (tie.spec
+    (λ c. search needs)
+    (λ c. search needs)
     returns
-    returns-2
     (λ c. search needs)
     copy-at-requires
     (λ c. search needs)
-    returns-3)
+    returns-2)
