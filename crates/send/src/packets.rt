@@ -1,4 +1,5 @@
 // The packets of access units, written to a file.
+ghost use mathlib.Core.Path.{_≡_};
 ghost use Prim.Native.Nat.{_≤_};
 ghost use lib.ListN.{length};
 use error::Error;
@@ -36,7 +37,7 @@ pub struct Sending {
 
 // Writes the record of one packet. Whether it was written.
 fn write_packet(to: i32, h: Header, payload: &[u8], record: &mut [u8]) -> bool
-    requires { ⌜ 65537 ≤ length (now «record») ⌝ }
+    requires { ⌜ length (now «record») ≡ 65537 ⌝ }
 {
     let length = packet::marshal_to(h, payload, &mut record[2..]);
     match length {

@@ -5,21 +5,13 @@ use Prim.Native.Nat.{ℕ, zero, suc, _+_}
 use lib.Dec.{ltb, leb}
 use lib.ListN.{length, drop}
 use Rattle.wire.specs.Net.{be16, u16At}
-use Rattle.wire.specs.Part.{splice, part}
+use Rattle.wire.specs.Part.{part}
 use Rattle.stream.specs.declared.framing.Record.{Record}
 use Rattle.stream.specs.declared.framing.Record.the-variants.{Packet, Cut, End}
 
 -- a packet's record: its length, then the packet
 unfoldable pub framed : List ℕ → List ℕ
 framed packet = be16 (length packet) ++ packet
-
--- how many bytes the record of a packet of n bytes has; 0 where no length says n
-abbrev pub recordLength : ℕ → ℕ
-recordLength n = cond (ltb 65535 n) 0 (2 + n)
-
--- bytes of which n, from place 2 on, are a packet: with its record in front
-unfoldable pub recordPut : ℕ → List ℕ → List ℕ
-recordPut n s = cond (ltb 65535 n) s (splice s 0 (framed (part s 2 n)))
 
 -- the record at a place whose length is `len`
 abbrev pub recordOf : List ℕ → ℕ → ℕ → Record

@@ -8,7 +8,8 @@
 ghost use mathlib.Core.Path.{_≡_};
 ghost use Prim.Native.Nat.{_+_, _<_, _≤_};
 ghost use lib.ListN.{length};
-ghost use Rattle.stream.specs.Framing.{recordAt, recordLength, recordPut};
+ghost use Rattle.wire.specs.Part.{splice, part};
+ghost use Rattle.stream.specs.Framing.{framed, recordAt};
 
 pub enum Record {
     // the packet is `len` bytes from `at` on; behind it comes the next record
@@ -42,15 +43,11 @@ pub fn record_at(s: &[u8], from: usize) -> Record
     Record::Packet { at: from + 2, len }
 }
 
-// Puts the length before a packet of n bytes, which stands behind the first two: how many bytes the record has, 0 where no length
-// says n.
+// Puts the length before a packet of n bytes, which stands behind the first two: how many bytes the record has.
 pub fn frame(s: &mut [u8], n: usize) -> usize
-    requires { ⌜ 65537 ≤ length (now s) ⌝ }
-    ensures { λ r. ⌜ (r ≡ recordLength n) × (now (s .exit) ≡ recordPut n (now (s .entry))) ⌝ }
+    requires { ⌜ (n ≤ 65535) × (2 + n ≤ length (now s)) ⌝ }
+    ensures { λ r. ⌜ (r ≡ 2 + n) × (now (s .exit) ≡ splice (now (s .entry)) 0 (framed (part (now (s .entry)) 2 n))) ⌝ }
 {
-    if 65535 < n {
-        return 0;
-    }
     wire::put_u16(s, 0, n as u16);
     2 + n
 }

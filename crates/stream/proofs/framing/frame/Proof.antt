@@ -1,19 +1,16 @@
 -- The length goes where nothing of the packet stands, so that the packet is as it was.
-use mathlib.Core.Path.{_≡_, sym, ap, _∙_}
-use mathlib.Core.Bool.{Bool, true, false, cond}
+use mathlib.Core.Path.{_≡_, refl, sym, ap, _∙_}
 use mathlib.Core.List.{List, _++_, append-assoc}
 use Prim.Native.Nat.{ℕ, _+_, _≤_}
 use native.Mathlib.Omega.{arith}
-use lib.Dec.{ltb}
 use lib.ListN.{length, drop, length-append, take-append-drop}
 use lib.Seq.{drop-drop}
 use borrow.Author.Needs.{needs}
-use borrow.Author.Tests.{lt-ltb, le-ltb}
 use Rattle.wire.specs.Net.{be16}
 use Rattle.wire.specs.Part.{splice, part}
 use Rattle.wire.proofs.Net.{length-be16}
 use Rattle.wire.proofs.Part.{length-part}
-use Rattle.stream.specs.Framing.{framed, recordLength, recordPut}
+use Rattle.stream.specs.Framing.{framed}
 use Rattle.stream.proofs.framing.frame.Statement.{statement}
 use Rattle.stream.proofs.framing.frame.Tie as tie
 
@@ -29,31 +26,17 @@ framed-so xs n h =
     ∙ ap (λ (k : ℕ). (be16 n ++ p) ++ drop k xs) all
     ∙ ap (λ (k : ℕ). (be16 k ++ p) ++ drop (0 + length (be16 k ++ p)) xs) (sym (length-part xs 2 n h))
 
--- the definitions, by their test
-by-test : (xs : List ℕ) (n : ℕ) (b : Bool) → ltb 65535 n ≡ b → (cond b 0 (2 + n) ≡ recordLength n) × (cond b xs (splice xs 0 (framed (part xs 2 n))) ≡ recordPut n xs)
-unfolding recordPut
-by-test xs n b is =
-    (sym (ap (λ (t : Bool). cond t 0 (2 + n)) is), sym (ap (λ (t : Bool). cond t xs (splice xs 0 (framed (part xs 2 n)))) is))
-
 returns : tie.Need-returns
 returns c =
-    let a = c .before .before .args in
-    by-test (a .s .now) (a .n) true (lt-ltb 65535 (a .n) (c .if1 .taken))
-
-returns-2 : tie.Need-returns-2
-returns-2 c =
-    let a = c .before .before .before .before .before .before .args in
-    let so = by-test (a .s .now) (a .n) false (le-ltb 65535 (a .n) (c .before .before .before .before .if1 .left)) in
-    let room : 2 + a .n ≤ length (a .s .now) = omega arith in
-    (so .0, c .before .before .put-u16 .ensures ∙ framed-so (a .s .now) (a .n) room ∙ so .1)
+    let a = c .before .before .before .before .before .args in
+    (refl, c .before .before .put-u16 .ensures ∙ framed-so (a .s .now) (a .n) (omega arith))
 
 pub frame-spec : {M : Type 1} → statement M
 frame-spec =
     tie.close
     (tie.spec
-    returns
     (λ c. search needs)
     (λ c κs. search needs)
     (λ c. search needs)
     (λ c. search needs)
-    returns-2)
+    returns)
