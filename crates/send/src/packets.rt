@@ -51,10 +51,7 @@ fn write_packet(to: i32, h: Header, payload: &[u8], record: &mut [u8]) -> bool
 
 // Whether a payload is a STAP-A, in which the sender puts a pair of parameter sets.
 fn is_pair(payload: &[u8]) -> bool {
-    if payload.len() == 0 {
-        return false;
-    }
-    payload[0] == 0x78
+    check::same(stream::front(payload, 1), b"\x78")
 }
 
 // Where packet i ends, which begins at `from`.
