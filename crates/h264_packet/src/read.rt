@@ -1,18 +1,17 @@
 // Reading a payload.
 ghost use mathlib.Core.Path.{_≡_};
+ghost use mathlib.Core.Bool.{false};
 ghost use mathlib.Core.List.{_++_};
 ghost use Prim.Native.Nat.{_≤_};
 ghost use lib.ListN.{length, take, drop};
 ghost use Rattle.error.specs.Refusal.{refusalOf};
 ghost use Rattle.error.specs.Said.{says, refused};
-ghost use mathlib.Core.Bool.{false};
 ghost use Rattle.nal_read.specs.Kind.{fragment, shape};
 ghost use Rattle.nal.specs.Said.{saidHanded};
 ghost use Rattle.nal.specs.Ran.{withRun, layRun};
 ghost use Rattle.h264_packet.specs.Run.{runOf, recorded};
-ghost use Rattle.h264_packet.specs.Depacketize.{gatheredOn, readPayload, depacketized, shownOf};
+ghost use Rattle.h264_packet.specs.Depacketize.{gatheredOn, readPayload, depacketized, nowhere, shownOf};
 ghost use Rattle.h264_packet.specs.Said.{ranSaid, ranHeard, Shows, saidShown, saidDepacketize, heard, depacketizedHeard};
-ghost use Rattle.h264_packet.specs.Depacketize.{nowhere};
 use crate::Depacketize;
 use crate::Depacketized;
 use crate::H264Packet;
