@@ -155,6 +155,10 @@ static void joining(void) {
     struct rtp_closed closed = rtp_joiner_close(joiner, 4);
     CHECK(closed.refused.number == 0 && closed.first == 2 && closed.count == 2 && closed.joiner.closed && closed.joiner.missed == 2);
     CHECK(rtp_joiner_close(closed.joiner, 4).refused.number == RTP_ALREADY_CLOSED);
+    joiner = rtp_joiner_open(3, 0);
+    joiner.missed = UINT32_MAX;
+    CHECK(rtp_joiner_join(&joiner, H, 12, gather, sizeof gather, out, sizeof out).refused.number == RTP_MISSED_TOTAL_FULL);
+    CHECK(joiner.awaited == 0 && joiner.missed == UINT32_MAX);
 }
 
 /* What takes 16 MiB, more than the gate's programs have room for: a frame of one byte too many, and runs around the longest. */
