@@ -28,6 +28,11 @@ sum-suc (m ∷ l) (suc i) = ap (λ (k : ℕ). m + k) (sum-suc l i) ∙ sym (add-
 pub sum-more : (l : List ℕ) (i : ℕ) → sum (take (i + 1) l) ≡ sum (take i l) + getD l i 0
 sum-more l i = ap (λ (k : ℕ). sum (take k l)) (add-one i) ∙ sum-suc l i
 
+-- the lengths of the elements make up that of their data
+pub sum-sizes : (es : List Element) → sum (map sizeOf es) ≡ length (dataOf es)
+sum-sizes [] = refl
+sum-sizes (e ∷ es) = ap (λ (n : ℕ). sizeOf e + n) (sum-sizes es) ∙ sym (length-append (e .bytes) (dataOf es))
+
 -- ---- what is laid out reads back
 
 unpack-packed : (es : List Element) (rest : List ℕ) → unpack (map (λ (e : Element). e .id) es) (map sizeOf es) (dataOf es ++ rest) ≡ es

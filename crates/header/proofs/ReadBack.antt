@@ -16,7 +16,7 @@ use Rattle.wire.proofs.Part.{length-padTo}
 use Rattle.elements.specs.Elements.{Element, dataOf, sizeOf, sum, elementsOf, layElements}
 use Rattle.elements.specs.Named.{Found, find, replace, remove, append, Absent, First}
 use Rattle.elements.specs.Runs.{Stands, element}
-use Rattle.elements.proofs.Elements.{dataOf-append, take-laid, elementsOf-layElements}
+use Rattle.elements.proofs.Elements.{sum-sizes, dataOf-append, take-laid, elementsOf-layElements}
 use Rattle.elements.proofs.Packed.{PackedIn, length-elementsOf, length-dataOf}
 use Rattle.elements.proofs.Runs.{run-data}
 use Rattle.elements.proofs.Changes.{absent-or-first, one, stands-one, find-first, find-absent, replace-first, remove-first}
@@ -99,10 +99,6 @@ module _ (h : Header) (p : PackedIn (h .extensions)) (d : inDomain h ≡ true) (
       (absent-or-first id es)
 
 -- ---- a record with other elements
-
-sum-sizes : (es : List Element) → sum (map sizeOf es) ≡ length (dataOf es)
-sum-sizes [] = refl
-sum-sizes (e ∷ es) = ap (λ (n : ℕ). sizeOf e + n) (sum-sizes es) ∙ sym (length-append (e .bytes) (dataOf es))
 
 sum-laid : (es : List Element) → sum (take (length es) (padTo 32 (map sizeOf es))) ≡ length (dataOf es)
 sum-laid es = ap sum (take-laid 32 sizeOf es) ∙ sum-sizes es
@@ -198,7 +194,8 @@ change-makes h profile es pads h′ d z e =
       whole = sym (said (t .1));
     }
 
-id-passed : (form : Form) (id len : ℕ) (next : Said Header) (h′ : Header) → idRefusal form id len next ≡ says h′ → next ≡ says h′
+-- what was set had an id and a length that may be
+pub id-passed : (form : Form) (id len : ℕ) (next : Said Header) (h′ : Header) → idRefusal form id len next ≡ says h′ → next ≡ says h′
 id-passed one-byte id len next h′ e =
     tested (leb len 16) next 12 h′ (tested (leb 1 id && leb id 14) (cond (leb len 16) next (refuse 12)) 11 h′ e .1) .1
 id-passed two-byte id len next h′ e =

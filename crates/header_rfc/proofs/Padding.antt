@@ -8,7 +8,7 @@ use Prim.Native.Nat.{ℕ, _+_, _-_, _*_, _%_, _<_, _≤_}
 use native.Mathlib.Nat.{add-mul, one-mul, lt-of-not-le}
 use native.Mathlib.Decide.{decLe}
 use native.Mathlib.Omega.{arith}
-use lib.Dec.{leb, eqb}
+use lib.Dec.{leb}
 use lib.ListN.{length, length-append}
 use borrow.Author.Tests.{le-ltb, lt-ltb, le-leb, lt-leb}
 use Rattle.error.specs.Said.{Said, says, refuse}
@@ -16,12 +16,13 @@ use Rattle.elements.specs.Elements.{Element, dataOf}
 use Rattle.elements.specs.Named.{find, Absent, First, replace, remove, append}
 use Rattle.elements.proofs.Elements.{dataOf-append, elementsOf-layElements}
 use Rattle.elements.proofs.Changes.{absent-or-first, find-first, find-absent, replace-first, remove-first}
-use Rattle.block.specs.Form.{Form, one-byte, two-byte, other, formOf, perElement, lengthFor, firstProfile, firstHead}
+use Rattle.block.specs.Form.{other, formOf, perElement, lengthFor, firstProfile, firstHead}
 use Rattle.block.specs.Padding.{grown, shrunk, resized}
 use Rattle.header.specs.declared.Header.{Header}
 use Rattle.header.specs.Fields.{fieldsOf, inDomain}
 use Rattle.header.specs.Size.{payloadLength}
-use Rattle.header.specs.Extension.{changed, change, idRefusal, setFound, setLater, setFirst, setExtension, delFound, delExtension}
+use Rattle.header.specs.Extension.{changed, change, setFound, setLater, setFirst, setExtension, delFound, delExtension}
+use Rattle.header.proofs.ReadBack.{id-passed}
 use Rattle.header_rfc.specs.RoundTrip.{beyond}
 
 -- ---- the arithmetic
@@ -131,11 +132,6 @@ said e = cc
 tested : {A : Type 0} (b : Bool) (x : Said A) (n : ℕ) (a : A) → cond b x (refuse n) ≡ says a → x ≡ says a
 tested true x n a e = e
 tested false x n a e = absurd (let z : _≡_ {A = ℕ} 0 1 = cc in omega arith)
-
-id-passed : (form : Form) (id len : ℕ) (next : Said Header) (h′ : Header) → idRefusal form id len next ≡ says h′ → next ≡ says h′
-id-passed one-byte id len next h′ e = tested (leb len 16) next 12 h′ (tested (leb 1 id && leb id 14) (cond (leb len 16) next (refuse 12)) 11 h′ e)
-id-passed two-byte id len next h′ e = tested (leb len 255) next 14 h′ (tested (leb 1 id) (cond (leb len 255) next (refuse 14)) 13 h′ e)
-id-passed other id len next h′ e = tested (eqb id 0) next 10 h′ e
 
 change-leaves : (h : Header) (profile : ℕ) (es : List Element) (pads : ℕ) (h′ : Header) → change h profile es pads ≡ says h′ → h′ ≡ changed h profile es pads
 change-leaves h profile es pads h′ e =

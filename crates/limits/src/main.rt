@@ -1,5 +1,6 @@
 // What no list of `replay` asks, since a field of a row has 65,535 bytes at most and a joiner's record is one that a call made: a byte over
-// the limit of a packet, and records that contradict themselves. A line for each call: the refusal's number, 0 for none.
+// the limit of a packet, and records that contradict themselves. A line for each call: the refusal's number, 0 for none; of `body`, which
+// refuses nothing, how many bytes it shows.
 mod joined;
 mod long;
 
