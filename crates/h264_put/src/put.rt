@@ -10,6 +10,8 @@ ghost use Rattle.wire.specs.Part.{splice};
 ghost use Rattle.wire.specs.Packets.{Room, put, putAll};
 ghost use Rattle.h264_put.specs.Groups.{stapA, fragment, fragmentsOf, unitFor, packetsOf};
 ghost use Rattle.h264_put.specs.Step.{sinkAt};
+ghost use Rattle.h264_put.specs.Outcomes.{unitOutcome};
+use crate::outcome::UnitOutcome;
 
 // How far output and table are written.
 pub struct Place {
@@ -119,17 +121,34 @@ fn put_fragments(unit: &[u8], size: usize, out: &mut [u8], ends: &mut [usize], t
     put_fragment(head, 64, &unit[i..], out, ends, p)
 }
 
+// What putting a unit leaves.
+pub struct PutUnit {
+    pub place: Place,
+    // Sent or DroppedForMtu
+    pub outcome: UnitOutcome,
+}
+
 // A unit alone where it fits, else in fragments; under mtu 3 not at all.
-pub fn put_unit(mtu: usize, unit: &[u8], out: &mut [u8], ends: &mut [usize], to: Place) -> Place
+pub fn put_unit(mtu: usize, unit: &[u8], out: &mut [u8], ends: &mut [usize], to: Place) -> PutUnit
     requires { ⌜ Room (sinkAt (now out) (now ends) to) (packetsOf (unitFor mtu (now unit))) ⌝ }
-    ensures { λ r. ⌜ sinkAt (now (out .exit)) (now (ends .exit)) r ≡
+    ensures { λ r. ⌜ sinkAt (now (out .exit)) (now (ends .exit)) (r .place) ≡
         putAll (sinkAt (now (out .entry)) (now (ends .entry)) to) (packetsOf (unitFor mtu (now (unit .entry)))) ⌝ }
+    ensures { λ r. ⌜ r .outcome ≡ unitOutcome mtu (now (unit .entry)) ⌝ }
 {
     if unit.len() <= mtu {
-        return put_plain(unit, out, ends, to);
+        return PutUnit {
+            place: put_plain(unit, out, ends, to),
+            outcome: UnitOutcome::Sent,
+        };
     }
     if mtu < 3 {
-        return to;
+        return PutUnit {
+            place: to,
+            outcome: UnitOutcome::DroppedForMtu,
+        };
     }
-    put_fragments(unit, mtu - 2, out, ends, to)
+    PutUnit {
+        place: put_fragments(unit, mtu - 2, out, ends, to),
+        outcome: UnitOutcome::Sent,
+    }
 }

@@ -6,6 +6,7 @@ use Rattle.wire.proofs.Packets.{room-first}
 use Rattle.h264_put.specs.Groups.{Group, packetsOf}
 use Rattle.h264_put.specs.Step.{sinkAt}
 use Rattle.h264_put.proofs.Sizes.{unit-alone, unit-dropped, unit-divided}
+use Rattle.h264_put.proofs.Outcomes.{sent-alone, dropped-under, sent-divided}
 use borrow.Author.Needs.{needs}
 use Rattle.h264_put.proofs.put.put_unit.Statement.{statement}
 use Rattle.h264_put.proofs.put.put_unit.Tie as tie
@@ -20,15 +21,21 @@ put-plain-requires c κs =
 returns : tie.Need-returns
 returns c =
     let start = c .before .before .before .before .before .before .before .before .before .before .before in
-    c .before .before .before .before .put-plain .ensures
-    ∙ sym
-    (ap (λ (gs : List Group). putAll (sinkAt (start .args .out .now) (start .args .ends .now) (start .args .to)) (packetsOf gs)) (unit-alone (start .args .mtu) (start .args .unit .now) (c .before .before .before .before .before .before .before .if1 .taken)))
+    let s = sinkAt (start .args .out .now) (start .args .ends .now) (start .args .to) in
+    let fits = c .before .before .before .before .before .before .before .if1 .taken in (
+      c .before .before .before .before .put-plain .ensures
+          ∙ sym (ap (λ (gs : List Group). putAll s (packetsOf gs)) (unit-alone (start .args .mtu) (start .args .unit .now) fits)),
+      sent-alone (start .args .mtu) (start .args .unit .now) fits,
+    )
 
 returns-2 : tie.Need-returns-2
 returns-2 c =
     let start = c .before .before .before .before .before in
-    sym
-    (ap (λ (gs : List Group). putAll (sinkAt (start .args .out .now) (start .args .ends .now) (start .args .to)) (packetsOf gs)) (unit-dropped (start .args .mtu) (start .args .unit .now) (c .before .if1 .left) (c .if2 .taken)))
+    let s = sinkAt (start .args .out .now) (start .args .ends .now) (start .args .to) in
+    let over = c .before .if1 .left in (
+      sym (ap (λ (gs : List Group). putAll s (packetsOf gs)) (unit-dropped (start .args .mtu) (start .args .unit .now) over (c .if2 .taken))),
+      dropped-under (start .args .mtu) (start .args .unit .now) over (c .if2 .taken),
+    )
 
 put-fragments-requires : tie.Need-put-fragments-requires
 put-fragments-requires c κs =
@@ -44,9 +51,13 @@ put-fragments-requires c κs =
 returns-3 : tie.Need-returns-3
 returns-3 c =
     let start = c .before .before .before .before .before .before .before .before .before .before .before .before in
-    c .before .before .before .before .put-fragments .ensures
-    ∙ sym
-    (ap (λ (gs : List Group). putAll (sinkAt (start .args .out .now) (start .args .ends .now) (start .args .to)) (packetsOf gs)) (unit-divided (start .args .mtu) (start .args .unit .now) (c .before .before .before .before .before .before .before .before .if1 .left) (c .before .before .before .before .before .before .before .if2 .left)))
+    let s = sinkAt (start .args .out .now) (start .args .ends .now) (start .args .to) in
+    let over = c .before .before .before .before .before .before .before .before .if1 .left in
+    let three = c .before .before .before .before .before .before .before .if2 .left in (
+      c .before .before .before .before .put-fragments .ensures
+          ∙ sym (ap (λ (gs : List Group). putAll s (packetsOf gs)) (unit-divided (start .args .mtu) (start .args .unit .now) over three)),
+      sent-divided (start .args .mtu) (start .args .unit .now) over three,
+    )
 
 pub put-unit-spec : {M : Type 1} → statement M
 put-unit-spec =
