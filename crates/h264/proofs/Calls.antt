@@ -9,12 +9,14 @@ use lib.Dec.{ltb}
 use lib.ListN.{length, length-append, length-take}
 use borrow.Author.Tests.{ltb-false, le-ltb}
 use Rattle.error.specs.Said.{says}
-use Rattle.wire.specs.Packets.{Sink, Room, joined, putAll}
+use Rattle.wire.specs.Packets.{Sink, Room, whole, joined, putAll}
 use Rattle.wire.proofs.Packets.{putAll-whole, joined-append}
 use Rattle.h264_measure.specs.declared.Measure.{Measure}
+use Rattle.h264_put.specs.declared.outcome.Drops.{Drops}
 use Rattle.h264.specs.declared.send.H264Payloader.{H264Payloader}
 use Rattle.annexb.specs.Units.{units, noUnits, unitsAt}
 use Rattle.h264_put.specs.Groups.{Saved, keep, keepAll, groupsFor, groupsOf, packetsOf}
+use Rattle.h264_put.specs.Outcomes.{outcomesOf, dropsIn}
 use Rattle.h264.specs.Payload.{layOut, savedIn, outside, overLimit, tooSmall, Left, refusedWith, emptySink, sentAs, leftBy, payloadOf}
 use Rattle.h264_put.specs.Step.{tooLong}
 use Rattle.h264.specs.Step.{Tidy, Done}
@@ -58,9 +60,15 @@ module _ (mtu : ℕ) where
 
 -- ---- the call
 
--- output and table as they stand, beside the state
-abbrev pub leftWith : H264Payloader → Sink → Left
-leftWith h s = record { sender = h; answer = says (record { packets = s .n; bytes = s .at }); out = s .out; ends = s .ends }
+-- output and table as they stand, and what was dropped, beside the state
+abbrev pub leftWith : H264Payloader → Sink → Drops → Left
+leftWith h s d =
+    record {
+      sender = h;
+      answer = says (record { packets = s .n; bytes = s .at; «units_dropped» = d .units; «pairs_dropped» = d .pairs });
+      out = s .out;
+      ends = s .ends;
+    }
 
 pub fits-small : (packets : List (List ℕ)) (out ends : List ℕ) → Room (emptySink out ends) packets → tooSmall packets out ends ≡ false
 fits-small packets out ends r =
@@ -70,7 +78,7 @@ fits-small packets out ends r =
 
 module _ (h : H264Payloader) (mtu : ℕ) (frame out ends : List ℕ) where
   answer : List (List ℕ) → Left
-  answer us = sentAs (keepAll (savedIn h) us) (packetsOf (groupsOf mtu (savedIn h) us)) out ends
+  answer us = sentAs (keepAll (savedIn h) us) (packetsOf (groupsOf mtu (savedIn h) us)) (dropsIn (outcomesOf mtu (savedIn h) us)) out ends
 
   small : List (List ℕ) → Bool
   small us = tooSmall (packetsOf (groupsOf mtu (savedIn h) us)) out ends
@@ -110,20 +118,23 @@ module _ (h : H264Payloader) (mtu : ℕ) (frame out ends : List ℕ) where
 
     -- what is sent, as output and table have it
     finished : (us : List (List ℕ)) → unitsAt mtu frame ≡ us → overLimit us ≡ false → Room (emptySink out ends) (packetsOf (groupsOf mtu (savedIn h) us)) →
-        (h′ : H264Payloader) (s : Sink) → h′ ≡ layOut (keepAll (savedIn h) us) → s ≡ putAll (emptySink out ends) (packetsOf (groupsOf mtu (savedIn h) us)) →
-        leftWith h′ s ≡ payloadOf h mtu frame out ends
+        (h′ : H264Payloader) (s : Sink) (d : Drops) → h′ ≡ layOut (keepAll (savedIn h) us) →
+        s ≡ putAll (emptySink out ends) (packetsOf (groupsOf mtu (savedIn h) us)) → d ≡ dropsIn (outcomesOf mtu (savedIn h) us) →
+        leftWith h′ s d ≡ payloadOf h mtu frame out ends
     unfolding answer small
-    finished us e limit room h′ s a b =
+    finished us e limit room h′ s d a b k =
         let packets : List (List ℕ) = packetsOf (groupsOf mtu (savedIn h) us) in
-        ap₂ leftWith a (b ∙ putAll-whole (emptySink out ends) packets room)
+        ap₂ (λ (x : H264Payloader) (y : Sink). leftWith x y d) a (b ∙ putAll-whole (emptySink out ends) packets room)
+        ∙ ap (leftWith (layOut (keepAll (savedIn h) us)) (whole (emptySink out ends) packets)) k
         ∙ by-tests us false false false e inside limit (fits-small packets out ends room)
 
     -- "An empty frame or mtu 0 gives no packets and saves nothing."
     pub call-nothing : noUnits mtu (length frame) ≡ true → (h′ : H264Payloader) → h′ ≡ layOut (savedIn h) →
-        leftWith h′ (emptySink out ends) ≡ payloadOf h mtu frame out ends
-    unfolding unitsAt
+        leftWith h′ (emptySink out ends) (record { units = 0; pairs = 0 }) ≡ payloadOf h mtu frame out ends
+    unfolding unitsAt dropsIn
     call-nothing e h′ q =
-        finished [] (ap (λ (b : Bool). cond b [] (units frame)) e) refl (record { bytes = omega arith; places = omega arith }) h′ (emptySink out ends) q refl
+        finished [] (ap (λ (b : Bool). cond b [] (units frame)) e) refl (record { bytes = omega arith; places = omega arith }) h′ (emptySink out ends)
+        (record { units = 0; pairs = 0 }) q refl refl
 
     -- the lengths of the record laid out anew
     module _ (h₁ : H264Payloader) (t : h₁ ≡ layOut (savedIn h)) where
@@ -178,17 +189,18 @@ module _ (h : H264Payloader) (mtu : ℕ) (frame out ends : List ℕ) where
             same : savedIn h₁ ≡ savedIn h
             same = ap savedIn t ∙ saved-laid (savedIn h)
 
-            pub call-ready : (Tidy h₁ × (overLimit (units frame) ≡ false)) × Room (emptySink out ends) (packetsOf (groupsOf mtu (savedIn h₁) (units frame)))
+            pub call-ready : (Tidy h₁ × (overLimit (units frame) ≡ false) × (length frame ≤ 16777216)) × Room (emptySink out ends) (packetsOf (groupsOf mtu (savedIn h₁) (units frame)))
             call-ready =
                 let within : Short (savedIn h) =
                 record { sps = omega (arith, lengths h₁ t .of-sps, anew-sps h₁ t); pps = omega (arith, lengths h₁ t .of-pps, anew-pps h₁ t) } in (
-                  (tidy-laid h₁ (savedIn h) t within, sym long-is ∙ short),
+                  (tidy-laid h₁ (savedIn h) t within, sym long-is ∙ short, inside-frame),
                   subst (λ (v : Saved). Room (emptySink out ends) (packetsOf (groupsOf mtu v (units frame)))) (sym same) room,
                 )
 
-            pub call-sent : (h₂ : H264Payloader) (s : Sink) →
+            pub call-sent : (h₂ : H264Payloader) (s : Sink) (d : Drops) →
                 Done (keepAll (savedIn h₁) (units frame)) (groupsOf mtu (savedIn h₁) (units frame)) (emptySink out ends) h₂ s →
-                leftWith h₂ s ≡ payloadOf h mtu frame out ends
-            call-sent h₂ s d =
-                finished (units frame) units-are (sym long-is ∙ short) room h₂ s (d .state ∙ ap (λ (v : Saved). layOut (keepAll v (units frame))) same)
-                (d .put ∙ ap (λ (v : Saved). putAll (emptySink out ends) (packetsOf (groupsOf mtu v (units frame)))) same)
+                d ≡ dropsIn (outcomesOf mtu (savedIn h₁) (units frame)) → leftWith h₂ s d ≡ payloadOf h mtu frame out ends
+            call-sent h₂ s d done counts =
+                finished (units frame) units-are (sym long-is ∙ short) room h₂ s d (done .state ∙ ap (λ (v : Saved). layOut (keepAll v (units frame))) same)
+                (done .put ∙ ap (λ (v : Saved). putAll (emptySink out ends) (packetsOf (groupsOf mtu v (units frame)))) same)
+                (counts ∙ ap (λ (v : Saved). dropsIn (outcomesOf mtu v (units frame))) same)

@@ -17,15 +17,17 @@ use Rattle.h264.specs.declared.send.Sent.{Sent}
 use Rattle.annexb.specs.Search.{nextCode, saidSearch, beyond, nextInd}
 use Rattle.annexb.specs.Units.{unitsAt}
 use Rattle.h264_put.specs.Groups.{Saved, nothingSaved, keepAll, groupsOf, packetsOf}
+use Rattle.h264_put.specs.declared.outcome.Drops.{Drops}
+use Rattle.h264_put.specs.Outcomes.{outcomesOf, dropsIn}
 use Rattle.h264.specs.Payload.{layOut, savedIn, outside, overLimit, tooSmall, Counts, said, Left, left, refusedWith, sentAs, leftBy, payloadOf}
 
 -- an answer's values, back from what it says
 abbrev unsaid : Said Counts → Payloads
-unsaid (says c) = Written (c .packets) (c .bytes)
+unsaid (says c) = Written (c .packets) (c .bytes) (c .«units_dropped») (c .«pairs_dropped»)
 unsaid (refused r) = Refused (errorOf r)
 
 unsaid-said : (a : Payloads) → unsaid (said a) ≡ a
-unsaid-said (Written packets bytes) = refl
+unsaid-said (Written packets bytes units pairs) = refl
 unsaid-said (Refused e) = ap Refused (errorOf-refusalOf e)
 
 -- what a call hands back: its result, and the two buffers
@@ -42,13 +44,13 @@ back-view : (x : Handed) → back (view x) ≡ x
 back-view x i = (record { sender = x .0 .sender; answer = unsaid-said (x .0 .answer) i }, x .1, x .2)
 
 -- each of the four outcomes is one that a call can hand back
-sayable : (h : H264Payloader) (out ends : List ℕ) (v : Saved) (ps : List (List ℕ)) (o l t : Bool) →
-    let r : Left = leftBy o l t (refusedWith 8 h out ends) (refusedWith 7 h out ends) (refusedWith 5 h out ends) (sentAs v ps out ends) in
+sayable : (h : H264Payloader) (out ends : List ℕ) (v : Saved) (ps : List (List ℕ)) (d : Drops) (o l t : Bool) →
+    let r : Left = leftBy o l t (refusedWith 8 h out ends) (refusedWith 7 h out ends) (refusedWith 5 h out ends) (sentAs v ps d out ends) in
     view (back r) ≡ r
-sayable h out ends v ps true l t = refl
-sayable h out ends v ps false true t = refl
-sayable h out ends v ps false false true = refl
-sayable h out ends v ps false false false = refl
+sayable h out ends v ps d true l t = refl
+sayable h out ends v ps d false true t = refl
+sayable h out ends v ps d false false true = refl
+sayable h out ends v ps d false false false = refl
 
 pub payload-only : (h : H264Payloader) (mtu : ℕ) (frame out ends : List ℕ) →
     Determined (λ (x : Handed). left (x .0) (x .1) (x .2) ≡ payloadOf h mtu frame out ends)
@@ -57,7 +59,7 @@ payload-only h mtu frame out ends =
     let us : List (List ℕ) = unitsAt mtu frame in
     let ps : List (List ℕ) = packetsOf (groupsOf mtu (savedIn h) us) in
     by-view view back back-view (back (payloadOf h mtu frame out ends)) (payloadOf h mtu frame out ends)
-    (sayable h out ends (keepAll (savedIn h) us) ps (outside h mtu frame) (overLimit us) (tooSmall ps out ends))
+    (sayable h out ends (keepAll (savedIn h) us) ps (dropsIn (outcomesOf mtu (savedIn h) us)) (outside h mtu frame) (overLimit us) (tooSmall ps out ends))
 
 pub new-only : Determined (λ (r : H264Payloader). r ≡ layOut nothingSaved)
 new-only = by-value (layOut nothingSaved)

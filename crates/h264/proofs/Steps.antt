@@ -13,6 +13,8 @@ use Rattle.h264_put.specs.declared.fate.Fate.the-variants.{Empty, Dropped, Sps,
 use Rattle.h264.specs.declared.send.ParameterSet.{ParameterSet}
 use Rattle.h264.specs.declared.send.H264Payloader.{H264Payloader}
 use Rattle.h264_put.specs.Groups.{fateOf, forgotten, keep, keepBy, pairFor, unitFor, groupsFor, groupsBy, packetsOf}
+use Rattle.h264_put.specs.declared.outcome.Outcome.{Outcome}
+use Rattle.h264_put.specs.Outcomes.{outcomeBy, outcomeFor}
 use Rattle.h264.specs.Payload.{setOut, layOut, savedIn}
 use Rattle.h264_put.specs.Step.{isSaved}
 use Rattle.h264.specs.Step.{Ready, Done}
@@ -27,6 +29,11 @@ module _ (h : H264Payloader) (mtu : ℕ) (u : List ℕ) (s : Sink) (r : Ready h 
         state = kept ∙ sym (ap (λ (x : Fate). layOut (keepBy x (savedIn h) u)) e);
         put = put ∙ sym (ap (λ (x : Fate). putAll s (packetsOf (groupsBy x mtu (savedIn h) u))) e);
       }
+
+  -- and what became of it
+  pub told-by : (k : Fate) → fateOf u ≡ k → (o : Outcome) → o ≡ outcomeBy k mtu (savedIn h) u → o ≡ outcomeFor mtu (savedIn h) u
+  unfolding outcomeFor
+  told-by k e o q = q ∙ sym (ap (λ (x : Fate). outcomeBy x mtu (savedIn h) u) e)
 
   pub done-empty : fateOf u ≡ Empty → Done (keep (savedIn h) u) (groupsFor mtu (savedIn h) u) s h s
   done-empty e = done-by Empty e h s (r .tidy .laid) refl

@@ -14,7 +14,9 @@ use Rattle.h264.specs.declared.send.Sent.{Sent}
 use Rattle.h264.specs.declared.send.Payloads.{Payloads}
 use Rattle.h264.specs.declared.send.Payloads.the-variants.{Written, Refused}
 use Rattle.annexb.specs.Units.{unitsAt}
+use Rattle.h264_put.specs.declared.outcome.Drops.{Drops}
 use Rattle.h264_put.specs.Groups.{Saved, keepAll, groupsOf, packetsOf}
+use Rattle.h264_put.specs.Outcomes.{outcomesOf, dropsIn}
 use Rattle.h264_put.specs.Step.{tooLong}
 
 -- ---- the record
@@ -49,14 +51,16 @@ tooSmall packets out ends = ltb (length out) (length (joined packets)) || ltb (l
 
 -- ---- the call
 
--- how many packets and bytes were written
+-- how many packets and bytes were written, and how many units and pairs were dropped for the mtu
 pub record Counts : Type 0 where
   pub packets : ℕ
   pub bytes : ℕ
+  pub «units_dropped» : ℕ
+  pub «pairs_dropped» : ℕ
 
 -- what an answer says: the counts, or the paper's number
 abbrev pub said : Payloads → Said Counts
-said (Written packets bytes) = says (record { packets = packets; bytes = bytes })
+said (Written packets bytes units pairs) = says (record { packets = packets; bytes = bytes; «units_dropped» = units; «pairs_dropped» = pairs })
 said (Refused e) = refused (refusalOf e)
 
 -- what a call leaves: the state, what it says, output and table
@@ -78,13 +82,13 @@ refusedWith number h out ends = record { sender = h; answer = refuse number; out
 abbrev pub emptySink : List ℕ → List ℕ → Sink
 emptySink out ends = record { out = out; at = 0; ends = ends; n = 0 }
 
--- the packets from the front of the output on, their ends from the front of the table on
-abbrev pub sentAs : Saved → List (List ℕ) → List ℕ → List ℕ → Left
-sentAs v packets out ends =
+-- the packets from the front of the output on, their ends from the front of the table on, and what was dropped for the mtu
+abbrev pub sentAs : Saved → List (List ℕ) → Drops → List ℕ → List ℕ → Left
+sentAs v packets drops out ends =
     let sink : Sink = whole (emptySink out ends) packets in
     record {
       sender = layOut v;
-      answer = says (record { packets = sink .n; bytes = sink .at });
+      answer = says (record { packets = sink .n; bytes = sink .at; «units_dropped» = drops .units; «pairs_dropped» = drops .pairs });
       out = sink .out;
       ends = sink .ends;
     }
@@ -103,4 +107,4 @@ payloadOf h mtu frame out ends =
     let packets : List (List ℕ) = packetsOf (groupsOf mtu (savedIn h) us) in
     leftBy (outside h mtu frame) (overLimit us) (tooSmall packets out ends)
     (refusedWith 8 h out ends) (refusedWith 7 h out ends) (refusedWith 5 h out ends)
-    (sentAs (keepAll (savedIn h) us) packets out ends)
+    (sentAs (keepAll (savedIn h) us) packets (dropsIn (outcomesOf mtu (savedIn h) us)) out ends)

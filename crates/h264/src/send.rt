@@ -10,6 +10,7 @@ ghost use lib.ListN.{length, take};
 ghost use Rattle.wire.specs.Packets.{Room, putAll};
 ghost use Rattle.annexb.specs.Units.{units, noUnits};
 ghost use Rattle.h264_put.specs.Groups.{nothingSaved, forgotten, keep, keepAll, pairFor, groupsFor, groupsOf, packetsOf};
+ghost use Rattle.h264_put.specs.Outcomes.{pairOutcome, outcomeFor, outcomesOf, dropsIn};
 ghost use Rattle.h264.specs.Payload.{setOut, layOut, savedIn, overLimit, emptySink, left, payloadOf};
 ghost use Rattle.h264_put.specs.Step.{sinkAt};
 ghost use Rattle.h264.specs.Step.{Tidy, Ready, Done};
@@ -18,8 +19,12 @@ use annexb::unit_at;
 use error::Error;
 use h264_measure::Measure;
 use h264_measure::measure_frame;
+use h264_put::Drops;
 use h264_put::Fate;
+use h264_put::Outcome;
+use h264_put::PairOutcome;
 use h264_put::Place;
+use h264_put::UnitOutcome;
 use h264_put::both;
 use h264_put::fate_of;
 use h264_put::put_pair;
@@ -66,11 +71,25 @@ pub struct H264Payloader {
     pub pps: ParameterSet,
 }
 
+// What the pair that waits leaves.
+struct PutPair {
+    // how far output and table are written
+    place: Place,
+    outcome: PairOutcome,
+}
+
 // What the step that sends one unit leaves.
 struct Emitted {
     sender: H264Payloader,
-    // how far output and table are written
     place: Place,
+    outcome: Outcome,
+}
+
+// What the units of a frame leave.
+struct Walked {
+    sender: H264Payloader,
+    place: Place,
+    drops: Drops,
 }
 
 impl H264Payloader {
@@ -122,30 +141,40 @@ impl H264Payloader {
     }
 
     // The pair in a STAP-A, where both sets wait and that fits the mtu.
-    fn put_waiting(self, mtu: usize, out: &mut [u8], ends: &mut [usize], to: Place) -> Place
+    fn put_waiting(self, mtu: usize, out: &mut [u8], ends: &mut [usize], to: Place) -> PutPair
         requires { ⌜ Tidy self × Room (sinkAt (now out) (now ends) to) (packetsOf (pairFor mtu (savedIn self))) ⌝ }
-        ensures { λ r. ⌜ sinkAt (now (out .exit)) (now (ends .exit)) r ≡
+        ensures { λ r. ⌜ sinkAt (now (out .exit)) (now (ends .exit)) (r .place) ≡
             putAll (sinkAt (now (out .entry)) (now (ends .entry)) to) (packetsOf (pairFor mtu (savedIn self))) ⌝ }
+        ensures { λ r. ⌜ r .outcome ≡ pairOutcome mtu (savedIn self) ⌝ }
     {
         let sps = self.sps;
         let pps = self.pps;
         let sps_len = sps.len;
         let pps_len = pps.len;
         if !both(sps_len, pps_len) {
-            return to;
+            return PutPair {
+                place: to,
+                outcome: PairOutcome::NotDue,
+            };
         }
         if mtu < 5 + sps_len + pps_len {
-            return to;
+            return PutPair {
+                place: to,
+                outcome: PairOutcome::DroppedForMtu,
+            };
         }
         let sps_bytes = sps.bytes;
         let pps_bytes = pps.bytes;
-        put_pair(
-            &sps_bytes[0..sps_len],
-            &pps_bytes[0..pps_len],
-            out,
-            ends,
-            to,
-        )
+        PutPair {
+            place: put_pair(
+                &sps_bytes[0..sps_len],
+                &pps_bytes[0..pps_len],
+                out,
+                ends,
+                to,
+            ),
+            outcome: PairOutcome::Sent,
+        }
     }
 
     // Sends one unit: drops or saves it, or writes it behind the pair that waits.
@@ -153,54 +182,70 @@ impl H264Payloader {
         requires { ⌜ Ready self mtu (now unit) (sinkAt (now out) (now ends) to) ⌝ }
         ensures { λ r. ⌜ Done (keep (savedIn self) (now (unit .entry))) (groupsFor mtu (savedIn self) (now (unit .entry)))
             (sinkAt (now (out .entry)) (now (ends .entry)) to) (r .sender) (sinkAt (now (out .exit)) (now (ends .exit)) (r .place)) ⌝ }
+        ensures { λ r. ⌜ r .outcome ≡ outcomeFor mtu (savedIn self) (now (unit .entry)) ⌝ }
     {
         match fate_of(unit) {
             Fate::Empty => Emitted {
                 sender: self,
                 place: to,
+                outcome: Outcome::without_pair(UnitOutcome::Empty),
             },
             Fate::Dropped => Emitted {
                 sender: self,
                 place: to,
+                outcome: Outcome::without_pair(UnitOutcome::DroppedByType),
             },
             Fate::Sps => Emitted {
                 sender: self.with_sps(unit),
                 place: to,
+                outcome: Outcome::without_pair(UnitOutcome::Saved),
             },
             Fate::Pps => Emitted {
                 sender: self.with_pps(unit),
                 place: to,
+                outcome: Outcome::without_pair(UnitOutcome::Saved),
             },
             Fate::Coded => {
-                let behind = self.put_waiting(mtu, out, ends, to);
+                let before = self.put_waiting(mtu, out, ends, to);
+                let behind = before.place;
+                let pair = before.outcome;
+                let put = put_unit(mtu, unit, out, ends, behind);
+                let place = put.place;
+                let unit = put.outcome;
                 Emitted {
                     sender: self.forget(),
-                    place: put_unit(mtu, unit, out, ends, behind),
+                    place,
+                    outcome: Outcome { unit, pair },
                 }
             }
         }
     }
 
-    // Sends all units of a frame.
-    fn walk(self, mtu: usize, frame: &[u8], out: &mut [u8], ends: &mut [usize]) -> Emitted
-        requires { ⌜ Tidy self × (overLimit (units (now frame)) ≡ false) ⌝ }
+    // Sends all units of a frame, and counts what is dropped for the mtu.
+    fn walk(self, mtu: usize, frame: &[u8], out: &mut [u8], ends: &mut [usize]) -> Walked
+        requires { ⌜ Tidy self × (overLimit (units (now frame)) ≡ false) × (length (now frame) ≤ 16777216) ⌝ }
         requires { ⌜ Room (emptySink (now out) (now ends)) (packetsOf (groupsOf mtu (savedIn self) (units (now frame)))) ⌝ }
         ensures { λ r. ⌜ Done (keepAll (savedIn self) (units (now (frame .entry)))) (groupsOf mtu (savedIn self) (units (now (frame .entry))))
             (emptySink (now (out .entry)) (now (ends .entry))) (r .sender) (sinkAt (now (out .exit)) (now (ends .exit)) (r .place)) ⌝ }
+        ensures { λ r. ⌜ r .drops ≡ dropsIn (outcomesOf mtu (savedIn self) (units (now (frame .entry)))) ⌝ }
     {
         let mut start = first_unit(frame);
-        let mut e = Emitted {
-            sender: self,
-            place: Place { at: 0, n: 0 },
-        };
+        let mut sender = self;
+        let mut place = Place { at: 0, n: 0 };
+        let mut drops = Drops { units: 0, pairs: 0 };
         loop {
             let piece = unit_at(frame, start);
             let end = piece.end;
-            let sender = e.sender;
-            let place = e.place;
-            e = sender.emit(mtu, &frame[start..end], out, ends, place);
+            let e = sender.emit(mtu, &frame[start..end], out, ends, place);
+            sender = e.sender;
+            place = e.place;
+            drops = drops.and(e.outcome);
             if !piece.more {
-                break e;
+                break Walked {
+                    sender,
+                    place,
+                    drops,
+                };
             }
             start = piece.next;
         }
@@ -237,6 +282,8 @@ impl H264Payloader {
                 answer: Payloads::Written {
                     packets: 0,
                     bytes: 0,
+                    units_dropped: 0,
+                    pairs_dropped: 0,
                 },
             };
         }
@@ -255,20 +302,28 @@ impl H264Payloader {
         }
         let sent = sender.walk(mtu, frame, out, ends);
         let place = sent.place;
+        let drops = sent.drops;
         let after = sent.sender;
         Sent {
             sender: after,
             answer: Payloads::Written {
                 packets: place.n,
                 bytes: place.at,
+                units_dropped: drops.units,
+                pairs_dropped: drops.pairs,
             },
         }
     }
 }
 
 pub enum Payloads {
-    // how many packets, and how many bytes they have together
-    Written { packets: usize, bytes: usize },
+    // how many packets, how many bytes they have together, and how many units and pairs of parameter sets were dropped for the mtu
+    Written {
+        packets: usize,
+        bytes: usize,
+        units_dropped: usize,
+        pairs_dropped: usize,
+    },
     Refused(Error),
 }
 

@@ -1,16 +1,19 @@
 -- What becomes of a unit and of the pair at it, by the code's tests on their sizes. Assumes nothing.
-use mathlib.Core.Path.{_≡_, refl, sym, ap₂}
-use mathlib.Core.List.{List}
+use mathlib.Core.Path.{_≡_, refl, sym, ap, ap₂}
+use mathlib.Core.List.{List, [], _∷_}
 use mathlib.Core.Bool.{Bool, true, false, cond}
 use Prim.Native.Nat.{ℕ, _+_, _≤_, _<_}
+use native.Mathlib.Nat.{zero-add, add-zero, add-assoc}
 use native.Mathlib.Omega.{arith}
 use lib.Dec.{leb, ltb}
 use lib.ListN.{length}
 use borrow.Author.Tests.{le-leb, lt-leb, lt-ltb, le-ltb}
 use Rattle.h264_put.specs.declared.outcome.UnitOutcome.the-variants as unit
 use Rattle.h264_put.specs.declared.outcome.PairOutcome.the-variants as pair
+use Rattle.h264_put.specs.declared.outcome.Outcome.{Outcome}
+use Rattle.h264_put.specs.declared.outcome.Drops.{Drops}
 use Rattle.h264_put.specs.Groups.{Saved, bothSaved, stapA}
-use Rattle.h264_put.specs.Outcomes.{unitOutcome, pairOutcome, one}
+use Rattle.h264_put.specs.Outcomes.{unitOutcome, pairOutcome, unitDropped, pairDropped, one, dropsIn, counted}
 use Rattle.h264_put.proofs.Sinks.{length-stapA}
 
 module _ (mtu : ℕ) (u : List ℕ) where
@@ -43,7 +46,33 @@ module _ (mtu : ℕ) (v : Saved) where
   pub due-sent : bothSaved v ≡ true → 5 + length (v .sps) + length (v .pps) ≤ mtu → pair.Sent ≡ pairOutcome mtu v
   due-sent e h = by-pair true true e (le-leb (length (stapA (v .sps) (v .pps))) mtu (rw (length-stapA (v .sps) (v .pps)) h))
 
+-- ---- the counts
+
+-- those of a front and of what follows it
+abbrev pub both : Drops → Drops → Drops
+both d e = record { units = d .units + e .units; pairs = d .pairs + e .pairs }
+
+pub none-first : (e : Drops) → both (record { units = 0; pairs = 0 }) e ≡ e
+none-first e = ap₂ (λ (u p : ℕ). record { units = u; pairs = p }) (zero-add (e .units)) (zero-add (e .pairs))
+
+pub none-behind : (d : Drops) → both d (dropsIn []) ≡ d
+unfolding dropsIn
+none-behind d = ap₂ (λ (u p : ℕ). record { units = u; pairs = p }) (add-zero (d .units)) (add-zero (d .pairs))
+
+pub one-more : (d : Drops) (o : Outcome) (os : List Outcome) → both (counted d o) (dropsIn os) ≡ both d (dropsIn (o ∷ os))
+unfolding dropsIn
+one-more d o os =
+    ap₂ (λ (u p : ℕ). record { units = u; pairs = p })
+    (add-assoc (d .units) (one (unitDropped (o .unit))) (dropsIn os .units))
+    (add-assoc (d .pairs) (one (pairDropped (o .pair))) (dropsIn os .pairs))
+
 -- a count grows by one at most
 pub one-at-most : (b : Bool) → one b ≤ 1
 one-at-most true = omega arith
 one-at-most false = omega arith
+
+pub units-grow : (d d′ : Drops) (o : Outcome) → d′ ≡ counted d o → d′ .units ≤ d .units + 1
+units-grow d d′ o e = omega (arith, ap (λ (x : Drops). x .units) e, one-at-most (unitDropped (o .unit)))
+
+pub pairs-grow : (d d′ : Drops) (o : Outcome) → d′ ≡ counted d o → d′ .pairs ≤ d .pairs + 1
+pairs-grow d d′ o e = omega (arith, ap (λ (x : Drops). x .pairs) e, one-at-most (pairDropped (o .pair)))

@@ -1,7 +1,10 @@
--- One law for each fate.
-use mathlib.Core.Path.{sym, _∙_}
+-- One law for each fate: what it leaves, and what became of the unit and of the pair.
+use mathlib.Core.Path.{sym, ap₂, _∙_}
+use Rattle.h264_put.specs.declared.fate.Fate.the-variants.{Empty, Dropped, Sps, Pps, Coded}
+use Rattle.h264_put.specs.declared.outcome.UnitOutcome.{UnitOutcome}
+use Rattle.h264_put.specs.declared.outcome.PairOutcome.{PairOutcome}
 use Rattle.h264_put.specs.Step.{sinkAt}
-use Rattle.h264.proofs.Steps.{done-empty, done-dropped, short-sps, short-pps, done-sps, done-pps, room-pair, room-unit, done-coded}
+use Rattle.h264.proofs.Steps.{told-by, done-empty, done-dropped, short-sps, short-pps, done-sps, done-pps, room-pair, room-unit, done-coded}
 use borrow.Author.Needs.{needs}
 use Rattle.h264.proofs.send.H264Payloader.emit.Statement.{statement}
 use Rattle.h264.proofs.send.H264Payloader.emit.Tie as tie
@@ -11,77 +14,79 @@ with-sps-requires c κs =
     let arm = c in
     let start = arm .before .before .before .before .before .before in
     let s = sinkAt (start .args .out .now) (start .args .ends .now) (start .args .to) in
-    short-sps (start .args .self) (start .args .mtu) (start .args .unit .now) s (start .pre)
-    (sym (arm .before .before .fate-of .ensures) ∙ arm .enum-told3 .given .1)
+    let e = sym (arm .before .before .fate-of .ensures) ∙ arm .enum-told3 .given .1 in
+    short-sps (start .args .self) (start .args .mtu) (start .args .unit .now) s (start .pre) e
 
 with-pps-requires : tie.Need-with-pps-requires
 with-pps-requires c κs =
     let arm = c in
     let start = arm .before .before .before .before .before .before in
     let s = sinkAt (start .args .out .now) (start .args .ends .now) (start .args .to) in
-    short-pps (start .args .self) (start .args .mtu) (start .args .unit .now) s (start .pre)
-    (sym (arm .before .before .fate-of .ensures) ∙ arm .enum-told4 .given .1)
+    let e = sym (arm .before .before .fate-of .ensures) ∙ arm .enum-told4 .given .1 in
+    short-pps (start .args .self) (start .args .mtu) (start .args .unit .now) s (start .pre) e
 
 put-waiting-requires : tie.Need-put-waiting-requires
 put-waiting-requires c κs =
     let arm = c .before .before in
     let start = arm .before .before .before .before .before .before in
     let s = sinkAt (start .args .out .now) (start .args .ends .now) (start .args .to) in
-    let room = room-pair (start .args .self) (start .args .mtu) (start .args .unit .now) s (start .pre)
-    (sym (arm .before .before .fate-of .ensures) ∙ arm .enum-told5 .given .1) in
-    (start .pre .tidy, room)
+    let e = sym (arm .before .before .fate-of .ensures) ∙ arm .enum-told5 .given .1 in
+    (start .pre .tidy, room-pair (start .args .self) (start .args .mtu) (start .args .unit .now) s (start .pre) e)
 
 put-unit-requires : tie.Need-put-unit-requires
 put-unit-requires c κs =
     let arm = c .before .before .before .before .before .before .before .before .before .before in
     let start = arm .before .before .before .before .before .before in
     let s = sinkAt (start .args .out .now) (start .args .ends .now) (start .args .to) in
-    room-unit (start .args .self) (start .args .mtu) (start .args .unit .now) s (start .pre)
-    (sym (arm .before .before .fate-of .ensures) ∙ arm .enum-told5 .given .1) _
-    (c .before .before .before .before .before .before .before .put-waiting .ensures)
+    let e = sym (arm .before .before .fate-of .ensures) ∙ arm .enum-told5 .given .1 in
+    room-unit (start .args .self) (start .args .mtu) (start .args .unit .now) s (start .pre) e _ (c .before .before .before .before .before .before .before .put-waiting .ensures .0)
 
 returns : tie.Need-returns
 returns c =
-    let arm = c in
+    let arm = c .before in
     let start = arm .before .before .before .before .before .before in
     let s = sinkAt (start .args .out .now) (start .args .ends .now) (start .args .to) in
-    done-empty (start .args .self) (start .args .mtu) (start .args .unit .now) s (start .pre)
-    (sym (arm .before .before .fate-of .ensures) ∙ arm .enum-told .given .1)
+    let e = sym (arm .before .before .fate-of .ensures) ∙ arm .enum-told .given .1 in
+    (done-empty (start .args .self) (start .args .mtu) (start .args .unit .now) s (start .pre) e, told-by (start .args .self) (start .args .mtu) (start .args .unit .now) s (start .pre) Empty e _ (c .without-pair .ensures))
 
 returns-2 : tie.Need-returns-2
 returns-2 c =
-    let arm = c in
+    let arm = c .before in
     let start = arm .before .before .before .before .before .before in
     let s = sinkAt (start .args .out .now) (start .args .ends .now) (start .args .to) in
-    done-dropped (start .args .self) (start .args .mtu) (start .args .unit .now) s (start .pre)
-    (sym (arm .before .before .fate-of .ensures) ∙ arm .enum-told2 .given .1)
+    let e = sym (arm .before .before .fate-of .ensures) ∙ arm .enum-told2 .given .1 in
+    (done-dropped (start .args .self) (start .args .mtu) (start .args .unit .now) s (start .pre) e, told-by (start .args .self) (start .args .mtu) (start .args .unit .now) s (start .pre) Dropped e _ (c .without-pair2 .ensures))
 
 returns-3 : tie.Need-returns-3
 returns-3 c =
-    let arm = c .before in
+    let arm = c .before .before in
     let start = arm .before .before .before .before .before .before in
     let s = sinkAt (start .args .out .now) (start .args .ends .now) (start .args .to) in
-    done-sps (start .args .self) (start .args .mtu) (start .args .unit .now) s (start .pre)
-    (sym (arm .before .before .fate-of .ensures) ∙ arm .enum-told3 .given .1) (c .with-sps .result) (c .with-sps .ensures)
+    let e = sym (arm .before .before .fate-of .ensures) ∙ arm .enum-told3 .given .1 in
+    let saved = c .before .with-sps in
+    (done-sps (start .args .self) (start .args .mtu) (start .args .unit .now) s (start .pre) e (saved .result) (saved .ensures), told-by (start .args .self) (start .args .mtu) (start .args .unit .now) s (start .pre) Sps e _ (c .without-pair3 .ensures))
 
 returns-4 : tie.Need-returns-4
 returns-4 c =
-    let arm = c .before in
+    let arm = c .before .before in
     let start = arm .before .before .before .before .before .before in
     let s = sinkAt (start .args .out .now) (start .args .ends .now) (start .args .to) in
-    done-pps (start .args .self) (start .args .mtu) (start .args .unit .now) s (start .pre)
-    (sym (arm .before .before .fate-of .ensures) ∙ arm .enum-told4 .given .1) (c .with-pps .result) (c .with-pps .ensures)
+    let e = sym (arm .before .before .fate-of .ensures) ∙ arm .enum-told4 .given .1 in
+    let saved = c .before .with-pps in
+    (done-pps (start .args .self) (start .args .mtu) (start .args .unit .now) s (start .pre) e (saved .result) (saved .ensures), told-by (start .args .self) (start .args .mtu) (start .args .unit .now) s (start .pre) Pps e _ (c .without-pair4 .ensures))
 
 returns-5 : tie.Need-returns-5
 returns-5 c =
-    let arm = c .before .before .before .before .before .before .before .before .before .before .before .before .before .before .before in
+    let arm = c .before .before .before .before .before .before .before .before .before .before .before .before .before .before .before .before .before in
     let start = arm .before .before .before .before .before .before in
     let s = sinkAt (start .args .out .now) (start .args .ends .now) (start .args .to) in
-    let forgot = c .before .before .before .before .before .before .before .forget in
-    done-coded (start .args .self) (start .args .mtu) (start .args .unit .now) s (start .pre)
-    (sym (arm .before .before .fate-of .ensures) ∙ arm .enum-told5 .given .1) _ _ (forgot .result)
-    (c .before .before .before .before .before .before .before .before .before .before .before .before .put-waiting .ensures)
-    (c .before .before .before .before .put-unit .ensures) (forgot .ensures)
+    let e = sym (arm .before .before .fate-of .ensures) ∙ arm .enum-told5 .given .1 in
+    let waiting = c .before .before .before .before .before .before .before .before .before .before .before .before .before .before .put-waiting in
+    let put = c .before .before .before .before .before .before .put-unit in (
+      done-coded (start .args .self) (start .args .mtu) (start .args .unit .now) s (start .pre) e _ _ (c .forget .result) (waiting .ensures .0) (put .ensures .0) (c .forget .ensures),
+      told-by (start .args .self) (start .args .mtu) (start .args .unit .now) s (start .pre) Coded e _
+          (ap₂ (λ (u : UnitOutcome) (p : PairOutcome). record { unit = u; pair = p }) (put .ensures .1) (waiting .ensures .1)),
+    )
 
 pub emit-spec : {M : Type 1} → statement M
 emit-spec =
@@ -89,15 +94,19 @@ emit-spec =
     (tie.spec
     (λ c κs. search needs)
     (λ c. search needs)
+    (λ c κs. search needs)
     (λ c. search needs)
+    (λ c κs. search needs)
     (λ c. search needs)
     with-sps-requires
+    (λ c κs. search needs)
     (λ c. search needs)
     with-pps-requires
+    (λ c κs. search needs)
     (λ c. search needs)
     put-waiting-requires
-    (λ c κs. search needs)
     put-unit-requires
+    (λ c κs. search needs)
     returns
     returns-2
     returns-3

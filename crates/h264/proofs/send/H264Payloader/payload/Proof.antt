@@ -78,17 +78,18 @@ walk-requires c κs =
 
 returns-5 : tie.Need-returns-5
 returns-5 c =
-    let fits = c .before .before .before .before .before .before .before .before .before in
+    let fits = c .before .before .before .before .before .before .before .before .before .before in
     let short = fits .before .before in
     let some = short .before .before in
     let within = some .before .before .before in
     let start = within .before .before .before .before .before .args in
     let measured = short .before .measure-frame in
-    let walked = c .before .before .before .before .before .before .walk in
+    let walked = c .before .before .before .before .before .before .before .walk in
     call-sent (start .self) (start .mtu) (start .frame .now) (start .out .now) (start .ends .now)
     (sym (within .before .is-outside .ensures) ∙ within .if1 .left) (sym (some .before .is-nothing .ensures) ∙ some .if2 .left)
     (some .before .before .tidy .result) (some .before .before .tidy .ensures) (measured .result) (measured .ensures) (short .if3 .left)
-    (sym (fits .before .is-too-small .ensures) ∙ fits .if4 .left) (walked .result .sender) _ (walked .ensures)
+    (sym (fits .before .is-too-small .ensures) ∙ fits .if4 .left) (walked .result .sender) _ (walked .result .drops) (walked .ensures .0)
+    (walked .ensures .1)
 
 pub payload-spec : {M : Type 1} → statement M
 payload-spec =

@@ -4,7 +4,7 @@ use native.Mathlib.Omega.{arith}
 use lib.ListN.{length}
 use borrow.Author.Tests.{not-true, not-false}
 use Rattle.h264_put.specs.Step.{sinkAt}
-use Rattle.h264.proofs.State.{waiting-none, waiting-over, waiting-room, waiting-sent}
+use Rattle.h264.proofs.State.{waiting-none, waiting-not-due, waiting-over, waiting-dropped, waiting-room, waiting-sent, waiting-told}
 use borrow.Author.Needs.{needs}
 use Rattle.h264.proofs.send.H264Payloader.put_waiting.Statement.{statement}
 use Rattle.h264.proofs.send.H264Payloader.put_waiting.Tie as tie
@@ -14,16 +14,20 @@ returns c =
     let none = c in
     let start = none .before .before .before .before .before .before in
     let s = sinkAt (start .args .out .now) (start .args .ends .now) (start .args .to) in
-    waiting-none (start .args .self) (start .pre .0) (start .args .mtu) s
-    (sym (none .before .both .ensures) ∙ not-true _ (none .if1 .taken))
+    let e = sym (none .before .both .ensures) ∙ not-true _ (none .if1 .taken) in (
+      waiting-none (start .args .self) (start .pre .0) (start .args .mtu) s e,
+      waiting-not-due (start .args .self) (start .pre .0) (start .args .mtu) s e,
+    )
 
 returns-2 : tie.Need-returns-2
 returns-2 c =
     let waits = c .before in
     let start = waits .before .before .before .before .before .before in
     let s = sinkAt (start .args .out .now) (start .args .ends .now) (start .args .to) in
-    waiting-over (start .args .self) (start .pre .0) (start .args .mtu) s
-    (sym (waits .before .both .ensures) ∙ not-false _ (waits .if1 .left)) (c .if2 .taken)
+    let e = sym (waits .before .both .ensures) ∙ not-false _ (waits .if1 .left) in (
+      waiting-over (start .args .self) (start .pre .0) (start .args .mtu) s e (c .if2 .taken),
+      waiting-dropped (start .args .self) (start .pre .0) (start .args .mtu) s e (c .if2 .taken),
+    )
 
 part-put-pair-end : tie.Need-part-put-pair-end
 part-put-pair-end c =
@@ -50,9 +54,11 @@ returns-3 c =
     let waits = fits .before in
     let start = waits .before .before .before .before .before .before in
     let s = sinkAt (start .args .out .now) (start .args .ends .now) (start .args .to) in
-    c .before .before .before .before .put-pair .ensures
-    ∙ waiting-sent (start .args .self) (start .pre .0) (start .args .mtu) s
-    (sym (waits .before .both .ensures) ∙ not-false _ (waits .if1 .left)) (fits .if2 .left)
+    let e = sym (waits .before .both .ensures) ∙ not-false _ (waits .if1 .left) in (
+      c .before .before .before .before .put-pair .ensures
+          ∙ waiting-sent (start .args .self) (start .pre .0) (start .args .mtu) s e (fits .if2 .left),
+      waiting-told (start .args .self) (start .pre .0) (start .args .mtu) s e (fits .if2 .left),
+    )
 
 pub put-waiting-spec : {M : Type 1} → statement M
 put-waiting-spec =

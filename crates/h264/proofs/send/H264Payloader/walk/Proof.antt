@@ -1,4 +1,4 @@
--- A turn sends the piece at hand and goes on behind the start code that follows it.
+-- A turn sends the piece at hand and goes on behind the start code that follows it; a turn is a byte at least, so no count passes the frame.
 use mathlib.Core.Path.{_≡_, refl, _∙_}
 use Prim.Native.Nat.{_-_, _≤_}
 use native.Mathlib.Omega.{arith}
@@ -7,26 +7,29 @@ use borrow.Author.Tests.{not-true, not-false}
 use Rattle.wire.specs.Packets.{putAll}
 use Rattle.annexb.specs.Units.{pieces, units}
 use Rattle.h264_put.specs.Groups.{keepAll, groupsOf, packetsOf}
+use Rattle.h264_put.specs.Outcomes.{outcomesOf, dropsIn}
 use Rattle.h264.specs.Payload.{savedIn}
 use Rattle.h264_put.specs.Step.{sinkAt}
 use Rattle.annexb.proofs.Pieces.{piece-onward}
+use Rattle.h264_put.proofs.Outcomes.{units-grow, pairs-grow}
 use Rattle.h264.proofs.Walks.{Leads, leads-first, piece-ready, walk-on, walk-end}
 use borrow.Author.Needs.{needs}
 use Rattle.h264.proofs.send.H264Payloader.walk.Statement.{statement}
 use Rattle.h264.proofs.send.H264Payloader.walk.Tie as tie
 
 abbrev Inv-loop : tie.InvT-loop
-Inv-loop mtu frame out₀ ends₀ start₀ e₀ out ends start e =
+Inv-loop mtu frame out₀ ends₀ start₀ sender₀ place₀ drops₀ out ends start sender place drops =
     (start ≤ length frame)
-    × Leads mtu (keepAll (savedIn (e₀ .sender)) (units frame))
-    (putAll (sinkAt out₀ ends₀ (e₀ .place)) (packetsOf (groupsOf mtu (savedIn (e₀ .sender)) (units frame)))) (pieces (drop start frame))
-    (e .sender)
-    (sinkAt out ends (e .place))
+    × Leads mtu (keepAll (savedIn sender₀) (units frame))
+    (putAll (sinkAt out₀ ends₀ place₀) (packetsOf (groupsOf mtu (savedIn sender₀) (units frame))))
+    (dropsIn (outcomesOf mtu (savedIn sender₀) (units frame))) (pieces (drop start frame)) sender (sinkAt out ends place) drops
     × (length out ≡ length out₀)
     × (length ends ≡ length ends₀)
+    × (drops .units ≤ start)
+    × (drops .pairs ≤ start)
 
 abbrev μ-loop : tie.MeasureT-loop
-μ-loop mtu frame out₀ ends₀ start₀ e₀ out ends start e = length frame - start
+μ-loop mtu frame out₀ ends₀ start₀ sender₀ place₀ drops₀ out ends start sender place drops = length frame - start
 
 loop-holds : tie.Need-loop-holds Inv-loop μ-loop
 loop-holds c =
@@ -37,6 +40,8 @@ loop-holds c =
           (start .pre .0 .1) (start .pre .1),
       refl,
       refl,
+      omega arith,
+      omega arith,
     )
 
 unit-at-requires : tie.Need-unit-at-requires Inv-loop μ-loop
@@ -44,56 +49,72 @@ unit-at-requires c κs = c .loop .inv .0
 
 emit-requires : tie.Need-emit-requires Inv-loop μ-loop
 emit-requires c κs =
-    let frame = c .before .before .before .before .before .before .before .before .before .before .before .args .frame .now in
-    let at-head = c .before .before .before .before .before .before .loop in
-    let s = sinkAt (at-head .out) (at-head .ends) (at-head .e .place) in
-    let piece = c .before .before .before .before .before .unit-at in
-    piece-ready _ _ _ frame (at-head .start) (at-head .e .sender) s (at-head .inv .1) (piece .result) (piece .ensures)
+    let frame = c .before .before .before .before .before .before .before .before .before .args .frame .now in
+    let at-head = c .before .before .before .before .loop in
+    let s = sinkAt (at-head .out) (at-head .ends) (at-head .place) in
+    let piece = c .before .before .before .unit-at in
+    piece-ready _ _ _ _ frame (at-head .start) (at-head .sender) s (at-head .drops) (at-head .inv .1) (piece .result) (piece .ensures)
+
+and-requires : tie.Need-and-requires Inv-loop μ-loop
+and-requires c κs =
+    let start = c .before .before .before .before .before .before .before .before .before .before .before .before .before .before .before .before in
+    let at-head = c .before .before .before .before .before .before .before .before .before .before .before .loop in
+    (omega (arith, at-head .inv .4, at-head .inv .0, start .pre .0 .2), omega (arith, at-head .inv .5, at-head .inv .0, start .pre .0 .2))
 
 loop-less : tie.Need-loop-less Inv-loop μ-loop
 loop-less c =
-    let piece = c .before .before .before .before .before .before .before .before .before .before .before .before .unit-at in
-    let onward = piece-onward
-    (c .before .before .before .before .before .before .before .before .before .before .before .before .before .before .before .before .before .before .args .frame .now)
-    (c .before .before .before .before .before .before .before .before .before .before .before .before .before .loop .start)
+    let piece = c .before .before .before .before .before .before .before .before .before .before .before .before .before .unit-at in
+    let onward = piece-onward (c .before .before .before .before .before .before .before .before .before .before .before .before .before .before .before .before .before .before .before .args .frame .now) (c .before .before .before .before .before .before .before .before .before .before .before .before .before .before .loop .start)
     (piece .result) (piece .ensures) (not-false _ (c .if1 .left)) in
     omega (arith, onward, piece .ensures .from, piece .ensures .within)
 
 loop-again : tie.Need-loop-again Inv-loop μ-loop
 loop-again c =
-    let frame
-    = c .before .before .before .before .before .before .before .before .before .before .before .before .before .before .before .before .before .before .args .frame .now
-    in
-    let at-head = c .before .before .before .before .before .before .before .before .before .before .before .before .before .loop in
-    let s = sinkAt (at-head .out) (at-head .ends) (at-head .e .place) in
-    let piece = c .before .before .before .before .before .before .before .before .before .before .before .before .unit-at in
-    let sent = c .before .before .before .before .before .before .emit in (
+    let frame = c .before .before .before .before .before .before .before .before .before .before .before .before .before .before .before .before .before .before .before .args .frame .now in
+    let at-head = c .before .before .before .before .before .before .before .before .before .before .before .before .before .before .loop in
+    let s = sinkAt (at-head .out) (at-head .ends) (at-head .place) in
+    let piece = c .before .before .before .before .before .before .before .before .before .before .before .before .before .unit-at in
+    let sent = c .before .before .before .before .before .before .before .before .before .emit in
+    let counts = c .before .before .and in
+    let onward = piece-onward frame (at-head .start) (piece .result) (piece .ensures) (not-false _ (c .if1 .left)) in (
       piece .ensures .within,
-      walk-on _ _ _ frame (at-head .start) (at-head .e .sender) s (at-head .inv .1) (piece .result) (piece .ensures) _ _
-          (sent .ensures) (not-false _ (c .if1 .left)),
+      walk-on _ _ _ _ frame (at-head .start) (at-head .sender) s (at-head .drops) (at-head .inv .1) (piece .result) (piece .ensures) _ _ _ _
+          (sent .ensures .0)
+          (sent .ensures .1) (counts .ensures) (not-false _ (c .if1 .left)),
       sent .kept .1 .1 .1 .0 ∙ at-head .inv .2,
       sent .kept .1 .1 .1 .1 .0 ∙ at-head .inv .3,
+      omega (
+        arith,
+        at-head .inv .4,
+        units-grow (at-head .drops) (counts .result) (sent .result .outcome) (counts .ensures),
+        onward,
+        piece .ensures .from,
+      ),
+      omega (
+        arith,
+        at-head .inv .5,
+        pairs-grow (at-head .drops) (counts .result) (sent .result .outcome) (counts .ensures),
+        onward,
+        piece .ensures .from,
+      ),
     )
 
 same-length : tie.Need-same-length Inv-loop μ-loop
-same-length c = c .before .before .before .before .before .before .emit .kept .1 .1 .1 .0
-    ∙ c .before .before .before .before .before .before .before .before .before .before .before .before .before .loop .inv .2
+same-length c = c .before .before .before .before .before .before .before .before .before .emit .kept .1 .1 .1 .0 ∙ c .before .before .before .before .before .before .before .before .before .before .before .before .before .before .loop .inv .2
 
 same-length-2 : tie.Need-same-length-2 Inv-loop μ-loop
-same-length-2 c = c .before .before .before .before .before .before .emit .kept .1 .1 .1 .1 .0
-    ∙ c .before .before .before .before .before .before .before .before .before .before .before .before .before .loop .inv .3
+same-length-2 c = c .before .before .before .before .before .before .before .before .before .emit .kept .1 .1 .1 .1 .0 ∙ c .before .before .before .before .before .before .before .before .before .before .before .before .before .before .loop .inv .3
 
 returns : tie.Need-returns Inv-loop μ-loop
 returns c =
-    let frame
-    = c .before .before .before .before .before .before .before .before .before .before .before .before .before .before .before .before .before .before .args .frame .now
-    in
-    let at-head = c .before .before .before .before .before .before .before .before .before .before .before .before .before .loop in
-    let s = sinkAt (at-head .out) (at-head .ends) (at-head .e .place) in
-    let piece = c .before .before .before .before .before .before .before .before .before .before .before .before .unit-at in
-    let ended = walk-end _ _ _ frame (at-head .start) (at-head .e .sender) s (at-head .inv .1) (piece .result) (piece .ensures) _ _
-    (c .before .before .before .before .before .before .emit .ensures) (not-true _ (c .if1 .taken)) in
-    record { state = ended .0; put = ended .1 }
+    let frame = c .before .before .before .before .before .before .before .before .before .before .before .before .before .before .before .before .before .before .before .args .frame .now in
+    let at-head = c .before .before .before .before .before .before .before .before .before .before .before .before .before .before .loop in
+    let s = sinkAt (at-head .out) (at-head .ends) (at-head .place) in
+    let piece = c .before .before .before .before .before .before .before .before .before .before .before .before .before .unit-at in
+    let sent = c .before .before .before .before .before .before .before .before .before .emit in
+    let ended = walk-end _ _ _ _ frame (at-head .start) (at-head .sender) s (at-head .drops) (at-head .inv .1) (piece .result) (piece .ensures) _ _ _ _
+    (sent .ensures .0) (sent .ensures .1) (c .before .before .and .ensures) (not-true _ (c .if1 .taken)) in
+    (record { state = ended .0; put = ended .1 }, ended .2)
 
 pub walk-spec : {M : Type 1} → statement M
 walk-spec =
@@ -108,6 +129,7 @@ walk-spec =
     (λ c. search needs)
     (λ c. search needs)
     emit-requires
+    and-requires
     loop-less
     loop-again
     same-length
