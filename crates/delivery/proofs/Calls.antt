@@ -17,6 +17,8 @@ use Rattle.packet.proofs.Plain.{plain-written}
 use Rattle.h264.specs.declared.send.H264Payloader.{H264Payloader}
 use Rattle.annexb.specs.Units.{unitsAt}
 use Rattle.h264_put.specs.Groups.{Saved, nothingSaved, keep, keepAll, groupsOf, packetsOf}
+use Rattle.h264_put.specs.declared.outcome.Drops.{Drops}
+use Rattle.h264_put.specs.Outcomes.{outcomesOf, dropsIn}
 use Rattle.h264_put.specs.Step.{tooLong}
 use Rattle.h264.specs.Payload.{Counts, Left, layOut, savedIn, outside, overLimit, tooSmall, refusedWith, emptySink, sentAs, leftBy, payloadOf}
 use Rattle.h264.specs.Frames.{groupsFrom, groupsSent}
@@ -59,10 +61,10 @@ room-of ps out ends e =
     record { bytes = omega arith; places = omega arith }
 
 -- what such a call leaves, cut at the ends that it wrote
-cut-sent : (v : Saved) (ps : List (List ℕ)) (out ends : List ℕ) → Room (emptySink out ends) ps →
-    let l : Left = sentAs v ps out ends in cutBy (l .answer) (l .out) (l .ends) ≡ ps
+cut-sent : (v : Saved) (ps : List (List ℕ)) (d : Drops) (out ends : List ℕ) → Room (emptySink out ends) ps →
+    let l : Left = sentAs v ps d out ends in cutBy (l .answer) (l .out) (l .ends) ≡ ps
 unfolding whole
-cut-sent v ps out ends r =
+cut-sent v ps d out ends r =
     let n : 0 + length ps ≡ length ps = omega arith in
     let sink : Sink = whole (emptySink out ends) ps in
     ap (λ (k : ℕ). cut (sink .out) 0 (take k (sink .ends))) n ∙ cut-whole (emptySink out ends) ps r
@@ -95,8 +97,15 @@ module _ (mtu : ℕ) where
   abbrev sent : Saved → List ℕ → List (List ℕ)
   sent v frame = packetsOf (groupsOf mtu v (unitsAt mtu frame))
 
+  abbrev dropped : Saved → List ℕ → Drops
+  dropped v frame = dropsIn (outcomesOf mtu v (unitsAt mtu frame))
+
+  -- what a call that answers leaves
+  abbrev answered : Saved → (frame out ends : List ℕ) → Left
+  answered v frame out ends = sentAs (keepAll v (unitsAt mtu frame)) (sent v frame) (dropped v frame) out ends
+
   record Passed (v : Saved) (frame out ends : List ℕ) : Type 0 where
-    leaves : payloadOf (layOut v) mtu frame out ends ≡ sentAs (keepAll v (unitsAt mtu frame)) (sent v frame) out ends
+    leaves : payloadOf (layOut v) mtu frame out ends ≡ answered v frame out ends
     room : Room (emptySink out ends) (sent v frame)
 
   passed : (v : Saved) (frame out ends : List ℕ) → (c : Counts) × (payloadOf (layOut v) mtu frame out ends .answer ≡ says c) → Passed v frame out ends
@@ -111,7 +120,7 @@ module _ (mtu : ℕ) where
       }
     where
       as-saved : Saved → Left
-      as-saved x = sentAs (keepAll x (unitsAt mtu frame)) (sent x frame) out ends
+      as-saved x = answered x frame out ends
 
   calls-cut : (v : Saved) (lent : ℕ → Lent) (frames : List (List ℕ)) → NoneRefused (sending (layOut v) mtu lent frames) →
       written (sending (layOut v) mtu lent frames) ≡ packetsOf (groupsFrom mtu v frames)
@@ -122,7 +131,7 @@ module _ (mtu : ℕ) where
       let t : Passed v frame (lent 0 .out) (lent 0 .ends) = passed v frame (lent 0 .out) (lent 0 .ends) (w .0) in
       let next : payloadOf (layOut v) mtu frame (lent 0 .out) (lent 0 .ends) .sender ≡ layOut after = ap (λ (l : Left). l .sender) (t .leaves) in
       ap₂ (λ (ps qs : List (List ℕ)). ps ++ qs)
-      (ap (λ (l : Left). cutBy (l .answer) (l .out) (l .ends)) (t .leaves) ∙ cut-sent after (sent v frame) (lent 0 .out) (lent 0 .ends) (t .room))
+      (ap (λ (l : Left). cutBy (l .answer) (l .out) (l .ends)) (t .leaves) ∙ cut-sent after (sent v frame) (dropped v frame) (lent 0 .out) (lent 0 .ends) (t .room))
       (ap (λ (h : H264Payloader). written (sending h mtu later frames)) next
       ∙ calls-cut after later frames (subst (λ (h : H264Payloader). NoneRefused (sending h mtu later frames)) next (w .1)))
       ∙ sym (packets-append (groupsOf mtu v (unitsAt mtu frame)) (groupsFrom mtu after frames))
@@ -130,7 +139,7 @@ module _ (mtu : ℕ) where
   module _ (m : mtu ≤ 65535) where
     one-answers : (v : Saved) (frame out ends : List ℕ) → Short v → length frame ≤ 16777216 → Each (λ (u : List ℕ). tooLong u ≡ false) (unitsAt mtu frame) →
         Room (emptySink out ends) (sent v frame) →
-        payloadOf (layOut v) mtu frame out ends ≡ sentAs (keepAll v (unitsAt mtu frame)) (sent v frame) out ends
+        payloadOf (layOut v) mtu frame out ends ≡ answered v frame out ends
     unfolding payloadOf
     one-answers v frame out ends short f sets room =
         answers (outside (layOut v) mtu frame) (overLimit (unitsAt mtu frame)) (tooSmall (sent (savedIn (layOut v)) frame) out ends)
@@ -140,15 +149,14 @@ module _ (mtu : ℕ) where
         ∙ ap as-saved (saved-laid v)
       where
         as-saved : Saved → Left
-        as-saved x = sentAs (keepAll x (unitsAt mtu frame)) (sent x frame) out ends
+        as-saved x = answered x frame out ends
 
     all-answer : (v : Saved) (lent : ℕ → Lent) (frames : List (List ℕ)) → Short v → Each (λ (f : List ℕ). length f ≤ 16777216) frames →
         LentEnough mtu v lent frames → NoneRefused (sending (layOut v) mtu lent frames)
     all-answer v lent [] short f w = tt
     all-answer v lent (frame ∷ frames) short f w =
         let us : List (List ℕ) = unitsAt mtu frame in
-        let e = one-answers v frame (lent 0 .out) (lent 0 .ends) short (f .0) (w .0) (w .1) in
-        let said : Left = sentAs (keepAll v us) (sent v frame) (lent 0 .out) (lent 0 .ends) in (
+        let e = one-answers v frame (lent 0 .out) (lent 0 .ends) short (f .0) (w .0) (w .1) in (
           (_, ap (λ (l : Left). l .answer) e),
           subst (λ (h : H264Payloader). NoneRefused (sending h mtu (λ i. lent (suc i)) frames)) (sym (ap (λ (l : Left). l .sender) e))
               (all-answer (keepAll v us) (λ i. lent (suc i)) frames (short-all v us short (w .0)) (f .1) (w .2)),
