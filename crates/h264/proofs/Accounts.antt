@@ -20,13 +20,13 @@ use Rattle.h264.proofs.Courses.{waits-by-course, groups-by-course}
 
 -- ---- what goes out
 
-carried-append : (a b : List Group) → carriedIn (a ++ b) ≡ carriedIn a ++ carriedIn b
+pub carried-append : (a b : List Group) → carriedIn (a ++ b) ≡ carriedIn a ++ carriedIn b
 carried-append [] b = refl
 carried-append (g ∷ a) b =
     ap (λ (l : List (List ℕ)). carries g ++ l) (carried-append a b) ∙ sym (append-assoc (carries g) (carriedIn a) (carriedIn b))
 
 -- among a unit's own groups there is no pair
-unit-carried : (mtu : ℕ) (u : List ℕ) → carriedIn (unitFor mtu u) ≡ unitsIn (unitFor mtu u)
+pub unit-carried : (mtu : ℕ) (u : List ℕ) → carriedIn (unitFor mtu u) ≡ unitsIn (unitFor mtu u)
 unfolding unitFor
 unit-carried mtu u = go (leb (length u) mtu) (ltb mtu 3) u
   where

@@ -67,7 +67,7 @@ groups-append mtu v (u ∷ a) b =
 
 -- ---- while no pair is due
 
-kept-one : (v : Saved) (u : List ℕ) → (fateOf u ≡ Coded → bothSaved v ≡ false) → keep v u ≡ latest v (u ∷ [])
+pub kept-one : (v : Saved) (u : List ℕ) → (fateOf u ≡ Coded → bothSaved v ≡ false) → keep v u ≡ latest v (u ∷ [])
 unfolding keep
 kept-one v u h = go (fateOf u) h
   where
@@ -119,7 +119,7 @@ no-pair-sent mtu v (u ∷ us) n =
 -- ---- the whole course
 
 -- at a coded unit with both sets before it
-kept-none : (w : Saved) (u : List ℕ) → fateOf u ≡ Coded → bothSaved w ≡ true → keep w u ≡ nothingSaved
+pub kept-none : (w : Saved) (u : List ℕ) → fateOf u ≡ Coded → bothSaved w ≡ true → keep w u ≡ nothingSaved
 unfolding keep
 kept-none w u k e = ap (λ (x : Fate). keepBy x w u) k ∙ ap (λ (b : Bool). cond b nothingSaved w) e
 

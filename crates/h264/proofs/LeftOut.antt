@@ -17,13 +17,13 @@ use Rattle.h264.specs.Conformance.{rebuilt, unitsIn, isCoded, goesOut, t
 use Rattle.h264_put.proofs.Sizes.{pair-sent, unit-alone, unit-dropped, unit-divided}
 use Rattle.h264.proofs.Parts.{unit-rebuilt}
 
-units-append : (a b : List Group) → unitsIn (a ++ b) ≡ unitsIn a ++ unitsIn b
+pub units-append : (a b : List Group) → unitsIn (a ++ b) ≡ unitsIn a ++ unitsIn b
 units-append [] b = refl
 units-append (pair sps pps ∷ a) b = units-append a b
 units-append (plain u ∷ a) b = ap (λ (l : List (List ℕ)). u ∷ l) (units-append a b)
 units-append (fragments head first middle last ∷ a) b = ap (λ (l : List (List ℕ)). rebuilt head first middle last ∷ l) (units-append a b)
 
-pair-carries : (mtu : ℕ) (v : Saved) → unitsIn (pairFor mtu v) ≡ []
+pub pair-carries : (mtu : ℕ) (v : Saved) → unitsIn (pairFor mtu v) ≡ []
 unfolding pairFor
 pair-carries mtu v = go (bothSaved v && leb (length (stapA (v .sps) (v .pps))) mtu)
   where

@@ -16,5 +16,8 @@ pub mod Order
 pub mod Frames
 pub mod AnySender
 pub mod WrongSenders
+pub mod Telling
+pub mod Counting
 pub mod Sender
 pub mod Rows
+pub mod WorkedDrops

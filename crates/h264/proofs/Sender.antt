@@ -3,7 +3,7 @@
 use mathlib.Core.Path.{_≡_}
 use mathlib.Core.List.{List, [], _∷_, _++_}
 use mathlib.Core.Bool.{true, _||_}
-use Prim.Native.Nat.{ℕ, _+_, _≤_, _<_}
+use Prim.Native.Nat.{ℕ, _+_, _*_, _≤_, _<_}
 use lib.Dec.{leb}
 use lib.ListN.{length}
 use Rattle.error.specs.Only.{Determined}
@@ -11,13 +11,16 @@ use Rattle.rfc6184.specs.Sending.{Each, UnitType, Packetization}
 use Rattle.annexb.specs.Units.{unitsAt}
 use Rattle.annexb.specs.AnnexB.{Prefixed, written, Apart, unitsWritten}
 use Rattle.h264_put.specs.declared.fate.Fate.the-variants.{Sps, Pps, Coded}
-use Rattle.h264_put.specs.Groups.{Saved, bothSaved, pair, fragments, fateOf, keepAll, unitFor, groupsFor, groupsOf, packetsOfGroup, packetsOf}
+use Rattle.h264_put.specs.Groups.{Saved, bothSaved, pair, fragments, fateOf, keep, keepAll, unitFor, groupsFor, groupsOf, packetsOfGroup, packetsOf}
+use Rattle.h264_put.specs.declared.outcome.Drops.{Drops}
+use Rattle.h264_put.specs.Outcomes.{outcomeFor, outcomesOf, dropsIn}
 use Rattle.h264.specs.declared.send.H264Payloader.{H264Payloader}
 use Rattle.h264.specs.Payload.{left, payloadOf}
-use Rattle.h264.specs.Frames.{groupsFrom, unitsOfFrames}
-use Rattle.h264.specs.Conformance.{Octets, SavedOctets, nal, nalsOfAll, Regular, Sendable, unitsIn, carriedIn, goesOut, thoseThat, startBit, endBit}
-use Rattle.h264.specs.Course.{latest, NoPair, Coursed, waitingAfter, groupsIn, setsOf, sent, leftOut, Same}
+use Rattle.h264.specs.Frames.{groupsFrom, dropsFrom, unitsOfFrames}
+use Rattle.h264.specs.Conformance.{Octets, SavedOctets, nal, nalsOfAll, Regular, Sendable, unitsIn, carriedIn, isCoded, goesOut, thoseThat, startBit, endBit}
+use Rattle.h264.specs.Course.{latest, NoPair, Coursed, waitingAfter, groupsIn, setsOf, sent, isDropped, cannotGo, replaced, pairsOver, leftOut, Same}
 use Rattle.h264.specs.AnySender.{Answered, Sender, Goes, SendsFrames, ours, Silent, KeepsEarlierSps, KeepsEarlierPps}
+use Rattle.h264.specs.Telling.{Step, TellsAlways, ourStep}
 use Rattle.h264.proofs.Fits as F
 use Rattle.h264.proofs.Frames as A
 use Rattle.h264.proofs.LeftOut as L
@@ -29,6 +32,8 @@ use Rattle.h264.proofs.OneUnit as U
 use Rattle.h264.proofs.AnySender as N
 use Rattle.h264.proofs.WrongSenders as W
 use Rattle.h264.proofs.StartEnd as S
+use Rattle.h264.proofs.Telling as T
+use Rattle.h264.proofs.Counting as D
 use Rattle.h264.proofs.Only as O
 
 -- "Every packet fits the mtu."
@@ -124,6 +129,52 @@ either-order = R.either-order
 -- Nor does the frame in which a unit came.
 pub borders-unseen : (mtu : ℕ) (v : Saved) (frames : List (List ℕ)) → groupsFrom mtu v frames ≡ groupsOf mtu v (unitsOfFrames mtu frames)
 borders-unseen = R.borders-unseen
+
+-- ---- what was not sent
+
+-- Each step tells what became of its unit and of the pair at it: a unit is `Sent` exactly where a group of its own is sent, a pair `Sent` exactly where
+-- its STAP-A is, `Saved` is said exactly where what is saved changes to the unit, a drop exactly where nothing goes out; and nothing else is sent.
+pub step-tells : TellsAlways ourStep
+step-tells = T.we-tell
+
+-- Whoever sends and keeps what our step does, and tells, says what it says.
+pub one-account : (s : Step) → TellsAlways s → ((mtu : ℕ) (v : Saved) (u : List ℕ) → s .sends mtu v u ≡ groupsFor mtu v u) →
+    ((mtu : ℕ) (v : Saved) (u : List ℕ) → s .keeps mtu v u ≡ keep v u) → (mtu : ℕ) (v : Saved) (u : List ℕ) → s .says mtu v u ≡ outcomeFor mtu v u
+one-account = T.one-account
+
+-- The count of units is that of the units that cannot go, and every unit that is to be sent goes out or is counted.
+pub units-counted : (mtu : ℕ) (v : Saved) (us : List (List ℕ)) → dropsIn (outcomesOf mtu v us) .units ≡ length (thoseThat (cannotGo mtu) us)
+units-counted = D.units-counted
+
+pub units-add-up : (mtu : ℕ) (v : Saved) (us : List (List ℕ)) →
+    length (unitsIn (groupsOf mtu v us)) + dropsIn (outcomesOf mtu v us) .units ≡ length (thoseThat (λ (u : List ℕ). isCoded (fateOf u)) us)
+units-add-up = D.units-add-up
+
+-- The count of pairs is that of the pairs that are due and do not fit: two sets are left out for each.
+pub pairs-counted : (mtu : ℕ) (v : Saved) (us : List (List ℕ)) (r : Coursed v us) →
+    2 * dropsIn (outcomesOf mtu v us) .pairs ≡ length (pairsOver mtu v (r .course))
+pairs-counted = D.pairs-counted
+
+-- Where both counts are 0, nothing is left out but empty units, types 9 and 12, and sets that were replaced by a later one.
+pub none-dropped : (mtu : ℕ) (v : Saved) (us : List (List ℕ)) (r : Coursed v us) → dropsIn (outcomesOf mtu v us) ≡ record { units = 0; pairs = 0 } →
+    Same (setsOf v ++ us)
+    (carriedIn (groupsOf mtu v us)
+    ++ ((thoseThat (λ (u : List ℕ). isDropped (fateOf u)) us ++ replaced v (r .course)) ++ setsOf (keepAll v us)))
+none-dropped = D.none-dropped
+
+-- "at mtu 0 both are 0", and of an empty frame; from mtu 3 on no unit is dropped.
+pub none-at-zero : (v : Saved) (frame : List ℕ) → dropsIn (outcomesOf 0 v (unitsAt 0 frame)) ≡ record { units = 0; pairs = 0 }
+none-at-zero = D.none-at-zero
+
+pub none-of-empty : (mtu : ℕ) (v : Saved) → dropsIn (outcomesOf mtu v (unitsAt mtu [])) ≡ record { units = 0; pairs = 0 }
+none-of-empty = D.none-of-empty
+
+pub no-unit-from-three : (mtu : ℕ) (v : Saved) (us : List (List ℕ)) → 3 ≤ mtu → dropsIn (outcomesOf mtu v us) .units ≡ 0
+no-unit-from-three = D.no-unit-from-three
+
+-- The counts of frames, added up, are those of all their units.
+pub frames-add-up : (mtu : ℕ) (v : Saved) (frames : List (List ℕ)) → dropsFrom mtu v frames ≡ dropsIn (outcomesOf mtu v (unitsOfFrames mtu frames))
+frames-add-up = D.frames-add-up
 
 -- ---- each group
 

@@ -17,13 +17,13 @@ use Rattle.h264_put.specs.declared.outcome.Drops.{Drops}
 use Rattle.h264.specs.declared.send.H264Payloader.{H264Payloader}
 use Rattle.annexb.specs.Units.{pieces, Pieced}
 use Rattle.h264_put.specs.Groups.{Saved, nothingSaved, bothSaved, fateOf, keep, keepBy, keepAll, groupsFor, groupsOf, packetsOf}
-use Rattle.h264_put.specs.Outcomes.{outcomeFor, outcomesOf, dropsIn, counted}
+use Rattle.h264_put.specs.Outcomes.{outcomeFor, outcomesOf, dropsIn, counted, together}
 use Rattle.h264.specs.Payload.{layOut, savedIn, overLimit}
 use Rattle.h264_put.specs.Step.{isSaved, tooLong}
 use Rattle.h264.specs.Step.{Tidy, Ready, Done}
 use Rattle.wire.proofs.Bools.{or-false-left, or-false-right}
 use Rattle.h264_put.proofs.Sizes.{packets-append}
-use Rattle.h264_put.proofs.Outcomes.{both, none-first, none-behind, one-more}
+use Rattle.h264_put.proofs.Outcomes.{none-first, none-behind, one-more}
 use Rattle.h264.proofs.State.{Short, saved-laid, tidy-laid, sps-length, pps-length}
 
 -- ---- the limit
@@ -60,7 +60,7 @@ pub record Leads (mtu : ℕ) (kept : Saved) (goal : Sink) (total : Drops) (us : 
   pub room : Room s (packetsOf (groupsOf mtu saved us))
   pub state : keepAll saved us ≡ kept
   pub same : putAll s (packetsOf (groupsOf mtu saved us)) ≡ goal
-  pub counts : both d (dropsIn (outcomesOf mtu saved us)) ≡ total
+  pub counts : together d (dropsIn (outcomesOf mtu saved us)) ≡ total
 
 pub leads-first : (mtu : ℕ) (ps us : List (List ℕ)) → ps ≡ us → (h : H264Payloader) (s : Sink) → Tidy h → overLimit us ≡ false →
     Room s (packetsOf (groupsOf mtu (savedIn h) us)) →
@@ -120,7 +120,7 @@ module _
               ∙ sym (putAll-append s (packetsOf (groupsFor mtu (g .saved) u)) (packetsOf (groupsOf mtu (keep (g .saved) u) us)))
               ∙ sym (ap (putAll s) (sent-cons mtu (g .saved) u us))
               ∙ g .same;
-          counts = ap (λ (x : Outcome). both (counted d x) (dropsIn (outcomesOf mtu (keep (g .saved) u) us)))
+          counts = ap (λ (x : Outcome). together (counted d x) (dropsIn (outcomesOf mtu (keep (g .saved) u) us)))
               (k ∙ ap (λ (v : Saved). outcomeFor mtu v u) here)
               ∙ one-more d (outcomeFor mtu (g .saved) u) (outcomesOf mtu (keep (g .saved) u) us)
               ∙ g .counts;

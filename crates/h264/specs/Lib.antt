@@ -4,3 +4,4 @@ pub mod Conformance
 pub mod Course
 pub mod AnySender
 pub mod Frames
+pub mod Telling

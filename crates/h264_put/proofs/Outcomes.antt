@@ -13,7 +13,7 @@ use Rattle.h264_put.specs.declared.outcome.PairOutcome.the-variants as p
 use Rattle.h264_put.specs.declared.outcome.Outcome.{Outcome}
 use Rattle.h264_put.specs.declared.outcome.Drops.{Drops}
 use Rattle.h264_put.specs.Groups.{Saved, bothSaved, stapA}
-use Rattle.h264_put.specs.Outcomes.{unitOutcome, pairOutcome, unitDropped, pairDropped, one, dropsIn, counted}
+use Rattle.h264_put.specs.Outcomes.{unitOutcome, pairOutcome, unitDropped, pairDropped, one, dropsIn, counted, together}
 use Rattle.h264_put.proofs.Sinks.{length-stapA}
 
 module _ (mtu : ℕ) (u : List ℕ) where
@@ -48,18 +48,14 @@ module _ (mtu : ℕ) (v : Saved) where
 
 -- ---- the counts
 
--- those of a front and of what follows it
-abbrev pub both : Drops → Drops → Drops
-both d e = record { units = d .units + e .units; pairs = d .pairs + e .pairs }
-
-pub none-first : (e : Drops) → both (record { units = 0; pairs = 0 }) e ≡ e
+pub none-first : (e : Drops) → together (record { units = 0; pairs = 0 }) e ≡ e
 none-first e = ap₂ (λ (u p : ℕ). record { units = u; pairs = p }) (zero-add (e .units)) (zero-add (e .pairs))
 
-pub none-behind : (d : Drops) → both d (dropsIn []) ≡ d
+pub none-behind : (d : Drops) → together d (dropsIn []) ≡ d
 unfolding dropsIn
 none-behind d = ap₂ (λ (u p : ℕ). record { units = u; pairs = p }) (add-zero (d .units)) (add-zero (d .pairs))
 
-pub one-more : (d : Drops) (o : Outcome) (os : List Outcome) → both (counted d o) (dropsIn os) ≡ both d (dropsIn (o ∷ os))
+pub one-more : (d : Drops) (o : Outcome) (os : List Outcome) → together (counted d o) (dropsIn os) ≡ together d (dropsIn (o ∷ os))
 unfolding dropsIn
 one-more d o os =
     ap₂ (λ (u p : ℕ). record { units = u; pairs = p })

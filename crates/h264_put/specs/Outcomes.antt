@@ -79,3 +79,7 @@ dropsIn os =
 -- one unit more
 abbrev pub counted : Drops → Outcome → Drops
 counted d o = record { units = d .units + one (unitDropped (o .unit)); pairs = d .pairs + one (pairDropped (o .pair)) }
+
+-- those of units and of the units behind them
+abbrev pub together : Drops → Drops → Drops
+together d e = record { units = d .units + e .units; pairs = d .pairs + e .pairs }
