@@ -164,8 +164,10 @@ struct rtp_h264_payloader {
 
 struct rtp_h264_sent {
     struct rtp_refused refused;
-    size_t packets; /* how many packets were written */
-    size_t bytes;   /* how many bytes they have together */
+    size_t packets;       /* how many packets were written */
+    size_t bytes;         /* how many bytes they have together */
+    size_t units_dropped; /* how many units were dropped for the mtu */
+    size_t pairs_dropped; /* how many pairs of parameter sets were dropped for the mtu */
     struct rtp_h264_payloader sender;
 };
 

@@ -62,7 +62,7 @@ use Rattle.joiner.specs.Said.{saidJoined, saidClosed}
 use Rattle.gateway.specs.Refused.{refusedAs, saidBy, testAs}
 use Rattle.gateway.specs.HeaderAnswers.{headerReadAs, lengthAs, headerChangedAs, elementAs, foundBy, idsAs}
 use Rattle.gateway.specs.PacketAnswers.{packetReadAs}
-use Rattle.gateway.specs.H264Answers.{h264SentAs, bodyAs, bodyBy, h264ReadAs}
+use Rattle.gateway.specs.H264Answers.{h264SentAs, countsBy, bodyAs, bodyBy, h264ReadAs}
 use Rattle.gateway.specs.Vp8Answers.{vp8SentAs, vp8ReadAs}
 use Rattle.gateway.specs.JoinerAnswers.{joinedAs, answerBy, closedAs}
 
@@ -129,9 +129,9 @@ packet-read-told (whole.Refused e) h = refusal-told e (record { place = 0; len =
 
 pub h264-sent-told : (a : Payloads) (s : H264Payloader) →
     let r = h264SentAs (record { sender = s; answer = h264.said a; out = []; ends = [] }) in
-    saidBy (r .refused) (record { packets = r .packets; bytes = r .bytes }) ≡ h264.said a
-h264-sent-told (payloads.Written packets bytes) s = refl
-h264-sent-told (payloads.Refused e) s = refusal-told e (record { packets = 0; bytes = 0 })
+    saidBy (r .refused) (countsBy r) ≡ h264.said a
+h264-sent-told (payloads.Written packets bytes units pairs) s = refl
+h264-sent-told (payloads.Refused e) s = refusal-told e (record { packets = 0; bytes = 0; «units_dropped» = 0; «pairs_dropped» = 0 })
 
 pub h264-read-told : (a : Depacketize) (s : Showing) (k : H264Packet) (p g : ℕ) →
     let r = h264ReadAs (record { packet = k; answer = reader.saidDepacketize a; showing = s; gather = []; out = [] }) p g in

@@ -19,6 +19,8 @@ h264SentAs l =
       refused = refusedIn (l .answer);
       packets = numberIn (λ (c : Counts). c .packets) (l .answer);
       bytes = numberIn (λ (c : Counts). c .bytes) (l .answer);
+      «units_dropped» = numberIn (λ (c : Counts). c .«units_dropped») (l .answer);
+      «pairs_dropped» = numberIn (λ (c : Counts). c .«pairs_dropped») (l .answer);
       sender = l .sender;
     }
 
@@ -41,6 +43,16 @@ h264ReadAs h p g =
       bytes = numberIn (λ n. n) (h .answer);
       body = bodyAs (h .showing) p g;
       packet = h .packet;
+    }
+
+-- how a caller reads the counts
+abbrev pub countsBy : RtpH264Sent → Counts
+countsBy r =
+    record {
+      packets = r .packets;
+      bytes = r .bytes;
+      «units_dropped» = r .«units_dropped»;
+      «pairs_dropped» = r .«pairs_dropped»;
     }
 
 -- how a caller finds the body: a part of the payload, or of the gather buffer, or nothing

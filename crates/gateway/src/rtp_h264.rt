@@ -32,6 +32,10 @@ pub struct RtpH264Sent {
     pub packets: usize,
     // how many bytes they have together; 0 beside a refusal
     pub bytes: usize,
+    // how many units were dropped for the mtu; 0 beside a refusal
+    pub units_dropped: usize,
+    // how many pairs of parameter sets were dropped for the mtu; 0 beside a refusal
+    pub pairs_dropped: usize,
     // the sender for the next frame; as it came beside a refusal
     pub sender: H264Payloader,
 }
@@ -63,16 +67,25 @@ fn h264_sent(answer: Sent) -> RtpH264Sent
     let payloads = answer.answer;
     let sender = answer.sender;
     match payloads {
-        Payloads::Written { packets, bytes } => RtpH264Sent {
+        Payloads::Written {
+            packets,
+            bytes,
+            units_dropped,
+            pairs_dropped,
+        } => RtpH264Sent {
             refused: answered(),
             packets,
             bytes,
+            units_dropped,
+            pairs_dropped,
             sender,
         },
         Payloads::Refused(e) => RtpH264Sent {
             refused: refusal(e),
             packets: 0,
             bytes: 0,
+            units_dropped: 0,
+            pairs_dropped: 0,
             sender,
         },
     }

@@ -46,7 +46,7 @@ pub extern "C" fn rtp_sizes() -> RtpSizes
         packet_read: 1264,
         parameter_set: 1032,
         h264_payloader: 2064,
-        h264_sent: 2104,
+        h264_sent: 2120,
         h264_packet: 16,
         body: 24,
         h264_read: 72,

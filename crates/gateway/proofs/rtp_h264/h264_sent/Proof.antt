@@ -1,6 +1,7 @@
 -- Each arm lays out what the variant that it matched says.
 use mathlib.Core.Path.{sym, ap, _∙_}
 use mathlib.Core.List.{[]}
+use Prim.Native.Nat.{ℕ}
 use borrow.Author.Needs.{needs}
 use Rattle.h264.specs.declared.send.H264Payloader.{H264Payloader}
 use Rattle.h264.specs.declared.send.Payloads.{Payloads}
@@ -14,17 +15,29 @@ use Rattle.gateway.proofs.rtp_h264.h264_sent.Tie as tie
 abbrev laid : H264Payloader → Payloads → RtpH264Sent
 laid sender answer = h264SentAs (record { sender = sender; answer = said answer; out = []; ends = [] })
 
+-- the counts and the sender, beside what is said of a refusal
+abbrev beside : (packets bytes units pairs : ℕ) → H264Payloader → Refused → RtpH264Sent
+beside packets bytes units pairs sender x =
+    record {
+      refused = x;
+      packets = packets;
+      bytes = bytes;
+      «units_dropped» = units;
+      «pairs_dropped» = pairs;
+      sender = sender;
+    }
+
 returns : tie.Need-returns
 returns c =
     let sender = c .before .before .before .before .before .args .answer .sender in
     let counts = c .before .before .payloads .given .0 in
-    ap (λ (x : Refused). record { refused = x; packets = counts .0; bytes = counts .1 .0; sender = sender }) (c .answered .ensures)
+    ap (beside (counts .0) (counts .1 .0) (counts .1 .1 .0) (counts .1 .1 .1 .0) sender) (c .answered .ensures)
     ∙ sym (ap (laid sender) (c .before .before .payloads .given .1))
 
 returns-2 : tie.Need-returns-2
 returns-2 c =
     let sender = c .before .before .before .before .before .args .answer .sender in
-    ap (λ (x : Refused). record { refused = x; packets = 0; bytes = 0; sender = sender }) (c .refusal .ensures)
+    ap (beside 0 0 0 0 sender) (c .refusal .ensures)
     ∙ sym (ap (laid sender) (c .before .before .payloads2 .given .1))
 
 pub h264-sent-spec : {M : Type 1} → statement M
