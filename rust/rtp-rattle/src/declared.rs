@@ -52,7 +52,7 @@ same! {
     RtpPacketRead is sys::PacketRead { refused, at, len, header }
     ParameterSet is sys::ParameterSet { bytes, len }
     H264Payloader is sys::H264Payloader { sps, pps }
-    RtpH264Sent is sys::H264Sent { refused, packets, bytes, sender }
+    RtpH264Sent is sys::H264Sent { refused, packets, bytes, units_dropped, pairs_dropped, sender }
     H264Packet is sys::H264Packet { is_avc, gathered }
     RtpBody is sys::Body { lies_in, at, len }
     RtpH264Read is sys::H264Read { refused, bytes, body, packet }

@@ -79,6 +79,8 @@ pub struct H264Sent {
     pub refused: Refused,
     pub packets: usize,
     pub bytes: usize,
+    pub units_dropped: usize,
+    pub pairs_dropped: usize,
     pub sender: H264Payloader,
 }
 

@@ -117,6 +117,28 @@ static void h264(void) {
     CHECK(rtp_h264_is_partition_tail(true) && !rtp_h264_is_partition_tail(false));
 }
 
+/* Of 67AA, 68BB, 650102 what does not fit the mtu is counted; behind them a set of 1,025 bytes, beside whose refusal nothing is. */
+static void dropped(void) {
+    static const uint8_t frame[20 + 1024] = {0, 0, 1, 0x67, 0xAA, 0, 0, 1, 0x68, 0xBB, 0, 0, 1, 0x65, 1, 2, 0, 0, 1, 0x67};
+    static const struct {
+        size_t mtu, len;
+        uint8_t refused;
+        size_t packets, bytes, units, pairs;
+    } cases[] = {
+        {9, 16, 0, 2, 12, 0, 0}, {8, 16, 0, 1, 3, 0, 1}, {2, 16, 0, 0, 0, 1, 1},
+        {0, 16, 0, 0, 0, 0, 0},  {2, 0, 0, 0, 0, 0, 0},  {2, sizeof frame, RTP_OVER_LIMITS, 0, 0, 0, 0},
+    };
+    for (size_t i = 0; i < sizeof cases / sizeof *cases; i++) {
+        uint8_t out[16];
+        size_t ends[4];
+        struct rtp_h264_sent sent =
+            rtp_h264_payload(rtp_h264_payloader_new(), cases[i].mtu, frame, cases[i].len, out, sizeof out, ends, 4);
+        CHECK(sent.refused.number == cases[i].refused && sent.packets == cases[i].packets && sent.bytes == cases[i].bytes);
+        CHECK(sent.units_dropped == cases[i].units && sent.pairs_dropped == cases[i].pairs);
+        CHECK(sent.bytes == 0 || SAME(out + sent.bytes - 3, "\x65\1\2"));
+    }
+}
+
 static void vp8(void) {
     struct rtp_vp8_payloader payloader = {.enable_picture_id = true, .picture_id = 127};
     uint8_t out[16];
@@ -193,6 +215,7 @@ int main(void) {
     extensions();
     packets();
     h264();
+    dropped();
     vp8();
     joining();
     limits();

@@ -153,6 +153,26 @@ fn parameter_pair() {
     assert_eq!((sender.sps_nalu(), sender.pps_nalu()), (&b""[..], &b""[..]));
 }
 
+// "The frame call adds up how many units and pairs were dropped for the mtu .. at mtu 0 both are 0."
+#[test]
+fn dropped_for_the_mtu() {
+    let frame = b"\x00\x00\x01\x67\xAA\x00\x00\x01\x68\xBB\x00\x00\x01\x65\x01\x02";
+    let (mut out, mut ends) = ([0xEE; 64], [0; 8]);
+    let mut counts = |mtu, frame: &[u8]| {
+        let sent = H264Payloader::new().payload(mtu, frame, &mut out, &mut ends)?;
+        Ok((sent.len(), sent.units_dropped(), sent.pairs_dropped()))
+    };
+    assert_eq!(counts(9, frame), Ok((2, 0, 0)));
+    assert_eq!(counts(8, frame), Ok((1, 0, 1)));
+    assert_eq!(counts(2, frame), Ok((0, 1, 1)));
+    assert_eq!(counts(0, frame), Ok((0, 0, 0)));
+    assert_eq!(counts(2, b""), Ok((0, 0, 0)));
+
+    // a set of 1,025 bytes behind them: refused, and nothing is counted
+    let over = [frame, &b"\x00\x00\x01\x67"[..], &[0xAA; 1024]].concat();
+    assert_eq!(counts(2, &over), Err(Error::OverLimits));
+}
+
 // "`65 01 00 00 00 01 ..` after a start code: unit 6501."
 #[test]
 fn zeros_belong_to_the_code() {

@@ -43,13 +43,14 @@ impl H264Payloader {
     }
 
     /// The payloads of a frame, each of at most `mtu` bytes. They are written one behind the other to `out`, and their ends to `ends`.
+    /// Beside them, what was dropped for the mtu.
     pub fn payload<'a>(
         &mut self,
         mtu: usize,
         frame: &[u8],
         out: &'a mut [u8],
         ends: &'a mut [usize],
-    ) -> Result<Payloads<'a>> {
+    ) -> Result<Sent<'a>> {
         // SAFETY: the slices are lent for the call, and those that are written overlap nothing.
         let sent = unsafe {
             sys::rtp_h264_payload(
@@ -65,9 +66,47 @@ impl H264Payloader {
         };
         sent.refused.check()?;
         self.0 = sent.sender;
-        Ok(Payloads::new(&out[..sent.bytes], &ends[..sent.packets]))
+        Ok(Sent {
+            payloads: Payloads::new(&out[..sent.bytes], &ends[..sent.packets]),
+            units_dropped: sent.units_dropped,
+            pairs_dropped: sent.pairs_dropped,
+        })
     }
 }
+
+/// The payloads of a frame, in order, and how much of it was dropped for the mtu.
+#[derive(Clone, Debug)]
+pub struct Sent<'a> {
+    payloads: Payloads<'a>,
+    units_dropped: usize,
+    pairs_dropped: usize,
+}
+
+impl Sent<'_> {
+    /// How many units were dropped for the mtu: one that does not fit an mtu under 3 cannot go in fragments either.
+    pub fn units_dropped(&self) -> usize {
+        self.units_dropped
+    }
+
+    /// How many pairs of parameter sets were dropped for the mtu: their STAP-A does not fit, and they are forgotten.
+    pub fn pairs_dropped(&self) -> usize {
+        self.pairs_dropped
+    }
+}
+
+impl<'a> Iterator for Sent<'a> {
+    type Item = &'a [u8];
+
+    fn next(&mut self) -> Option<&'a [u8]> {
+        self.payloads.next()
+    }
+
+    fn size_hint(&self) -> (usize, Option<usize>) {
+        self.payloads.size_hint()
+    }
+}
+
+impl ExactSizeIterator for Sent<'_> {}
 
 /// Reads payloads. It keeps the fragments of an unfinished unit in a gather buffer of its own.
 #[derive(Clone)]
