@@ -1,9 +1,9 @@
 -- The counts, read off the units: each unit that cannot go and each pair that is due and does not fit is counted once, over one frame or many; so where
 -- both counts are 0 nothing is left out for the mtu. Unit by unit, and stretch by stretch of a course. Assumes nothing.
-use mathlib.Core.Path.{_≡_, refl, sym, ap, ap₂, subst, _∙_}
+use mathlib.Core.Path.{_≡_, refl, sym, ap, ap₂, _∙_}
 use mathlib.Core.List.{List, [], _∷_, _++_, append-nil}
 use mathlib.Core.Bool.{Bool, true, false, cond, not, _&&_, _||_, or-true}
-use Prim.Native.Nat.{ℕ, _+_, _*_, _≤_, _<_}
+use Prim.Native.Nat.{ℕ, _+_, _*_, _≤_}
 use native.Mathlib.Decide.{decLe}
 use native.Mathlib.Omega.{arith}
 use lib.Dec.{eqb, leb}
@@ -12,13 +12,12 @@ use borrow.Author.Tests.{le-leb, lt-leb}
 use Rattle.annexb.specs.Units.{units, unitsAt}
 use Rattle.h264_put.specs.declared.fate.Fate.{Fate}
 use Rattle.h264_put.specs.declared.fate.Fate.the-variants.{Empty, Dropped, Sps, Pps, Coded}
-use Rattle.h264_put.specs.declared.outcome.UnitOutcome.{UnitOutcome}
 use Rattle.h264_put.specs.declared.outcome.UnitOutcome.the-variants as unit
 use Rattle.h264_put.specs.declared.outcome.PairOutcome.{PairOutcome}
 use Rattle.h264_put.specs.declared.outcome.Outcome.{Outcome}
 use Rattle.h264_put.specs.declared.outcome.Drops.{Drops}
 use Rattle.h264_put.specs.Groups.{Saved, nothingSaved, bothSaved, fateOf, keep, keepAll, groupsOf}
-use Rattle.h264_put.specs.Outcomes.{unitOutcome, pairOutcome, outcomeBy, outcomeFor, outcomesOf, unitDropped, pairDropped, one, howMany, dropsIn, together}
+use Rattle.h264_put.specs.Outcomes.{pairOutcome, outcomeBy, outcomeFor, outcomesOf, unitDropped, pairDropped, one, howMany, dropsIn, together}
 use Rattle.h264_put.proofs.Outcomes.{not-due, due-over, due-sent}
 use Rattle.h264.specs.Conformance.{unitsIn, carriedIn, isCoded, goesOut, thoseThat}
 use Rattle.h264.specs.Course.{latest, NoPair, Course, quiet, due, unitsOf, Right, Coursed, setsOf, pairFits, isDropped, cannotGo, replaced, pairsOver, leftOut, total, Same}

@@ -12,7 +12,6 @@ use Rattle.annexb.specs.Units.{unitsAt}
 use Rattle.annexb.specs.AnnexB.{Prefixed, written, Apart, unitsWritten}
 use Rattle.h264_put.specs.declared.fate.Fate.the-variants.{Sps, Pps, Coded}
 use Rattle.h264_put.specs.Groups.{Saved, bothSaved, pair, fragments, fateOf, keep, keepAll, unitFor, groupsFor, groupsOf, packetsOfGroup, packetsOf}
-use Rattle.h264_put.specs.declared.outcome.Drops.{Drops}
 use Rattle.h264_put.specs.Outcomes.{outcomeFor, outcomesOf, dropsIn}
 use Rattle.h264.specs.declared.send.H264Payloader.{H264Payloader}
 use Rattle.h264.specs.Payload.{left, payloadOf}

@@ -4,12 +4,12 @@ use mathlib.Core.Path.{_≡_, refl, sym, ap, ap₂, subst, subst₂, _∙_}
 use mathlib.Core.List.{List, [], _∷_, _++_}
 use mathlib.Core.Bool.{Bool, true, false, cond, _&&_, _||_, true≢false, and-eq-true-iff}
 use mathlib.Core.Logic.{_⊎_, inl, inr, ⊎-elim}
-use Prim.Native.Nat.{ℕ, _+_, _-_, _%_, _≤_, _<_}
+use Prim.Native.Nat.{ℕ, _+_, _-_, _%_, _≤_}
 use native.Mathlib.Decide.{decLe}
 use native.Mathlib.Omega.{arith}
 use lib.Dec.{eqb, leb, ltb}
 use lib.ListN.{length}
-use borrow.Author.Tests.{eqb-true, eqb-false, ltb-true, le-leb, lt-leb}
+use borrow.Author.Tests.{eqb-true, eqb-false, le-leb, lt-leb}
 use Rattle.h264_put.specs.declared.fate.Fate.{Fate}
 use Rattle.h264_put.specs.declared.fate.Fate.the-variants.{Empty, Dropped, Sps, Pps, Coded}
 use Rattle.h264_put.specs.declared.outcome.UnitOutcome.{UnitOutcome}
@@ -22,7 +22,7 @@ use Rattle.h264_put.specs.Outcomes.{unitOutcome, pairOutcome, outcomeBy, outcom
 use Rattle.h264_put.proofs.UnitFates.{fate-coded}
 use Rattle.h264_put.proofs.Outcomes.{sent-alone, dropped-under, sent-divided}
 use Rattle.h264.specs.Conformance.{unitsIn, carriedIn}
-use Rattle.h264.specs.Telling.{Typed, Other, pairsIn, ChangedTo, Gone, UnitSeen, PairSeen, setsSent, unitSent, Tells, Step, TellsAlways, ourStep}
+use Rattle.h264.specs.Telling.{Typed, Other, pairsIn, Gone, UnitSeen, PairSeen, setsSent, unitSent, Tells, Step, TellsAlways, ourStep}
 use Rattle.h264.proofs.Accounts.{carried-append, unit-carried}
 use Rattle.h264.proofs.LeftOut.{units-append, pair-carries, unit-carries}
 

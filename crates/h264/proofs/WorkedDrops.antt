@@ -1,6 +1,6 @@
 -- Worked frames, as they compute: what became of each unit and of the pair at it, and what a call of a fresh sender answers. Assumes nothing.
 use mathlib.Core.Path.{_≡_, refl}
-use mathlib.Core.List.{List, [], _∷_, _++_, map}
+use mathlib.Core.List.{List, [], _∷_, map}
 use Prim.Native.Nat.{ℕ}
 use lib.ListN.{replicate}
 use Rattle.error.specs.Said.{Said, says, refuse}

@@ -3,7 +3,6 @@ use mathlib.Core.Path.{ap₂}
 use Prim.Native.Nat.{ℕ, _+_}
 use native.Mathlib.Omega.{arith}
 use borrow.Author.Needs.{needs}
-use Rattle.h264_put.specs.declared.outcome.Drops.{Drops}
 use Rattle.h264_put.specs.Outcomes.{unitDropped, pairDropped}
 use Rattle.h264_put.proofs.Outcomes.{one-at-most}
 use Rattle.h264_put.proofs.outcome.Drops.and.Statement.{statement}
