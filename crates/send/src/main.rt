@@ -32,6 +32,8 @@ fn first() -> Sending {
         time: 0,
         frames: 0,
         packets: 0,
+        units_dropped: 0,
+        pairs_dropped: 0,
         sets: status::NO_SETS,
         status: files.status,
     }
@@ -61,7 +63,15 @@ fn play(
     }
 }
 
-// The account: what was sent, and the number after the last, by which a joiner is closed.
+// What is told where all went well.
+fn told(s: Sending) -> u8 {
+    if s.units_dropped != 0 || s.pairs_dropped != 0 {
+        return status::DROPPED;
+    }
+    s.sets
+}
+
+// The account: what was sent, what was dropped, and the number after the last, by which a joiner is closed.
 fn account(s: Sending) -> u8 {
     if s.status != status::DONE {
         return s.status;
@@ -72,9 +82,11 @@ fn account(s: Sending) -> u8 {
     let text = Text::new()
         .number(b"access units ", s.frames)
         .number(b"\npackets ", s.packets)
+        .number(b"\nunits dropped for the mtu ", s.units_dropped)
+        .number(b"\npairs dropped for the mtu ", s.pairs_dropped)
         .number(b"\nend ", s.number as u64)
         .word(b"\n");
-    stream::finish(text, s.to, s.sets)
+    stream::finish(text, s.to, told(s))
 }
 
 fn main() {

@@ -29,7 +29,11 @@ pub struct Sending {
     // how many were written
     pub frames: u64,
     pub packets: u64,
-    // NO_SETS until a pair of parameter sets was among them
+    // how many units were dropped for the mtu
+    pub units_dropped: u64,
+    // how many pairs of parameter sets were
+    pub pairs_dropped: u64,
+    // NO_SETS until a pair was among the packets
     pub sets: u8,
     // DONE while all goes well
     pub status: u8,
@@ -139,7 +143,16 @@ impl Sending {
         self.sender = after;
         let answer = sent.answer;
         match answer {
-            Payloads::Written { packets, bytes: _ } => self.write(packets, out, ends),
+            Payloads::Written {
+                packets,
+                bytes: _,
+                units_dropped: units,
+                pairs_dropped: pairs,
+            } => {
+                self.units_dropped = std::num::wrapping_add_u64(self.units_dropped, units as u64);
+                self.pairs_dropped = std::num::wrapping_add_u64(self.pairs_dropped, pairs as u64);
+                self.write(packets, out, ends)
+            }
             Payloads::Refused(e) => self.ended(status_of(e)),
         }
     }

@@ -29,8 +29,11 @@ pub const LONG_SET: u8 = 7;
 // The closing number cannot be the one after the last.
 pub const WRONG_END: u8 = 8;
 
-// All went well, but no parameter sets were sent.
+// All went well, but no pair of parameter sets comes before a unit that is sent.
 pub const NO_SETS: u8 = 9;
+
+// All went well, but units or pairs of parameter sets were dropped for the mtu.
+pub const DROPPED: u8 = 10;
 
 const LISTENER: i32 = 9;
 
