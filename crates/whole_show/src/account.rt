@@ -8,28 +8,32 @@ use libc::STDOUT_FILENO;
 pub const SENT: usize = 0;
 
 pub const GROUPS: usize = 1;
+// groups that are pairs of parameter sets, and pairs that were dropped for the mtu
+pub const PAIRS: usize = 2;
+
+pub const PAIRS_DROPPED: usize = 3;
 // calls, and what they answered
-const ARRIVED: usize = 2;
+const ARRIVED: usize = 4;
 
-const ACCEPTED: usize = 3;
+const ACCEPTED: usize = 5;
 
-const LATE: usize = 4;
+const LATE: usize = 6;
 
-const FOREIGN: usize = 5;
+const FOREIGN: usize = 7;
 
-const UNREADABLE: usize = 6;
+const UNREADABLE: usize = 8;
 // packets that were missed, by the joiner's count
-const MISSED: usize = 7;
+const MISSED: usize = 9;
 // groups that were handed out, and their bytes
-const HANDED: usize = 8;
+const HANDED: usize = 10;
 
-const BYTES: usize = 9;
-// what is not as the theorem says
-const UNLIKE: usize = 10;
+const BYTES: usize = 11;
+// what is not as the theorem says, counts of what was dropped included
+const UNLIKE: usize = 12;
 // of the show at hand: the largest that arrived so far, and the packet after which all were accepted up to it
-pub const NEWEST: usize = 11;
+pub const NEWEST: usize = 13;
 
-pub const AFTER: usize = 12;
+pub const AFTER: usize = 14;
 
 pub fn add(account: &mut Table, figure: usize, n: usize) {
     let sum = plus(list::entry(account, figure), n);
@@ -68,7 +72,7 @@ pub fn closed(account: &mut Table, missed: usize) {
 
 pub fn report(name: &[u8], account: &Table) {
     io::write_all(STDOUT_FILENO, name);
-    for k in 0..11 {
+    for k in 0..13 {
         io::write_all(STDOUT_FILENO, b" ");
         io::print_decimal(STDOUT_FILENO, list::entry(account, k) as u64);
     }

@@ -5,21 +5,30 @@
 // second one or 0. Where no group ends they are 0.
 use crate::account;
 use crate::account::GROUPS;
+use crate::account::PAIRS;
+use crate::account::PAIRS_DROPPED;
 use crate::account::SENT;
 use crate::list;
 use crate::list::Store;
 use crate::list::Table;
 use crate::list::plus;
+use crate::send::Sending;
 use crate::show;
 
 pub struct Groups {
     // how many
     pub count: usize,
+    // how many of them are pairs of parameter sets
+    pub pairs: usize,
     // their last packet
     pub last: usize,
     // the units that are saved parameter sets, 0 for none
     pub sps: usize,
     pub pps: usize,
+    // how many units are dropped for the mtu
+    pub units_dropped: usize,
+    // how many pairs of parameter sets are
+    pub pairs_dropped: usize,
 }
 
 // Where row i stands.
@@ -58,6 +67,9 @@ impl Groups {
             if 0 < self.pps {
                 if len <= plus(mtu, 3) {
                     self = self.group(1, self.sps, self.pps, rows);
+                    self.pairs = plus(self.pairs, 1);
+                } else {
+                    self.pairs_dropped = plus(self.pairs_dropped, 1);
                 }
                 self.sps = 0;
                 self.pps = 0;
@@ -66,17 +78,23 @@ impl Groups {
         self
     }
 
-    // "Empty units and types 9, 12 are dropped; 7, 8 are saved." "A unit that fits goes alone, else as FU-A"
+    // "A unit that fits goes alone, else as FU-A with at most mtu - 2 bytes each; under mtu 3 it is dropped."
+    fn coded(mut self, u: usize, mtu: usize, ends: &Table, rows: &mut Table) -> Groups {
+        let packets = packets_of(std::num::wrapping_sub_usize(list::len(ends, u), 4), mtu);
+        if packets == 0 {
+            self.units_dropped = plus(self.units_dropped, 1);
+            return self;
+        }
+        self.group(packets, u, 0, rows)
+    }
+
+    // "Empty units and types 9, 12 are dropped; 7, 8 are saved."
     fn unit(mut self, u: usize, head: u8, mtu: usize, ends: &Table, rows: &mut Table) -> Groups {
         match head % 32 {
             0 | 9 | 12 => {}
             7 => self.sps = u,
             8 => self.pps = u,
-            _ => {
-                let packets = packets_of(std::num::wrapping_sub_usize(list::len(ends, u), 4), mtu);
-                self = self.pair(mtu, ends, rows);
-                self = self.group(packets, u, 0, rows);
-            }
+            _ => self = self.pair(mtu, ends, rows).coded(u, mtu, ends, rows),
         }
         self
     }
@@ -87,15 +105,26 @@ fn handed_out(head: u8, len: usize, mtu: usize) -> u8 {
     if plus(mtu, 4) < len { head % 128 } else { head }
 }
 
-// The groups of a show. In the list the units then stand as they are handed out.
-pub fn of(show: usize, bytes: &mut Store, ends: &Table, rows: &mut Table, account: &mut Table) {
+// The groups of a show; the sender's counts of what was dropped are held to theirs. In the list the units then stand as they are handed
+// out.
+pub fn of(
+    show: usize,
+    sent: Sending,
+    bytes: &mut Store,
+    ends: &Table,
+    rows: &mut Table,
+    account: &mut Table,
+) {
     let count = show::units(show);
     let mtu = show::mtu(show);
     let mut groups = Groups {
         count: 0,
+        pairs: 0,
         last: plus(count, 4),
         sps: 0,
         pps: 0,
+        units_dropped: 0,
+        pairs_dropped: 0,
     };
     for k in 0..count {
         let u = plus(k, 5);
@@ -104,8 +133,12 @@ pub fn of(show: usize, bytes: &mut Store, ends: &Table, rows: &mut Table, accoun
         groups = groups.unit(u, head, mtu, ends, rows);
         list::put(bytes, at, handed_out(head, list::len(ends, u), mtu));
     }
-    let sent = std::num::wrapping_sub_usize(groups.last, plus(count, 4));
-    account::add(account, SENT, sent);
+    let packets = std::num::wrapping_sub_usize(groups.last, plus(count, 4));
+    account::add(account, SENT, packets);
     account::add(account, GROUPS, groups.count);
+    account::add(account, PAIRS, groups.pairs);
+    account::add(account, PAIRS_DROPPED, groups.pairs_dropped);
     account::check(account, plus(groups.last, 1) == list::count(ends));
+    account::check(account, sent.units_dropped == groups.units_dropped);
+    account::check(account, sent.pairs_dropped == groups.pairs_dropped);
 }

@@ -1,5 +1,6 @@
 // Whole shows on the proved functions: frames made by a seed, the sender, its packets, a channel made by a seed, the joiner. Each is
-// held to what the theorem of demand 3 says of it, computed here from the frames' units and the arrivals alone.
+// held to what the theorem of demand 3 says of it, and the sender's counts of what was dropped for the mtu to the paper's sentences: both
+// computed here, from the frames' units and the arrivals alone.
 mod account;
 mod channel;
 mod groups;
@@ -21,8 +22,8 @@ fn run(show: usize, account: &mut Table) {
     let mut rows: Table = [0; 4096];
     channel::put_others(&mut bytes, &mut ends);
     units::make(show, &mut bytes, &mut ends);
-    send::send(show, &mut bytes, &mut ends);
-    groups::of(show, &mut bytes, &ends, &mut rows, account);
+    let sent = send::send(show, &mut bytes, &mut ends);
+    groups::of(show, sent, &mut bytes, &ends, &mut rows, account);
     play::play(show, &bytes, &ends, &rows, account);
 }
 
@@ -38,7 +39,7 @@ fn shows(name: &[u8], from: usize, to: usize) {
 fn main() {
     io::write_all(
         libc::STDOUT_FILENO,
-        b"shows      packets groups arrived accepted late foreign unreadable missed handed-out bytes unlike-the-theorem\n",
+        b"shows      packets groups pairs pairs-dropped arrived accepted late foreign unreadable missed handed-out bytes unlike-the-theorem\n",
     );
     shows(b"clean     ", 0, 1);
     shows(b"lossy     ", 1, 2);

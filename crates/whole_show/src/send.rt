@@ -14,6 +14,16 @@ use header::Length;
 // The sender's source.
 pub const SOURCE: u32 = 0x2468ACE0;
 
+// How far a show is sent.
+pub struct Sending {
+    // with the parameter sets saved so far
+    pub sender: H264Payloader,
+    // how many units it said were dropped for the mtu
+    pub units_dropped: usize,
+    // how many pairs of parameter sets it said were
+    pub pairs_dropped: usize,
+}
+
 // A packet from a place on: where it ends. "version 2, no padding, extensions or CSRCs"
 fn put(number: u16, marker: bool, payload: &[u8], bytes: &mut [u8], at: usize) -> usize
     requires { ⌜ at ≤ length (now bytes) ⌝ }
@@ -27,13 +37,6 @@ fn put(number: u16, marker: bool, payload: &[u8], bytes: &mut [u8], at: usize) -
     match packet::marshal_to(header, payload, &mut bytes[at..]) {
         Length::Bytes(n) => plus(at, n),
         Length::Refused(_) => 0,
-    }
-}
-
-fn count_of(answer: Payloads) -> usize {
-    match answer {
-        Payloads::Written { packets, bytes: _ } => packets,
-        Payloads::Refused(_) => 0,
     }
 }
 
@@ -72,26 +75,47 @@ fn frame<'a>(f: usize, bytes: &'a Store, ends: &Table) -> &'a [u8] {
 
 // Frame f through the sender, and its packets into the list.
 fn give(
-    sender: H264Payloader,
+    sending: Sending,
     show: usize,
     f: usize,
     bytes: &mut Store,
     ends: &mut Table,
     out: &mut Store,
     out_ends: &mut Table,
-) -> H264Payloader {
+) -> Sending {
+    let sender = sending.sender;
     let step = sender.payload(show::mtu(show), frame(f, bytes, ends), out, out_ends);
+    let sender = step.sender;
     let answer = step.answer;
-    put_all(show, count_of(answer), out, out_ends, bytes, ends);
-    step.sender
+    match answer {
+        Payloads::Written {
+            packets,
+            bytes: _,
+            units_dropped: units,
+            pairs_dropped: pairs,
+        } => {
+            put_all(show, packets, out, out_ends, bytes, ends);
+            Sending {
+                sender,
+                units_dropped: plus(sending.units_dropped, units),
+                pairs_dropped: plus(sending.pairs_dropped, pairs),
+            }
+        }
+        Payloads::Refused(_) => sending,
+    }
 }
 
 // The frames of a show.
-pub fn send(show: usize, bytes: &mut Store, ends: &mut Table) {
+pub fn send(show: usize, bytes: &mut Store, ends: &mut Table) -> Sending {
     let mut out: Store = [0; 262144];
     let mut out_ends: Table = [0; 4096];
-    let mut sender = H264Payloader::new();
+    let mut sending = Sending {
+        sender: H264Payloader::new(),
+        units_dropped: 0,
+        pairs_dropped: 0,
+    };
     for f in 0..show::frames(show) {
-        sender = give(sender, show, f, bytes, ends, &mut out, &mut out_ends);
+        sending = give(sending, show, f, bytes, ends, &mut out, &mut out_ends);
     }
+    sending
 }

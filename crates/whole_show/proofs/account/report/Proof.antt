@@ -8,7 +8,7 @@ abbrev Inv-loop : tie.InvT-loop
 Inv-loop name account k₀ t4 t5 k = Unit {0}
 
 abbrev μ-loop : tie.MeasureT-loop
-μ-loop name account k₀ t4 t5 k = 11 - k
+μ-loop name account k₀ t4 t5 k = 13 - k
 
 pub report-spec : {M : Type 1} → statement M
 report-spec =

@@ -5,10 +5,10 @@ use Rattle.whole_show.proofs.groups.of.Statement.{statement}
 use Rattle.whole_show.proofs.groups.of.Tie as tie
 
 abbrev Inv-loop : tie.InvT-loop
-Inv-loop show bytes₀ ends rows₀ account count mtu groups₀ k₀ bytes rows groups k = Unit {0}
+Inv-loop show sent bytes₀ ends rows₀ account count mtu groups₀ k₀ bytes rows groups k = Unit {0}
 
 abbrev μ-loop : tie.MeasureT-loop
-μ-loop show bytes₀ ends rows₀ account count mtu groups₀ k₀ bytes rows groups k = count - k
+μ-loop show sent bytes₀ ends rows₀ account count mtu groups₀ k₀ bytes rows groups k = count - k
 
 pub of-spec : {M : Type 1} → statement M
 of-spec =
@@ -31,6 +31,10 @@ of-spec =
     (λ c. search needs)
     (λ c. search needs)
     (λ c. search needs)
+    (λ c κs. tt)
+    (λ c κs. tt)
+    (λ c κs. tt)
+    (λ c κs. tt)
     (λ c κs. tt)
     (λ c κs. tt)
     (λ c κs. tt)

@@ -5,10 +5,10 @@ use Rattle.whole_show.proofs.send.send.Statement.{statement}
 use Rattle.whole_show.proofs.send.send.Tie as tie
 
 abbrev Inv-loop : tie.InvT-loop
-Inv-loop show bytes₀ ends₀ out₀ out-ends₀ sender₀ f₀ f-end bytes ends out out-ends sender f = Unit {0}
+Inv-loop show bytes₀ ends₀ out₀ out-ends₀ sending₀ f₀ f-end bytes ends out out-ends sending f = Unit {0}
 
 abbrev μ-loop : tie.MeasureT-loop
-μ-loop show bytes₀ ends₀ out₀ out-ends₀ sender₀ f₀ f-end bytes ends out out-ends sender f = f-end - f
+μ-loop show bytes₀ ends₀ out₀ out-ends₀ sending₀ f₀ f-end bytes ends out out-ends sending f = f-end - f
 
 pub send-spec : {M : Type 1} → statement M
 send-spec =
