@@ -12,6 +12,11 @@ impl H264Payloader {
         (self.sps_nalu.unwrap_or_default(), self.pps_nalu.unwrap_or_default())
     }
 
+    /// Both sets, where both are saved.
+    pub fn waiting(&self) -> Option<(&Bytes, &Bytes)> {
+        self.sps_nalu.as_ref().zip(self.pps_nalu.as_ref())
+    }
+
     /// Place and length of the first start code from `start` on.
     pub fn start_code(frame: &Bytes, start: usize) -> Option<(usize, usize)> {
         let (place, len) = Self::next_ind(frame, start);

@@ -14,6 +14,7 @@ pub mod vp8;
 
 pub mod binary;
 pub mod limits;
+pub mod outcomes;
 mod questions;
 pub mod record;
 pub mod refusal;
