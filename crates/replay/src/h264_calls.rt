@@ -60,8 +60,16 @@ fn sent(a: &[u8], r: Sent) -> bool {
     let after = r.sender;
     let answer = r.answer;
     let same = match answer {
-        Payloads::Written { packets, bytes } => equal::told(a, 0, packets, bytes, 0),
-        Payloads::Refused(e) => equal::refused(a, e),
+        Payloads::Written {
+            packets,
+            bytes,
+            units_dropped,
+            pairs_dropped,
+        } => {
+            let same = equal::told(a, 0, packets, bytes, units_dropped);
+            equal::number(same, a, 12, pairs_dropped)
+        }
+        Payloads::Refused(e) => equal::number(equal::refused(a, e), a, 12, 0),
     };
     let same = same_set(same, rows::rest(a, 6), after.sps);
     same_set(same, rows::rest(a, 9), after.pps)

@@ -13,6 +13,7 @@ pub mod packetizer;
 pub mod vp8;
 
 pub mod binary;
+pub mod fates;
 pub mod limits;
 pub mod outcomes;
 mod questions;

@@ -116,7 +116,8 @@ impl Read<'_> {
             "h264.send" => {
                 assert_eq!([a[6], a[9]], [7, 10].map(|at| self.row.answer[at].len() as u64));
                 assert_eq!([a[8], a[11]], [0, 0]);
-                format!("ok {} {} {}", bytes(7), bytes(10), self.packets(a))
+                let (sps, pps, packets) = (bytes(7), bytes(10), self.packets(a));
+                format!("ok {sps} {pps} {} {} {packets}", a[3], a[12])
             }
             "h264.read" => {
                 let gathered = hex(&self.row.answer[5][..a[8] as usize]);
@@ -161,6 +162,7 @@ impl Read<'_> {
                 let set = |at: usize, behind: u64| [a[at], number(fields[at + 1]), behind];
                 let came = |at: usize| [n[at], number(q[at + 1]), FILL.into()];
                 assert_eq!([set(6, a[8]), set(9, a[11])], [came(5), came(7)]);
+                assert_eq!([a[3], a[12]], [0, 0]);
             }
             "h264.read" => {
                 assert!(fields[4].is_empty() && fields[6].is_empty());

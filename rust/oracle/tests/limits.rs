@@ -50,7 +50,7 @@ fn longest_payload() {
 #[test]
 fn longest_frame() {
     let (inside, outside) = (bytes(0x65, 16_777_216), bytes(0x65, 16_777_217));
-    begins(&format!("h264.send 65535 - - {inside}"), "ok - - 7c85");
+    begins(&format!("h264.send 65535 - - {inside}"), "ok - - 0 0 7c85");
     begins(&format!("vp8.send 0 0 65535 {inside}"), "ok 1 10");
     asked(&format!("h264.next {inside} 16777216"), "none");
     asked(&format!("h264.send 65535 - - {outside}"), "refused 8");
@@ -105,15 +105,15 @@ fn order_of_h264_reading() {
 fn order_of_h264_sending() {
     let set = |count: usize| format!("67{}", bytes(1, count - 1));
     asked(&format!("h264.send 1 - - {}", set(1_025)), "refused 7");
-    asked(&format!("h264.send 0 - - {}", set(1_025)), "ok - - -");
-    asked(&format!("h264.send 1 - - {} 0 0", set(1_024)), &format!("ok {} - -", set(1_024)));
+    asked(&format!("h264.send 0 - - {}", set(1_025)), "ok - - 0 0 -");
+    asked(&format!("h264.send 1 - - {} 0 0", set(1_024)), &format!("ok {} - 0 0 -", set(1_024)));
     // A set that a later one replaces is saved too; what stands before the first start code is no
     // unit.
     asked(&format!("h264.send 1 - - 000001{}0000016700000165 0 0", set(1_025)), "refused 7");
-    asked(&format!("h264.send 1 - - {}0000016700000165", set(1_025)), "ok 67 - 65");
+    asked(&format!("h264.send 1 - - {}0000016700000165", set(1_025)), "ok 67 - 0 0 65");
     asked("h264.send 1 - - 65 0 1", "refused 5");
     asked("h264.send 1 - - 65 1 0", "refused 5");
-    asked("h264.send 1 - - 65 1 1", "ok - - 65");
+    asked("h264.send 1 - - 65 1 1", "ok - - 0 0 65");
 }
 
 #[test]
@@ -146,7 +146,7 @@ fn unreadable() {
 fn the_rust_alone() {
     let asked = |question: &str| Judge::Rust.answer(question);
     assert_eq!(asked("h264.send 65536 - - 65"), "outside");
-    assert_eq!(asked("h264.send 1 - - 65 0 0"), "ok - - 65");
+    assert_eq!(asked("h264.send 1 - - 65 0 0"), "ok - - 0 0 65");
     assert_eq!(asked("h264.read 0 01 7c4501 1 0"), "ok - 00000001650101");
     assert_eq!(asked("header.write 2 0 1 0 96 1 2 3 - 48862 010000 0 40 0"), "outside");
 }

@@ -78,22 +78,22 @@ fn padding() {
 // "*mtu 4, `000001 650102030405`: `7C850102`, `7C050304`, `7C4505`; mtu 2: none."
 #[test]
 fn fragments() {
-    asked("h264.send 4 - - 000001650102030405", "ok - - 7c850102,7c050304,7c4505");
-    asked("h264.send 2 - - 000001650102030405", "ok - - -");
+    asked("h264.send 4 - - 000001650102030405", "ok - - 0 0 7c850102,7c050304,7c4505");
+    asked("h264.send 2 - - 000001650102030405", "ok - - 1 0 -");
 }
 
 // "*67AA, 68BB, 650102 at mtu 9: `78 0002 67AA 0002 68BB`, `650102`; at 8 only `650102`."
 #[test]
 fn parameter_pair() {
     let frame = "00000167aa00000168bb000001650102";
-    asked(&format!("h264.send 9 - - {frame}"), "ok - - 78000267aa000268bb,650102");
-    asked(&format!("h264.send 8 - - {frame}"), "ok - - 650102");
+    asked(&format!("h264.send 9 - - {frame}"), "ok - - 0 0 78000267aa000268bb,650102");
+    asked(&format!("h264.send 8 - - {frame}"), "ok - - 0 1 650102");
 }
 
 // "`65 01 00 00 00 01 ..` after a start code: unit 6501."
 #[test]
 fn zeros_belong_to_the_code() {
-    asked("h264.send 100 - - 00000165010000000141", "ok - - 6501,41");
+    asked("h264.send 100 - - 00000165010000000141", "ok - - 0 0 6501,41");
     asked("h264.next 00000165010000000141 3", "at 5 4");
 }
 

@@ -22,12 +22,13 @@ pub fn send(fields: Fields, mut asked: Tokens, mut told: Told) -> Both {
     let set = |fields: Fields, set: &Bytes| fields.number(set.len() as u64).bytes(set);
     let question = before.iter().fold(question, set);
     let after = [told.bytes()?, told.bytes()?];
+    let (units, pairs) = (told.number()?, told.number()?);
     let (out, ends) = told.packets()?;
-    let answer = told.or([ends.len() as u64, out.len() as u64, 0]).bytes(out).words(ends);
+    let answer = told.or([ends.len() as u64, out.len() as u64, units]).bytes(out).words(ends);
     // Unless it refuses, the sender is laid out anew, with zeros behind its sets.
     let (sets, behind) = if told.refusal.is_some() { (before, FILL) } else { (after, 0) };
     let whole_set = |fields: Fields, each: &Bytes| set(fields, each).number(behind.into());
-    Ok((question, sets.iter().fold(answer, whole_set)))
+    Ok((question, sets.iter().fold(answer, whole_set).number(pairs)))
 }
 
 pub fn read(fields: Fields, mut asked: Tokens, mut told: Told) -> Both {

@@ -5,7 +5,8 @@ use bytes::Bytes;
 use super::Answer;
 use crate::h264::{H264Packet, H264Payloader};
 use crate::limits;
-use crate::packetizer::{Depacketizer, Payloader};
+use crate::outcomes::{self, Drops};
+use crate::packetizer::Depacketizer;
 use crate::refusal::{caught, Refusal};
 use crate::text::{hex, packets, Tokens};
 use crate::Judge;
@@ -40,10 +41,12 @@ fn send(judge: Judge, mtu: usize, sets: [Bytes; 2], frame: Bytes, room: (usize, 
     judge.limit(7, limits::sets_saved(&frame, mtu))?;
     let [sps, pps] = sets;
     let mut sender = H264Payloader::holding(sps, pps);
-    let sent = sender.payload(mtu, &frame)?;
-    judge.limit(5, limits::packets_fit(&sent, room))?;
+    let sent = outcomes::send(&mut sender, mtu, &frame)?;
+    judge.limit(5, limits::packets_fit(&sent.packets, room))?;
     let (sps, pps) = sender.held();
-    Ok(format!("ok {} {} {}", hex(&sps), hex(&pps), packets(&sent)))
+    let Drops { units, pairs } = sent.drops();
+    let packets = packets(&sent.packets);
+    Ok(format!("ok {} {} {units} {pairs} {packets}", hex(&sps), hex(&pps)))
 }
 
 fn read(judge: Judge, is_avc: bool, run: Bytes, packet: Bytes, room: (usize, usize)) -> Answer {

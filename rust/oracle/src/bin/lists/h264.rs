@@ -23,6 +23,8 @@ pub fn rows(list: &mut List) {
     long_units(list);
     reading_limits(list);
     shows(list);
+    drops(list);
+    list.must_have_every_fate();
 }
 
 fn published(list: &mut List) {
@@ -321,17 +323,32 @@ fn shows(list: &mut List) {
             let mtu = list.random.pick(&[0, 2, 3, 4, 5, 9, 12, 30]);
             let frame = frame(&mut list.random);
             let answer = send(list, mtu, &sets, &frame);
-            let Some((saved, packets)) =
-                answer.strip_prefix("ok ").and_then(|rest| rest.rsplit_once(' '))
-            else {
+            let words: Vec<&str> = answer.split(' ').collect();
+            let ["ok", sps, pps, _, _, packets] = words[..] else {
                 continue;
             };
-            sets = saved.to_string();
+            sets = format!("{sps} {pps}");
             for packet in packets.split(',').filter(|packet| *packet != "-").take(6) {
                 let packet = bytes(packet);
                 let packet =
                     if list.random.one_in(6) { list.random.damaged(&packet) } else { packet };
                 run = next_run(read(list, avc, &run, &packet), run);
+            }
+        }
+    }
+}
+
+/// Frames with a pair between each two of their units, of which some or all are dropped for the mtu.
+fn drops(list: &mut List) {
+    let pair = [0, 0, 1, 0x67, 0xEE, 0, 0, 1, 0x68, 0xDD, 0, 0, 1];
+    let units: [&[u8]; 4] = [&[0x65], &[0x65, 1], &[0x65, 1, 2], &[0x41; 13]];
+    for sets in ["- -", "67aa 68bb", "6701 680102"] {
+        for mtu in 0..=12 {
+            send(list, mtu, sets, &[]);
+            for at in 0..units.len() {
+                let [first, second, third] = [at, at + 1, at + 2].map(|at| units[at % units.len()]);
+                let frame = [&[0, 0, 1], first, &pair, second, &pair, third].concat();
+                send(list, mtu, sets, &frame);
             }
         }
     }

@@ -4,7 +4,7 @@ use std::collections::{BTreeMap, HashSet};
 use std::io::Write;
 use std::process::exit;
 
-use oracle::binary;
+use oracle::{binary, fates};
 
 use crate::random::Random;
 
@@ -55,6 +55,15 @@ impl List {
             self.ask(format!("{question} {total} {}", count - 1));
         }
         answer
+    }
+
+    /// Stops unless everything that can become of a unit and of a pair occurs.
+    pub fn must_have_every_fate(&self) {
+        let rows = self.rows.iter().map(|(question, answer)| (&question[..], &answer[..]));
+        let missing = fates::missing(rows);
+        if !missing.is_empty() {
+            fail(&format!("no question has {}", missing.join("; ")));
+        }
     }
 
     pub fn print(&self) {
