@@ -2,7 +2,8 @@
 
 use bytes::Bytes;
 use oracle::h264::{H264Packet, H264Payloader};
-use oracle::packetizer::{Depacketizer, Payloader};
+use oracle::outcomes::{self, Drops};
+use oracle::packetizer::Depacketizer;
 use rtp_rattle::codecs::h264::{H264Packet as OurPacket, H264Payloader as OurPayloader};
 
 use crate::lent::Lent;
@@ -29,13 +30,14 @@ impl Sender {
         frame: &Bytes,
     ) -> Vec<Bytes> {
         let mut next = self.theirs.clone();
-        let theirs = Theirs::of(|| next.payload(mtu, frame));
-        let packets = theirs.answer().cloned().unwrap_or_default();
+        let theirs = Theirs::of(|| outcomes::send(&mut next, mtu, frame));
+        let packets = theirs.answer().map_or(vec![], |sent| sent.packets.clone());
         let mut lent = Lent::around(random, &packets);
         let mut changed = self.ours.clone();
-        let answer = changed
-            .payload(mtu, frame, &mut lent.out, &mut lent.ends)
-            .map(|payloads| payloads.map(<[u8]>::to_vec).collect::<Vec<_>>());
+        let answer = changed.payload(mtu, frame, &mut lent.out, &mut lent.ends).map(|sent| {
+            let drops = Drops { units: sent.units_dropped(), pairs: sent.pairs_dropped() };
+            (sent.map(<[u8]>::to_vec).collect::<Vec<_>>(), drops)
+        });
         let case = Case {
             before: limits::sending(frame, mtu),
             after: limits::sent(&packets, lent.room()),
@@ -43,8 +45,11 @@ impl Sender {
         };
         let kept = lent.kept_behind(0, 0) && saved(&changed) == saved(&self.ours);
         let (sps, pps) = next.clone().held();
-        case.judge(tally, &answer, &theirs, kept, |ours, theirs| {
-            ours == theirs && lent.holds(theirs) && saved(&changed) == [&sps[..], &pps]
+        case.judge(tally, &answer, &theirs, kept, |(ours, drops), theirs| {
+            *ours == theirs.packets
+                && *drops == theirs.drops()
+                && lent.holds(&theirs.packets)
+                && saved(&changed) == [&sps[..], &pps]
         });
         if answer.is_err() {
             return vec![];
