@@ -102,21 +102,29 @@ pub fn element_data(random: &mut Random) -> Bytes {
     Bytes::from(random.bytes(len))
 }
 
-/// A frame of H.264 units: start codes and zeros of all lengths, sets of all sizes, or no code at all.
+/// A frame of H.264 units: start codes and zeros of all lengths, pairs of short sets, sets of all sizes, or no code at all.
 pub fn h264_frame(random: &mut Random) -> Bytes {
     let mut frame = if random.one_in(4) { noise(random, 6) } else { vec![] };
     for _ in 0..random.below(5) {
-        frame.extend(vec![0; 2 + random.below(4)]);
-        frame.push(1);
-        frame.push(unit_head(random));
-        let len = random.pick(&[0, 1, 2, 3, 5, 9, 30, 90]);
-        frame.extend(noise(random, len));
+        if random.one_in(4) {
+            frame.extend(unit(random, 0x67, &[0, 1, 2]));
+            frame.extend(unit(random, 0x68, &[0, 1, 2]));
+        } else {
+            let head = unit_head(random);
+            frame.extend(unit(random, head, &[0, 1, 2, 3, 5, 9, 30, 90]));
+        }
     }
     if random.one_in(30) {
         frame.extend([0, 0, 1, random.pick(&[0x67, 0x68])]);
         frame.extend(vec![0x5A; 1_022 + random.below(4)]);
     }
     Bytes::from(if random.one_in(4) { random.damaged(&frame) } else { frame })
+}
+
+/// A unit behind a start code: its first byte, and at most one of these lengths.
+fn unit(random: &mut Random, head: u8, lens: &[usize]) -> Vec<u8> {
+    let (zeros, below) = (2 + random.below(4), random.pick(lens));
+    [&vec![0; zeros][..], &[1, head], &noise(random, below)].concat()
 }
 
 fn unit_head(random: &mut Random) -> u8 {
@@ -169,4 +177,29 @@ fn aggregate(random: &mut Random, nri: u8) -> Vec<u8> {
 pub fn vp8_packet(random: &mut Random) -> Bytes {
     let len = random.pick(&[0, 1, 2, 3, 4, 4, 5, 5, 6, 7, 9]);
     Bytes::from(random.bytes(len))
+}
+
+#[cfg(test)]
+mod tests {
+    use oracle::h264::H264Payloader;
+    use oracle::outcomes::{send, Drops};
+
+    use super::*;
+
+    /// How often, of frames that one sender sends.
+    #[test]
+    fn enough_is_dropped_for_the_mtu() {
+        let (mut random, mut sender, frames) = (Random::new(1), H264Payloader::default(), 20_000);
+        let mut counts = [0; 6];
+        for _ in 0..frames {
+            let (mtu, frame) = (mtu(&mut random), h264_frame(&mut random));
+            let waits = mtu <= 12 && sender.waiting().is_some();
+            let sent = send(&mut sender, mtu, &frame).expect("packets");
+            let Drops { units, pairs } = sent.drops();
+            let kinds = [waits, units > 0, pairs > 0, units > 0 && pairs > 0, units > 1, pairs > 1];
+            counts.iter_mut().zip(kinds).for_each(|(count, is)| *count += usize::from(is));
+        }
+        let least = [5, 25, 10, 50, 75, 300].map(|one_in| frames / one_in);
+        assert!(counts.iter().zip(least).all(|(count, least)| *count > least), "{counts:?}");
+    }
 }
