@@ -20,6 +20,7 @@ pub fn all(random: &mut Random, tally: &mut Tally) {
     for len in [FRAME - 1, FRAME, FRAME + 1] {
         frames(random, tally, len);
     }
+    many_drops(random, tally);
     for more in [0, 1] {
         long_run(random, tally, more);
     }
@@ -60,6 +61,13 @@ fn frames(random: &mut Random, tally: &mut Tally, len: usize) {
         let mut sender = Vp8Payloader { enable_picture_id: true, picture_id: 127 };
         vp8::payload(tally, random, &mut sender, mtu, &long(&[], len));
     }
+}
+
+/// Of one frame over a million units and as many pairs are dropped for the mtu.
+fn many_drops(random: &mut Random, tally: &mut Tally) {
+    let pair_and_unit = [0, 0, 1, 0x67, 0, 0, 1, 0x68, 0, 0, 1, 0x41, 0x41];
+    let frame = Bytes::from(pair_and_unit.repeat(FRAME / pair_and_unit.len()));
+    Sender::default().payload(tally, random, 1, &frame);
 }
 
 /// Fragments up to a run of one byte less than may be, then an end with one byte and `more`.

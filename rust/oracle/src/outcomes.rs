@@ -111,7 +111,7 @@ fn outcome(unit: &Bytes, due: Option<Bytes>, packets: &[Bytes]) -> Outcome {
         kind @ (7 | 8) => return without_pair(Unit::Saved(kind)),
         _ => {}
     }
-    // A unit of just these bytes comes second, or in fragments, which begin otherwise.
+    // A unit that is itself such a packet comes second, or in fragments, which begin otherwise.
     let (pair, own) = match (&due, packets) {
         (None, _) => (Pair::NotDue, packets),
         (Some(due), [first, rest @ ..]) if first == due => (Pair::Sent, rest),
