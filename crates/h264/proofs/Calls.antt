@@ -14,10 +14,12 @@ use Rattle.wire.proofs.Packets.{putAll-whole, joined-append}
 use Rattle.h264_measure.specs.declared.Measure.{Measure}
 use Rattle.h264_put.specs.declared.outcome.Drops.{Drops}
 use Rattle.h264.specs.declared.send.H264Payloader.{H264Payloader}
+use Rattle.h264.specs.declared.send.Payloads.{Payloads}
+use Rattle.h264.specs.declared.send.Sent.{Sent}
 use Rattle.annexb.specs.Units.{units, noUnits, unitsAt}
 use Rattle.h264_put.specs.Groups.{Saved, keep, keepAll, groupsFor, groupsOf, packetsOf}
 use Rattle.h264_put.specs.Outcomes.{outcomesOf, dropsIn}
-use Rattle.h264.specs.Payload.{layOut, savedIn, outside, overLimit, tooSmall, Left, refusedWith, emptySink, sentAs, leftBy, payloadOf}
+use Rattle.h264.specs.Payload.{layOut, savedIn, outside, overLimit, tooSmall, said, Left, left, refusedWith, emptySink, sentAs, leftBy, payloadOf}
 use Rattle.h264_put.specs.Step.{tooLong}
 use Rattle.h264.specs.Step.{Tidy, Done}
 use Rattle.h264_measure.specs.Measured.{Lengths, measured, measuredAll, nothingYet}
@@ -59,6 +61,11 @@ module _ (mtu : ℕ) where
   all-long m v (u ∷ us) = all-long (measured m mtu v u) (keep v u) us ∙ or-assoc (m .long) (tooLong u) (overLimit us)
 
 -- ---- the call
+
+-- what a call leaves, by the state and the answer that it hands back
+pub left-by : (r : Sent) (h : H264Payloader) (a : Payloads) (out ends : List ℕ) → r .sender ≡ h → r .answer ≡ a →
+    left r out ends ≡ record { sender = h; answer = said a; out = out; ends = ends }
+left-by r h a out ends p q = ap₂ (λ (x : H264Payloader) (y : Payloads). record { sender = x; answer = said y; out = out; ends = ends }) p q
 
 -- output and table as they stand, and what was dropped, beside the state
 abbrev pub leftWith : H264Payloader → Sink → Drops → Left

@@ -35,11 +35,12 @@ module _ (h : H264Payloader) (mtu : ℕ) (u : List ℕ) (s : Sink) (r : Ready h 
   unfolding outcomeFor
   told-by k e o q = q ∙ sym (ap (λ (x : Fate). outcomeBy x mtu (savedIn h) u) e)
 
-  pub done-empty : fateOf u ≡ Empty → Done (keep (savedIn h) u) (groupsFor mtu (savedIn h) u) s h s
-  done-empty e = done-by Empty e h s (r .tidy .laid) refl
+  pub done-empty : fateOf u ≡ Empty → (h′ : H264Payloader) (s′ : Sink) → h′ ≡ h → s′ ≡ s → Done (keep (savedIn h) u) (groupsFor mtu (savedIn h) u) s h′ s′
+  done-empty e h′ s′ a b = done-by Empty e h′ s′ (a ∙ r .tidy .laid) b
 
-  pub done-dropped : fateOf u ≡ Dropped → Done (keep (savedIn h) u) (groupsFor mtu (savedIn h) u) s h s
-  done-dropped e = done-by Dropped e h s (r .tidy .laid) refl
+  pub done-dropped : fateOf u ≡ Dropped → (h′ : H264Payloader) (s′ : Sink) → h′ ≡ h → s′ ≡ s →
+      Done (keep (savedIn h) u) (groupsFor mtu (savedIn h) u) s h′ s′
+  done-dropped e h′ s′ a b = done-by Dropped e h′ s′ (a ∙ r .tidy .laid) b
 
   -- a set that is saved is within the limit
   short-by : (k : Fate) → fateOf u ≡ k → isSaved k ≡ true → length u ≤ 1024
@@ -53,17 +54,17 @@ module _ (h : H264Payloader) (mtu : ℕ) (u : List ℕ) (s : Sink) (r : Ready h 
   pub short-pps : fateOf u ≡ Pps → length u ≤ 1024
   short-pps e = short-by Pps e refl
 
-  pub done-sps : fateOf u ≡ Sps → (h′ : H264Payloader) → (h′ .sps ≡ setOut u) × (h′ .pps ≡ h .pps) →
-      Done (keep (savedIn h) u) (groupsFor mtu (savedIn h) u) s h′ s
-  done-sps e h′ q =
-      done-by Sps e h′ s
-      (ap₂ (λ (a b : ParameterSet). record { sps = a; pps = b }) (q .0) (q .1 ∙ ap (λ (x : H264Payloader). x .pps) (r .tidy .laid))) refl
+  pub done-sps : fateOf u ≡ Sps → (kept : H264Payloader) → (kept .sps ≡ setOut u) × (kept .pps ≡ h .pps) → (h′ : H264Payloader) (s′ : Sink) → h′ ≡ kept →
+      s′ ≡ s → Done (keep (savedIn h) u) (groupsFor mtu (savedIn h) u) s h′ s′
+  done-sps e kept q h′ s′ a b =
+      done-by Sps e h′ s′
+      (a ∙ ap₂ (λ (x y : ParameterSet). record { sps = x; pps = y }) (q .0) (q .1 ∙ ap (λ (x : H264Payloader). x .pps) (r .tidy .laid))) b
 
-  pub done-pps : fateOf u ≡ Pps → (h′ : H264Payloader) → (h′ .sps ≡ h .sps) × (h′ .pps ≡ setOut u) →
-      Done (keep (savedIn h) u) (groupsFor mtu (savedIn h) u) s h′ s
-  done-pps e h′ q =
-      done-by Pps e h′ s
-      (ap₂ (λ (a b : ParameterSet). record { sps = a; pps = b }) (q .0 ∙ ap (λ (x : H264Payloader). x .sps) (r .tidy .laid)) (q .1)) refl
+  pub done-pps : fateOf u ≡ Pps → (kept : H264Payloader) → (kept .sps ≡ h .sps) × (kept .pps ≡ setOut u) → (h′ : H264Payloader) (s′ : Sink) → h′ ≡ kept →
+      s′ ≡ s → Done (keep (savedIn h) u) (groupsFor mtu (savedIn h) u) s h′ s′
+  done-pps e kept q h′ s′ a b =
+      done-by Pps e h′ s′
+      (a ∙ ap₂ (λ (x y : ParameterSet). record { sps = x; pps = y }) (q .0 ∙ ap (λ (x : H264Payloader). x .sps) (r .tidy .laid)) (q .1)) b
 
   -- the pair, then the unit
   module _ (e : fateOf u ≡ Coded) where

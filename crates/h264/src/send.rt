@@ -10,7 +10,7 @@ ghost use lib.ListN.{length, take};
 ghost use Rattle.wire.specs.Packets.{Room, putAll};
 ghost use Rattle.annexb.specs.Units.{units, noUnits};
 ghost use Rattle.h264_put.specs.Groups.{nothingSaved, forgotten, keep, keepAll, pairFor, groupsFor, groupsOf, packetsOf};
-ghost use Rattle.h264_put.specs.Outcomes.{pairOutcome, outcomeFor, outcomesOf, dropsIn};
+ghost use Rattle.h264_put.specs.Outcomes.{pairOutcome, withoutPair, outcomeFor, outcomesOf, dropsIn};
 ghost use Rattle.h264.specs.Payload.{setOut, layOut, savedIn, overLimit, emptySink, left, payloadOf};
 ghost use Rattle.h264_put.specs.Step.{sinkAt};
 ghost use Rattle.h264.specs.Step.{Tidy, Ready, Done};
@@ -177,6 +177,20 @@ impl H264Payloader {
         }
     }
 
+    // A step that sends nothing: no pair is due.
+    fn quiet(self, place: Place, unit: UnitOutcome) -> Emitted
+        ensures { λ r. ⌜ (r .sender ≡ self) × (r .place ≡ place) × (r .outcome ≡ withoutPair unit) ⌝ }
+    {
+        Emitted {
+            sender: self,
+            place,
+            outcome: Outcome {
+                unit,
+                pair: PairOutcome::NotDue,
+            },
+        }
+    }
+
     // Sends one unit: drops or saves it, or writes it behind the pair that waits.
     fn emit(self, mtu: usize, unit: &[u8], out: &mut [u8], ends: &mut [usize], to: Place) -> Emitted
         requires { ⌜ Ready self mtu (now unit) (sinkAt (now out) (now ends) to) ⌝ }
@@ -185,26 +199,10 @@ impl H264Payloader {
         ensures { λ r. ⌜ r .outcome ≡ outcomeFor mtu (savedIn self) (now (unit .entry)) ⌝ }
     {
         match fate_of(unit) {
-            Fate::Empty => Emitted {
-                sender: self,
-                place: to,
-                outcome: Outcome::without_pair(UnitOutcome::Empty),
-            },
-            Fate::Dropped => Emitted {
-                sender: self,
-                place: to,
-                outcome: Outcome::without_pair(UnitOutcome::DroppedByType),
-            },
-            Fate::Sps => Emitted {
-                sender: self.with_sps(unit),
-                place: to,
-                outcome: Outcome::without_pair(UnitOutcome::Saved),
-            },
-            Fate::Pps => Emitted {
-                sender: self.with_pps(unit),
-                place: to,
-                outcome: Outcome::without_pair(UnitOutcome::Saved),
-            },
+            Fate::Empty => self.quiet(to, UnitOutcome::Empty),
+            Fate::Dropped => self.quiet(to, UnitOutcome::DroppedByType),
+            Fate::Sps => self.with_sps(unit).quiet(to, UnitOutcome::Saved),
+            Fate::Pps => self.with_pps(unit).quiet(to, UnitOutcome::Saved),
             Fate::Coded => {
                 let before = self.put_waiting(mtu, out, ends, to);
                 let behind = before.place;
@@ -270,35 +268,21 @@ impl H264Payloader {
             payloadOf self mtu (now (frame .entry)) (now (out .entry)) (now (ends .entry)) ⌝ }
     {
         if is_outside(self.sps.len, self.pps.len, mtu, frame.len()) {
-            return Sent {
-                sender: self,
-                answer: Payloads::Refused(Error::OutsideDomain),
-            };
+            return self.refused(Error::OutsideDomain);
         }
         let sender = self.tidy();
         if is_nothing(mtu, frame.len()) {
             return Sent {
                 sender,
-                answer: Payloads::Written {
-                    packets: 0,
-                    bytes: 0,
-                    units_dropped: 0,
-                    pairs_dropped: 0,
-                },
+                answer: written(Place { at: 0, n: 0 }, Drops { units: 0, pairs: 0 }),
             };
         }
         let m = measure_frame(frame, mtu, sender.sps.len, sender.pps.len);
         if m.long {
-            return Sent {
-                sender: self,
-                answer: Payloads::Refused(Error::OverLimits),
-            };
+            return self.refused(Error::OverLimits);
         }
         if is_too_small(m, out.len(), ends.len()) {
-            return Sent {
-                sender: self,
-                answer: Payloads::Refused(Error::ErrBufferTooSmall),
-            };
+            return self.refused(Error::ErrBufferTooSmall);
         }
         let sent = sender.walk(mtu, frame, out, ends);
         let place = sent.place;
@@ -306,12 +290,17 @@ impl H264Payloader {
         let after = sent.sender;
         Sent {
             sender: after,
-            answer: Payloads::Written {
-                packets: place.n,
-                bytes: place.at,
-                units_dropped: drops.units,
-                pairs_dropped: drops.pairs,
-            },
+            answer: written(place, drops),
+        }
+    }
+
+    // The state as it came, beside a refusal.
+    fn refused(self, e: Error) -> Sent
+        ensures { λ r. ⌜ (r .sender ≡ self) × (r .answer ≡ Payloads.Refused e) ⌝ }
+    {
+        Sent {
+            sender: self,
+            answer: Payloads::Refused(e),
         }
     }
 }
@@ -331,6 +320,18 @@ pub enum Payloads {
 pub struct Sent {
     pub sender: H264Payloader,
     pub answer: Payloads,
+}
+
+// What was written up to a place, and what was dropped.
+fn written(place: Place, drops: Drops) -> Payloads
+    ensures { λ r. ⌜ r ≡ Payloads.Written (place .n) (place .at) (drops .units) (drops .pairs) ⌝ }
+{
+    Payloads::Written {
+        packets: place.n,
+        bytes: place.at,
+        units_dropped: drops.units,
+        pairs_dropped: drops.pairs,
+    }
 }
 
 // The record, the mtu or the frame is outside the domain.

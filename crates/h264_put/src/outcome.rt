@@ -1,7 +1,7 @@
 // What became of a unit and of the pair that may stand before it, and how many of each were dropped for the mtu.
 ghost use mathlib.Core.Path.{_≡_};
 ghost use Prim.Native.Nat.{_≤_};
-ghost use Rattle.h264_put.specs.Outcomes.{withoutPair, one, unitDropped, pairDropped, counted};
+ghost use Rattle.h264_put.specs.Outcomes.{one, unitDropped, pairDropped, counted};
 
 pub enum UnitOutcome {
     // it has no byte
@@ -29,18 +29,6 @@ pub enum PairOutcome {
 pub struct Outcome {
     pub unit: UnitOutcome,
     pub pair: PairOutcome,
-}
-
-impl Outcome {
-    // No pair is due at the unit.
-    pub fn without_pair(unit: UnitOutcome) -> Outcome
-        ensures { λ r. ⌜ r ≡ withoutPair unit ⌝ }
-    {
-        Outcome {
-            unit,
-            pair: PairOutcome::NotDue,
-        }
-    }
 }
 
 // How many were dropped for the mtu.

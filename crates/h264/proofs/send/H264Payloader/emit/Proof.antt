@@ -1,5 +1,5 @@
 -- One law for each fate: what it leaves, and what became of the unit and of the pair.
-use mathlib.Core.Path.{sym, ap₂, _∙_}
+use mathlib.Core.Path.{sym, ap, ap₂, _∙_}
 use Rattle.h264_put.specs.declared.fate.Fate.the-variants.{Empty, Dropped, Sps, Pps, Coded}
 use Rattle.h264_put.specs.declared.outcome.UnitOutcome.{UnitOutcome}
 use Rattle.h264_put.specs.declared.outcome.PairOutcome.{PairOutcome}
@@ -47,7 +47,11 @@ returns c =
     let start = arm .before .before .before .before .before .before in
     let s = sinkAt (start .args .out .now) (start .args .ends .now) (start .args .to) in
     let e = sym (arm .before .before .fate-of .ensures) ∙ arm .enum-told .given .1 in
-    (done-empty (start .args .self) (start .args .mtu) (start .args .unit .now) s (start .pre) e, told-by (start .args .self) (start .args .mtu) (start .args .unit .now) s (start .pre) Empty e _ (c .without-pair .ensures))
+    let left = c .quiet in (
+      done-empty (start .args .self) (start .args .mtu) (start .args .unit .now) s (start .pre) e (left .result .sender) _ (left .ensures .0)
+          (ap (sinkAt (start .args .out .now) (start .args .ends .now)) (left .ensures .1)),
+      told-by (start .args .self) (start .args .mtu) (start .args .unit .now) s (start .pre) Empty e (left .result .outcome) (left .ensures .2),
+    )
 
 returns-2 : tie.Need-returns-2
 returns-2 c =
@@ -55,7 +59,11 @@ returns-2 c =
     let start = arm .before .before .before .before .before .before in
     let s = sinkAt (start .args .out .now) (start .args .ends .now) (start .args .to) in
     let e = sym (arm .before .before .fate-of .ensures) ∙ arm .enum-told2 .given .1 in
-    (done-dropped (start .args .self) (start .args .mtu) (start .args .unit .now) s (start .pre) e, told-by (start .args .self) (start .args .mtu) (start .args .unit .now) s (start .pre) Dropped e _ (c .without-pair2 .ensures))
+    let left = c .quiet2 in (
+      done-dropped (start .args .self) (start .args .mtu) (start .args .unit .now) s (start .pre) e (left .result .sender) _ (left .ensures .0)
+          (ap (sinkAt (start .args .out .now) (start .args .ends .now)) (left .ensures .1)),
+      told-by (start .args .self) (start .args .mtu) (start .args .unit .now) s (start .pre) Dropped e (left .result .outcome) (left .ensures .2),
+    )
 
 returns-3 : tie.Need-returns-3
 returns-3 c =
@@ -64,7 +72,11 @@ returns-3 c =
     let s = sinkAt (start .args .out .now) (start .args .ends .now) (start .args .to) in
     let e = sym (arm .before .before .fate-of .ensures) ∙ arm .enum-told3 .given .1 in
     let saved = c .before .with-sps in
-    (done-sps (start .args .self) (start .args .mtu) (start .args .unit .now) s (start .pre) e (saved .result) (saved .ensures), told-by (start .args .self) (start .args .mtu) (start .args .unit .now) s (start .pre) Sps e _ (c .without-pair3 .ensures))
+    let left = c .quiet3 in (
+      done-sps (start .args .self) (start .args .mtu) (start .args .unit .now) s (start .pre) e (saved .result) (saved .ensures) (left .result .sender) _ (left .ensures .0)
+          (ap (sinkAt (start .args .out .now) (start .args .ends .now)) (left .ensures .1)),
+      told-by (start .args .self) (start .args .mtu) (start .args .unit .now) s (start .pre) Sps e (left .result .outcome) (left .ensures .2),
+    )
 
 returns-4 : tie.Need-returns-4
 returns-4 c =
@@ -73,7 +85,11 @@ returns-4 c =
     let s = sinkAt (start .args .out .now) (start .args .ends .now) (start .args .to) in
     let e = sym (arm .before .before .fate-of .ensures) ∙ arm .enum-told4 .given .1 in
     let saved = c .before .with-pps in
-    (done-pps (start .args .self) (start .args .mtu) (start .args .unit .now) s (start .pre) e (saved .result) (saved .ensures), told-by (start .args .self) (start .args .mtu) (start .args .unit .now) s (start .pre) Pps e _ (c .without-pair4 .ensures))
+    let left = c .quiet4 in (
+      done-pps (start .args .self) (start .args .mtu) (start .args .unit .now) s (start .pre) e (saved .result) (saved .ensures) (left .result .sender) _ (left .ensures .0)
+          (ap (sinkAt (start .args .out .now) (start .args .ends .now)) (left .ensures .1)),
+      told-by (start .args .self) (start .args .mtu) (start .args .unit .now) s (start .pre) Pps e (left .result .outcome) (left .ensures .2),
+    )
 
 returns-5 : tie.Need-returns-5
 returns-5 c =
