@@ -192,7 +192,8 @@ struct rtp_h264_read {
 /* A sender with nothing saved. */
 struct rtp_h264_payloader rtp_h264_payloader_new(void);
 
-/* The payloads of a frame, each of at most mtu bytes, one behind the other in out; ends says where each ends. */
+/* The payloads of a frame, each of at most mtu bytes, one behind the other in out; ends says where each ends. What cannot go so is dropped, and
+ * counted. */
 struct rtp_h264_sent rtp_h264_payload(struct rtp_h264_payloader sender, size_t mtu, const uint8_t *frame, size_t frame_len, uint8_t *out,
                                       size_t out_len, size_t *ends, size_t ends_len);
 

@@ -161,7 +161,8 @@ pub extern "C" fn rtp_h264_payloader_new() -> H264Payloader
     H264Payloader::new()
 }
 
-// The payloads of a frame, each of at most mtu bytes, one behind the other in out; ends says where each ends.
+// The payloads of a frame, each of at most mtu bytes, one behind the other in out; ends says where each ends. What cannot go so is dropped, and
+// counted.
 #[no_mangle]
 pub extern "C" fn rtp_h264_payload(
     sender: H264Payloader,

@@ -82,6 +82,7 @@ struct PutPair {
 struct Emitted {
     sender: H264Payloader,
     place: Place,
+    // what became of the unit, and of the pair that may stand before it
     outcome: Outcome,
 }
 
@@ -89,6 +90,7 @@ struct Emitted {
 struct Walked {
     sender: H264Payloader,
     place: Place,
+    // what was dropped of them for the mtu
     drops: Drops,
 }
 
@@ -262,7 +264,7 @@ impl H264Payloader {
         }
     }
 
-    // The payloads of a frame, each of at most mtu bytes.
+    // The payloads of a frame, each of at most mtu bytes, and how much was dropped for that.
     pub fn payload(self, mtu: usize, frame: &[u8], out: &mut [u8], ends: &mut [usize]) -> Sent
         ensures { λ r. ⌜ left r (now (out .exit)) (now (ends .exit)) ≡
             payloadOf self mtu (now (frame .entry)) (now (out .entry)) (now (ends .entry)) ⌝ }

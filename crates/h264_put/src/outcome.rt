@@ -33,7 +33,9 @@ pub struct Outcome {
 
 // How many were dropped for the mtu.
 pub struct Drops {
+    // units, fewer than the frame has bytes
     pub units: usize,
+    // pairs of parameter sets, no more than the frame has units
     pub pairs: usize,
 }
 
