@@ -12,7 +12,7 @@ use borrow.Author.Tests.{le-leb, lt-leb}
 use Rattle.annexb.specs.Units.{units, unitsAt}
 use Rattle.h264_put.specs.declared.fate.Fate.{Fate}
 use Rattle.h264_put.specs.declared.fate.Fate.the-variants.{Empty, Dropped, Sps, Pps, Coded}
-use Rattle.h264_put.specs.declared.outcome.UnitOutcome.the-variants as unit
+use Rattle.h264_put.specs.declared.outcome.UnitOutcome.the-variants as of-unit
 use Rattle.h264_put.specs.declared.outcome.PairOutcome.{PairOutcome}
 use Rattle.h264_put.specs.declared.outcome.Outcome.{Outcome}
 use Rattle.h264_put.specs.declared.outcome.Drops.{Drops}
@@ -34,7 +34,7 @@ unit-over : (mtu : ℕ) (v : Saved) (u : List ℕ) → unitDropped (outcomeFor m
 unfolding outcomeFor
 unit-over mtu v u = go (fateOf u)
   where
-    dropped-or-not : (t : Bool) → unitDropped (cond t unit.Sent unit.DroppedForMtu) ≡ not t
+    dropped-or-not : (t : Bool) → unitDropped (cond t of-unit.Sent of-unit.DroppedForMtu) ≡ not t
     dropped-or-not true = refl
     dropped-or-not false = refl
 
@@ -204,7 +204,7 @@ no-length : (us : List (List ℕ)) → length us ≡ 0 → us ≡ []
 no-length [] e = refl
 no-length (u ∷ us) e = absurd (omega arith)
 
--- with both counts 0 nothing is left out but empty units, types 9 and 12, and sets that were replaced
+-- with both counts 0 nothing is left out but empty units, types 9 and 12, sets that were replaced, and sets that still wait
 pub none-dropped : (mtu : ℕ) (v : Saved) (us : List (List ℕ)) (r : Coursed v us) → dropsIn (outcomesOf mtu v us) ≡ record { units = 0; pairs = 0 } →
     Same (setsOf v ++ us)
     (carriedIn (groupsOf mtu v us)

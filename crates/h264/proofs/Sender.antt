@@ -19,7 +19,7 @@ use Rattle.h264.specs.Frames.{groupsFrom, dropsFrom, unitsOfFrames}
 use Rattle.h264.specs.Conformance.{Octets, SavedOctets, nal, nalsOfAll, Regular, Sendable, unitsIn, carriedIn, isCoded, goesOut, thoseThat, startBit, endBit}
 use Rattle.h264.specs.Course.{latest, NoPair, Coursed, waitingAfter, groupsIn, setsOf, sent, isDropped, cannotGo, replaced, pairsOver, leftOut, Same}
 use Rattle.h264.specs.AnySender.{Answered, Sender, Goes, SendsFrames, ours, Silent, KeepsEarlierSps, KeepsEarlierPps}
-use Rattle.h264.specs.Telling.{Step, TellsAlways, ourStep}
+use Rattle.h264.specs.Telling.{saidSent, Step, TellsAlways, ourStep, ForgetsUntold, DropsUntold, CountsUnasked}
 use Rattle.h264.proofs.Fits as F
 use Rattle.h264.proofs.Frames as A
 use Rattle.h264.proofs.LeftOut as L
@@ -132,9 +132,23 @@ borders-unseen = R.borders-unseen
 -- ---- what was not sent
 
 -- Each step tells what became of its unit and of the pair at it: a unit is `Sent` exactly where a group of its own is sent, a pair `Sent` exactly where
--- its STAP-A is, `Saved` is said exactly where what is saved changes to the unit, a drop exactly where nothing goes out; and nothing else is sent.
+-- its STAP-A is, `Saved` is said exactly where what is saved changes to the unit, a drop exactly where nothing goes out; nothing else is sent, and nothing else changes of what is saved.
 pub step-tells : TellsAlways ourStep
 step-tells = T.we-tell
+
+-- So of a whole list: what goes out is what its outcomes say is sent, in that order.
+pub sent-as-said : (mtu : ℕ) (v : Saved) (us : List (List ℕ)) → carriedIn (groupsOf mtu v us) ≡ saidSent v us (outcomesOf mtu v us)
+sent-as-said = T.sent-as-said
+
+-- A step that forgets a pair or drops a unit without a word does not tell, nor one that counts what is never sent.
+pub no-forgetting-untold : (s : Step) → ForgetsUntold s → TellsAlways s → ⊥
+no-forgetting-untold = T.no-forgetting-untold
+
+pub no-dropping-untold : (s : Step) → DropsUntold s → TellsAlways s → ⊥
+no-dropping-untold = T.no-dropping-untold
+
+pub no-counting-unasked : (s : Step) → CountsUnasked s → TellsAlways s → ⊥
+no-counting-unasked = T.no-counting-unasked
 
 -- Whoever sends and keeps what our step does, and tells, says what it says.
 pub one-account : (s : Step) → TellsAlways s → ((mtu : ℕ) (v : Saved) (u : List ℕ) → s .sends mtu v u ≡ groupsFor mtu v u) →
@@ -154,7 +168,7 @@ pub pairs-counted : (mtu : ℕ) (v : Saved) (us : List (List ℕ)) (r : Coursed 
     2 * dropsIn (outcomesOf mtu v us) .pairs ≡ length (pairsOver mtu v (r .course))
 pairs-counted = D.pairs-counted
 
--- Where both counts are 0, nothing is left out but empty units, types 9 and 12, and sets that were replaced by a later one.
+-- Where both counts are 0, nothing is left out but empty units, types 9 and 12, sets that were replaced by a later one, and sets that still wait.
 pub none-dropped : (mtu : ℕ) (v : Saved) (us : List (List ℕ)) (r : Coursed v us) → dropsIn (outcomesOf mtu v us) ≡ record { units = 0; pairs = 0 } →
     Same (setsOf v ++ us)
     (carriedIn (groupsOf mtu v us)

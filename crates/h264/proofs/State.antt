@@ -13,7 +13,7 @@ use Rattle.wire.proofs.Part.{padTo-nothing, padTo-on, take-padTo}
 use Rattle.wire.proofs.Packets.{room-first}
 use Rattle.h264.specs.declared.send.ParameterSet.{ParameterSet}
 use Rattle.h264.specs.declared.send.H264Payloader.{H264Payloader}
-use Rattle.h264_put.specs.declared.outcome.PairOutcome.the-variants as outcome
+use Rattle.h264_put.specs.declared.outcome.PairOutcome.the-variants as of-pair
 use Rattle.h264_put.specs.Groups.{Saved, Group, pair, nothingSaved, bothSaved, forgotten, stapA, pairFor, packetsOf}
 use Rattle.h264_put.specs.Outcomes.{pairOutcome}
 use Rattle.h264.specs.Payload.{setOut, layOut, savedIn}
@@ -80,7 +80,7 @@ module _ (h : H264Payloader) (t : Tidy h) (mtu : ℕ) (s : Sink) where
   pub waiting-none : (ltb 0 (h .sps .len) && ltb 0 (h .pps .len)) ≡ false → s ≡ putAll s (packetsOf (pairFor mtu (savedIn h)))
   waiting-none e = sym (ap (λ (gs : List Group). putAll s (packetsOf gs)) (pair-none mtu (savedIn h) (both-in h t ∙ e)))
 
-  pub waiting-not-due : (ltb 0 (h .sps .len) && ltb 0 (h .pps .len)) ≡ false → outcome.NotDue ≡ pairOutcome mtu (savedIn h)
+  pub waiting-not-due : (ltb 0 (h .sps .len) && ltb 0 (h .pps .len)) ≡ false → of-pair.NotDue ≡ pairOutcome mtu (savedIn h)
   waiting-not-due e = not-due mtu (savedIn h) (both-in h t ∙ e)
 
   module _ (e : (ltb 0 (h .sps .len) && ltb 0 (h .pps .len)) ≡ true) where
@@ -89,7 +89,7 @@ module _ (h : H264Payloader) (t : Tidy h) (mtu : ℕ) (s : Sink) where
         sym (ap (λ (gs : List Group). putAll s (packetsOf gs))
         (pair-over mtu (savedIn h) (both-in h t ∙ e) (rw (sps-length h t, pps-length h t) g)))
 
-    pub waiting-dropped : mtu < 5 + h .sps .len + h .pps .len → outcome.DroppedForMtu ≡ pairOutcome mtu (savedIn h)
+    pub waiting-dropped : mtu < 5 + h .sps .len + h .pps .len → of-pair.DroppedForMtu ≡ pairOutcome mtu (savedIn h)
     waiting-dropped g = due-over mtu (savedIn h) (both-in h t ∙ e) (rw (sps-length h t, pps-length h t) g)
 
     module _ (g : 5 + h .sps .len + h .pps .len ≤ mtu) where
@@ -115,5 +115,5 @@ module _ (h : H264Payloader) (t : Tidy h) (mtu : ℕ) (s : Sink) where
           ap₂ (λ (a b : List ℕ). put s (stapA a b)) lent-sps lent-pps
           ∙ sym (ap (λ (gs : List Group). putAll s (packetsOf gs)) sent)
 
-      pub waiting-told : outcome.Sent ≡ pairOutcome mtu (savedIn h)
+      pub waiting-told : of-pair.Sent ≡ pairOutcome mtu (savedIn h)
       waiting-told = due-sent mtu (savedIn h) (both-in h t ∙ e) (rw (sps-length h t, pps-length h t) g)

@@ -13,16 +13,16 @@ use borrow.Author.Tests.{eqb-true, eqb-false, le-leb, lt-leb}
 use Rattle.h264_put.specs.declared.fate.Fate.{Fate}
 use Rattle.h264_put.specs.declared.fate.Fate.the-variants.{Empty, Dropped, Sps, Pps, Coded}
 use Rattle.h264_put.specs.declared.outcome.UnitOutcome.{UnitOutcome}
-use Rattle.h264_put.specs.declared.outcome.UnitOutcome.the-variants as unit
+use Rattle.h264_put.specs.declared.outcome.UnitOutcome.the-variants as of-unit
 use Rattle.h264_put.specs.declared.outcome.PairOutcome.{PairOutcome}
 use Rattle.h264_put.specs.declared.outcome.PairOutcome.the-variants as of-pair
 use Rattle.h264_put.specs.declared.outcome.Outcome.{Outcome}
-use Rattle.h264_put.specs.Groups.{Saved, nothingSaved, bothSaved, Group, pair, plain, fragments, fateOf, fateOfType, keep, keepBy, stapA, pairFor, fragmentsOf, unitFor, groupsBy, groupsFor}
-use Rattle.h264_put.specs.Outcomes.{unitOutcome, pairOutcome, outcomeBy, outcomeFor}
+use Rattle.h264_put.specs.Groups.{Saved, nothingSaved, bothSaved, Group, pair, plain, fragments, fateOf, fateOfType, keep, keepBy, stapA, pairFor, fragmentsOf, unitFor, groupsBy, groupsFor, groupsOf}
+use Rattle.h264_put.specs.Outcomes.{unitOutcome, pairOutcome, outcomeBy, outcomeFor, outcomesOf}
 use Rattle.h264_put.proofs.UnitFates.{fate-coded}
 use Rattle.h264_put.proofs.Outcomes.{sent-alone, dropped-under, sent-divided}
 use Rattle.h264.specs.Conformance.{unitsIn, carriedIn}
-use Rattle.h264.specs.Telling.{Typed, Other, pairsIn, Gone, UnitSeen, PairSeen, setsSent, unitSent, Tells, Step, TellsAlways, ourStep}
+use Rattle.h264.specs.Telling.{Typed, Other, pairsIn, ChangedTo, Gone, UnitSeen, PairSeen, setsSent, unitSent, Tells, saidSent, Step, TellsAlways, ourStep, ForgetsUntold, DropsUntold, CountsUnasked}
 use Rattle.h264.proofs.Accounts.{carried-append, unit-carried}
 use Rattle.h264.proofs.LeftOut.{units-append, pair-carries, unit-carries}
 
@@ -80,14 +80,14 @@ pair-named mtu v = go (bothSaved v) (leb (length (stapA (v .sps) (v .pps))) mtu)
     go false fits = refl
 
 -- a unit that is to be sent goes out where it fits or can be cut
-pub by-room : (mtu : ℕ) (u : List ℕ) → unitOutcome mtu u ≡ cond (leb (length u) mtu || leb 3 mtu) unit.Sent unit.DroppedForMtu
+pub by-room : (mtu : ℕ) (u : List ℕ) → unitOutcome mtu u ≡ cond (leb (length u) mtu || leb 3 mtu) of-unit.Sent of-unit.DroppedForMtu
 by-room mtu u = go (decLe (length u) mtu) (decLe 3 mtu)
   where
     told : (a b : Bool) → leb (length u) mtu ≡ a → leb 3 mtu ≡ b →
-        cond (a || b) unit.Sent unit.DroppedForMtu ≡ cond (leb (length u) mtu || leb 3 mtu) unit.Sent unit.DroppedForMtu
-    told a b e q = sym (ap₂ (λ (x y : Bool). cond (x || y) unit.Sent unit.DroppedForMtu) e q)
+        cond (a || b) of-unit.Sent of-unit.DroppedForMtu ≡ cond (leb (length u) mtu || leb 3 mtu) of-unit.Sent of-unit.DroppedForMtu
+    told a b e q = sym (ap₂ (λ (x y : Bool). cond (x || y) of-unit.Sent of-unit.DroppedForMtu) e q)
 
-    go : Dec (length u ≤ mtu) → Dec (3 ≤ mtu) → unitOutcome mtu u ≡ cond (leb (length u) mtu || leb 3 mtu) unit.Sent unit.DroppedForMtu
+    go : Dec (length u ≤ mtu) → Dec (3 ≤ mtu) → unitOutcome mtu u ≡ cond (leb (length u) mtu || leb 3 mtu) of-unit.Sent of-unit.DroppedForMtu
     go (yes h) d = sym (sent-alone mtu u h) ∙ told true (leb 3 mtu) (le-leb (length u) mtu h) refl
     go (no h) (no g) =
         sym (dropped-under mtu u (omega arith) (omega arith)) ∙ told false false (lt-leb (length u) mtu (omega arith)) (lt-leb 3 mtu (omega arith))
@@ -96,7 +96,7 @@ by-room mtu u = go (decLe (length u) mtu) (decLe 3 mtu)
 unit-named : (mtu : ℕ) (u : List ℕ) → unitsIn (unitFor mtu u) ≡ unitSent (unitOutcome mtu u) u
 unit-named mtu u = unit-carries mtu u ∙ go (leb (length u) mtu || leb 3 mtu) ∙ sym (ap (λ (x : UnitOutcome). unitSent x u) (by-room mtu u))
   where
-    go : (t : Bool) → cond t (u ∷ []) [] ≡ unitSent (cond t unit.Sent unit.DroppedForMtu) u
+    go : (t : Bool) → cond t (u ∷ []) [] ≡ unitSent (cond t of-unit.Sent of-unit.DroppedForMtu) u
     go true = refl
     go false = refl
 
@@ -139,8 +139,8 @@ module _ (mtu : ℕ) (v : Saved) (u : List ℕ) where
   unfolding outcomeFor groupsFor keep
   unit-seen = go (fateOf u) (fate-means u)
     where
-      sent-or-not : (x : UnitOutcome) → unitOutcome mtu u ≡ x → (t : Bool) → x ≡ cond t unit.Sent unit.DroppedForMtu → Other u →
-          UnitSeen (cond t unit.Sent unit.DroppedForMtu) v u (groupsBy Coded mtu v u) (keepBy Coded v u)
+      sent-or-not : (x : UnitOutcome) → unitOutcome mtu u ≡ x → (t : Bool) → x ≡ cond t of-unit.Sent of-unit.DroppedForMtu → Other u →
+          UnitSeen (cond t of-unit.Sent of-unit.DroppedForMtu) v u (groupsBy Coded mtu v u) (keepBy Coded v u)
       sent-or-not x e true q m = coded-units ∙ ap (λ (y : UnitOutcome). unitSent y u) (e ∙ q)
       sent-or-not x e false q m = (m, coded-units ∙ ap (λ (y : UnitOutcome). unitSent y u) (e ∙ q))
 
@@ -191,22 +191,22 @@ module _ (mtu : ℕ) (v : Saved) (u : List ℕ) where
 
 -- of a unit, by its fate and the units that went out
 abbrev seenOf : Fate → List (List ℕ) → UnitOutcome
-seenOf Empty us = unit.Empty
-seenOf Dropped us = unit.DroppedByType
-seenOf Sps us = unit.Saved
-seenOf Pps us = unit.Saved
-seenOf Coded [] = unit.DroppedForMtu
-seenOf Coded (u ∷ us) = unit.Sent
+seenOf Empty us = of-unit.Empty
+seenOf Dropped us = of-unit.DroppedByType
+seenOf Sps us = of-unit.Saved
+seenOf Pps us = of-unit.Saved
+seenOf Coded [] = of-unit.DroppedForMtu
+seenOf Coded (u ∷ us) = of-unit.Sent
 
 one-unit : (x : UnitOutcome) (v : Saved) (u : List ℕ) (gs : List Group) (v′ : Saved) → (unitsIn gs ≡ u ∷ [] → Other u) → UnitSeen x v u gs v′ →
     seenOf (fateOf u) (unitsIn gs) ≡ x
-one-unit unit.Empty v u gs v′ f s = ap (λ (k : Fate). seenOf k (unitsIn gs)) (means-fate Empty u s)
-one-unit unit.DroppedByType v u gs v′ f s = ap (λ (k : Fate). seenOf k (unitsIn gs)) (means-fate Dropped u s)
-one-unit unit.Saved v u gs v′ f s =
+one-unit of-unit.Empty v u gs v′ f s = ap (λ (k : Fate). seenOf k (unitsIn gs)) (means-fate Empty u s)
+one-unit of-unit.DroppedByType v u gs v′ f s = ap (λ (k : Fate). seenOf k (unitsIn gs)) (means-fate Dropped u s)
+one-unit of-unit.Saved v u gs v′ f s =
     ⊎-elim (λ m. ap (λ (k : Fate). seenOf k (unitsIn gs)) (means-fate Sps u (m .0)))
     (λ m. ap (λ (k : Fate). seenOf k (unitsIn gs)) (means-fate Pps u (m .0))) s
-one-unit unit.Sent v u gs v′ f s = ap₂ seenOf (means-fate Coded u (f s)) s
-one-unit unit.DroppedForMtu v u gs v′ f s = ap₂ seenOf (means-fate Coded u (s .0)) (s .1)
+one-unit of-unit.Sent v u gs v′ f s = ap₂ seenOf (means-fate Coded u (f s)) s
+one-unit of-unit.DroppedForMtu v u gs v′ f s = ap₂ seenOf (means-fate Coded u (s .0)) (s .1)
 
 none-some : {g : Group} {gs : List Group} → gs ≡ g ∷ [] → gs ≡ [] → ⊥
 none-some e q = absurd (omega (arith, ap length (sym e ∙ q)))
@@ -259,21 +259,37 @@ nothing-else mtu v u = go (fateOf u)
         ∙ ap₂ (λ (a b : List (List ℕ)). a ++ b) (ap carriedIn (pair-named mtu v) ∙ of-the-pair (pairOutcome mtu v))
         (unit-carried mtu u ∙ unit-named mtu u)
 
+kept : (mtu : ℕ) (v : Saved) (u : List ℕ) → (keep v u ≡ v) ⊎ (ChangedTo u v (keep v u) ⊎ Gone v (keep v u))
+unfolding keep
+kept mtu v u = go (fateOf u) (fate-means u)
+  where
+    forgot : (b : Bool) → bothSaved v ≡ b → (cond b nothingSaved v ≡ v) ⊎ (ChangedTo u v (cond b nothingSaved v) ⊎ Gone v (cond b nothingSaved v))
+    forgot true e = inr (inr (e, refl))
+    forgot false e = inl refl
+
+    go : (k : Fate) → Means k u → (keepBy k v u ≡ v) ⊎ (ChangedTo u v (keepBy k v u) ⊎ Gone v (keepBy k v u))
+    go Empty m = inl refl
+    go Dropped m = inl refl
+    go Sps m = inr (inl (inl (m, refl)))
+    go Pps m = inr (inl (inr (m, refl)))
+    go Coded m = forgot (bothSaved v) refl
+
 pub we-tell : TellsAlways ourStep
 we-tell mtu v u =
     let gs : List Group = groupsFor mtu v u in
     let one : (x : UnitOutcome) → UnitSeen x v u gs (keep v u) → seenOf (fateOf u) (unitsIn gs) ≡ x =
     λ x. one-unit x v u gs (keep v u) (sent-other mtu v u) in
     record {
-      of-unit = λ x. (
+      unit-told = λ x. (
         λ e. subst (λ (y : UnitOutcome). UnitSeen y v u gs (keep v u)) e (unit-seen mtu v u),
         λ s. sym (one (outcomeFor mtu v u .unit) (unit-seen mtu v u)) ∙ one x s,
       );
-      of-pair = λ x. (
+      pair-told = λ x. (
         λ e. subst (λ (y : PairOutcome). PairSeen y v gs (keep v u)) e (pair-seen mtu v u),
         λ s. one-pair (outcomeFor mtu v u .pair) x v gs (keep v u) (pair-seen mtu v u) s,
       );
       nothing-else = nothing-else mtu v u;
+      kept = kept mtu v u;
     }
 
 -- ---- and no other account of the same step does
@@ -281,10 +297,34 @@ we-tell mtu v u =
 one-outcome : (v : Saved) (u : List ℕ) (o o′ : Outcome) (gs : List Group) (v′ : Saved) → Tells v u o gs v′ → Tells v u o′ gs v′ → o ≡ o′
 one-outcome v u o o′ gs v′ t t′ =
     ap₂ (λ (x : UnitOutcome) (y : PairOutcome). record { unit = x; pair = y })
-    (t .of-unit (o′ .unit) .1 (t′ .of-unit (o′ .unit) .0 refl)) (t .of-pair (o′ .pair) .1 (t′ .of-pair (o′ .pair) .0 refl))
+    (t .unit-told (o′ .unit) .1 (t′ .unit-told (o′ .unit) .0 refl)) (t .pair-told (o′ .pair) .1 (t′ .pair-told (o′ .pair) .0 refl))
 
 pub one-account : (s : Step) → TellsAlways s → ((mtu : ℕ) (v : Saved) (u : List ℕ) → s .sends mtu v u ≡ groupsFor mtu v u) →
     ((mtu : ℕ) (v : Saved) (u : List ℕ) → s .keeps mtu v u ≡ keep v u) → (mtu : ℕ) (v : Saved) (u : List ℕ) → s .says mtu v u ≡ outcomeFor mtu v u
 one-account s t same-groups same-sets mtu v u =
     one-outcome v u (s .says mtu v u) (outcomeFor mtu v u) (groupsFor mtu v u) (keep v u)
     (subst₂ (λ (gs : List Group) (w : Saved). Tells v u (s .says mtu v u) gs w) (same-groups mtu v u) (same-sets mtu v u) (t mtu v u)) (we-tell mtu v u)
+
+-- ---- a list of units
+
+-- what goes out is what the outcomes say is sent, in that order
+pub sent-as-said : (mtu : ℕ) (v : Saved) (us : List (List ℕ)) → carriedIn (groupsOf mtu v us) ≡ saidSent v us (outcomesOf mtu v us)
+sent-as-said mtu v [] = refl
+sent-as-said mtu v (u ∷ us) =
+    carried-append (groupsFor mtu v u) (groupsOf mtu (keep v u) us)
+    ∙ ap₂ (λ (a b : List (List ℕ)). a ++ b) (nothing-else mtu v u) (sent-as-said mtu (keep v u) us)
+
+-- ---- wrong steps
+
+pub no-forgetting-untold : (s : Step) → ForgetsUntold s → TellsAlways s → ⊥
+no-forgetting-untold s w t = w .untold (t (w .mtu) (w .saved) (w .unit) .pair-told of-pair.DroppedForMtu .1 (w .gone, w .unsent))
+
+pub no-dropping-untold : (s : Step) → DropsUntold s → TellsAlways s → ⊥
+no-dropping-untold s w t = w .untold (t (w .mtu) (w .saved) (w .unit) .unit-told of-unit.DroppedForMtu .1 (w .other, w .unsent))
+
+pub no-counting-unasked : (s : Step) → CountsUnasked s → TellsAlways s → ⊥
+no-counting-unasked s w t = never (w .unit) (w .never) (t (w .mtu) (w .saved) (w .unit) .unit-told of-unit.DroppedForMtu .0 (w .told) .0)
+  where
+    never : (u : List ℕ) → Typed 9 u ⊎ Typed 12 u → Other u → ⊥
+    never [] m o = o
+    never (b ∷ s) m o = ⊎-elim (o .2) (o .3) m

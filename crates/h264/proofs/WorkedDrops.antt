@@ -8,7 +8,7 @@ use Rattle.wire.specs.Net.{be16}
 use Rattle.wire.specs.Packets.{whole}
 use Rattle.wire.specs.Part.{splice, padTo}
 use Rattle.annexb.specs.Units.{units, unitsAt}
-use Rattle.h264_put.specs.declared.outcome.UnitOutcome.the-variants as unit
+use Rattle.h264_put.specs.declared.outcome.UnitOutcome.the-variants as of-unit
 use Rattle.h264_put.specs.declared.outcome.PairOutcome.the-variants as of-pair
 use Rattle.h264_put.specs.declared.outcome.Outcome.{Outcome}
 use Rattle.h264_put.specs.Groups.{nothingSaved, keep, stapA, pairFor, unitFor, groupsFor, fragment}
@@ -24,7 +24,7 @@ counts packets bytes units pairs = says (record { packets = packets; bytes = byt
 
 -- the unit with the pair at it
 abbrev with : Outcome → List Outcome
-with o = withoutPair unit.Saved ∷ withoutPair unit.Saved ∷ o ∷ []
+with o = withoutPair of-unit.Saved ∷ withoutPair of-unit.Saved ∷ o ∷ []
 
 -- 67AA, 68BB, 650102
 abbrev pairThenUnit : List ℕ
@@ -33,13 +33,13 @@ pairThenUnit = 0 ∷ 0 ∷ 1 ∷ 0x67 ∷ 0xAA ∷ 0 ∷ 0 ∷ 1 ∷ 0x68 ∷ 0x
 pub table : List Row
 table =
     -- the pair fits
-    (9, pairThenUnit, with (record { unit = unit.Sent; pair = of-pair.Sent }), counts 2 12 0 0)
+    (9, pairThenUnit, with (record { unit = of-unit.Sent; pair = of-pair.Sent }), counts 2 12 0 0)
     -- one pair dropped, the unit sent
-    ∷ (8, pairThenUnit, with (record { unit = unit.Sent; pair = of-pair.DroppedForMtu }), counts 1 3 0 1)
+    ∷ (8, pairThenUnit, with (record { unit = of-unit.Sent; pair = of-pair.DroppedForMtu }), counts 1 3 0 1)
     -- pair and unit dropped
-    ∷ (2, pairThenUnit, with (record { unit = unit.DroppedForMtu; pair = of-pair.DroppedForMtu }), counts 0 0 1 1)
+    ∷ (2, pairThenUnit, with (record { unit = of-unit.DroppedForMtu; pair = of-pair.DroppedForMtu }), counts 0 0 1 1)
     -- in fragments
-    ∷ (4, 0x65 ∷ 1 ∷ 2 ∷ 3 ∷ 4 ∷ 5 ∷ [], withoutPair unit.Sent ∷ [], counts 3 11 0 0)
+    ∷ (4, 0x65 ∷ 1 ∷ 2 ∷ 3 ∷ 4 ∷ 5 ∷ [], withoutPair of-unit.Sent ∷ [], counts 3 11 0 0)
     -- at mtu 0, and of an empty frame, nothing is asked
     ∷ (0, pairThenUnit, [], counts 0 0 0 0)
     ∷ (2, [], [], counts 0 0 0 0)
@@ -47,11 +47,11 @@ table =
     ∷ (
       1,
       0 ∷ 0 ∷ 1 ∷ 0x09 ∷ 0x10 ∷ 0 ∷ 0 ∷ 1 ∷ 0 ∷ 0 ∷ 1 ∷ 0x0C ∷ 0x80 ∷ [],
-      withoutPair unit.DroppedByType ∷ withoutPair unit.Empty ∷ withoutPair unit.DroppedByType ∷ [],
+      withoutPair of-unit.DroppedByType ∷ withoutPair of-unit.Empty ∷ withoutPair of-unit.DroppedByType ∷ [],
       counts 0 0 0 0,
     )
     -- a refused frame has no counts
-    ∷ (2, 0 ∷ 0 ∷ 1 ∷ 0x65 ∷ 1 ∷ 2 ∷ 0 ∷ 0 ∷ 1 ∷ (0x67 ∷ replicate 1024 0xAA), withoutPair unit.DroppedForMtu ∷ withoutPair unit.Saved ∷ [], refuse 7)
+    ∷ (2, 0 ∷ 0 ∷ 1 ∷ 0x65 ∷ 1 ∷ 2 ∷ 0 ∷ 0 ∷ 1 ∷ (0x67 ∷ replicate 1024 0xAA), withoutPair of-unit.DroppedForMtu ∷ withoutPair of-unit.Saved ∷ [], refuse 7)
     ∷ []
 
 abbrev asked : Row → List Outcome × Said Counts

@@ -6,7 +6,7 @@ use mathlib.Core.Bool.{true}
 use mathlib.Core.Logic.{_⊎_, _↔_}
 use Prim.Native.Nat.{ℕ, _%_}
 use Rattle.h264_put.specs.declared.outcome.UnitOutcome.{UnitOutcome}
-use Rattle.h264_put.specs.declared.outcome.UnitOutcome.the-variants as unit
+use Rattle.h264_put.specs.declared.outcome.UnitOutcome.the-variants as of-unit
 use Rattle.h264_put.specs.declared.outcome.PairOutcome.{PairOutcome}
 use Rattle.h264_put.specs.declared.outcome.PairOutcome.the-variants as of-pair
 use Rattle.h264_put.specs.declared.outcome.Outcome.{Outcome}
@@ -44,11 +44,11 @@ Gone v v′ = (bothSaved v ≡ true) × (v′ ≡ nothingSaved)
 -- ---- each outcome, by what is seen
 
 abbrev pub UnitSeen : UnitOutcome → Saved → List ℕ → List Group → Saved → Type 0
-UnitSeen unit.Empty v u gs v′ = u ≡ []
-UnitSeen unit.DroppedByType v u gs v′ = Typed 9 u ⊎ Typed 12 u
-UnitSeen unit.Saved v u gs v′ = ChangedTo u v v′
-UnitSeen unit.Sent v u gs v′ = unitsIn gs ≡ u ∷ []
-UnitSeen unit.DroppedForMtu v u gs v′ = Other u × (unitsIn gs ≡ [])
+UnitSeen of-unit.Empty v u gs v′ = u ≡ []
+UnitSeen of-unit.DroppedByType v u gs v′ = Typed 9 u ⊎ Typed 12 u
+UnitSeen of-unit.Saved v u gs v′ = ChangedTo u v v′
+UnitSeen of-unit.Sent v u gs v′ = unitsIn gs ≡ u ∷ []
+UnitSeen of-unit.DroppedForMtu v u gs v′ = Other u × (unitsIn gs ≡ [])
 
 abbrev pub PairSeen : PairOutcome → Saved → List Group → Saved → Type 0
 PairSeen of-pair.NotDue v gs v′ = (Gone v v′ → ⊥) × (pairsIn gs ≡ [])
@@ -62,19 +62,27 @@ setsSent of-pair.Sent v = v .sps ∷ v .pps ∷ []
 setsSent of-pair.DroppedForMtu v = []
 
 abbrev pub unitSent : UnitOutcome → List ℕ → List (List ℕ)
-unitSent unit.Empty u = []
-unitSent unit.DroppedByType u = []
-unitSent unit.Saved u = []
-unitSent unit.Sent u = u ∷ []
-unitSent unit.DroppedForMtu u = []
+unitSent of-unit.Empty u = []
+unitSent of-unit.DroppedByType u = []
+unitSent of-unit.Saved u = []
+unitSent of-unit.Sent u = u ∷ []
+unitSent of-unit.DroppedForMtu u = []
 
 -- ---- a step that tells
 
--- each outcome is said exactly where it is seen, and nothing else goes out than what is said to be sent, the pair first
+-- each outcome is said exactly where it is seen; nothing else goes out than what is said to be sent, the pair first; and of what is saved nothing else
+-- changes than what is said
 pub record Tells (v : Saved) (u : List ℕ) (o : Outcome) (gs : List Group) (v′ : Saved) : Type 0 where
-  pub of-unit : (x : UnitOutcome) → (o .unit ≡ x) ↔ UnitSeen x v u gs v′
-  pub of-pair : (x : PairOutcome) → (o .pair ≡ x) ↔ PairSeen x v gs v′
+  pub unit-told : (x : UnitOutcome) → (o .unit ≡ x) ↔ UnitSeen x v u gs v′
+  pub pair-told : (x : PairOutcome) → (o .pair ≡ x) ↔ PairSeen x v gs v′
   pub nothing-else : carriedIn gs ≡ setsSent (o .pair) v ++ unitSent (o .unit) u
+  pub kept : (v′ ≡ v) ⊎ (ChangedTo u v v′ ⊎ Gone v v′)
+
+-- the units that a list of outcomes says are sent, in the order of sending
+abbrev pub saidSent : Saved → List (List ℕ) → List Outcome → List (List ℕ)
+saidSent v [] os = []
+saidSent v (u ∷ us) [] = []
+saidSent v (u ∷ us) (o ∷ os) = (setsSent (o .pair) v ++ unitSent (o .unit) u) ++ saidSent (keep v u) us os
 
 -- any step of a sender, by the mtu, what is saved and the unit: what it says, sends and keeps
 pub record Step : Type 0 where
@@ -87,3 +95,31 @@ TellsAlways s = (mtu : ℕ) (v : Saved) (u : List ℕ) → Tells v u (s .says mt
 
 abbrev pub ourStep : Step
 ourStep = record { says = outcomeFor; sends = groupsFor; keeps = λ mtu. keep }
+
+-- ---- wrong steps
+
+-- one that forgets a pair that it does not send, and never says so
+pub record ForgetsUntold (s : Step) : Type 0 where
+  pub mtu : ℕ
+  pub saved : Saved
+  pub unit : List ℕ
+  pub gone : Gone saved (s .keeps mtu saved unit)
+  pub unsent : pairsIn (s .sends mtu saved unit) ≡ []
+  pub untold : s .says mtu saved unit .pair ≡ of-pair.DroppedForMtu → ⊥
+
+-- one that drops a unit that is to be sent, and does not say so
+pub record DropsUntold (s : Step) : Type 0 where
+  pub mtu : ℕ
+  pub saved : Saved
+  pub unit : List ℕ
+  pub other : Other unit
+  pub unsent : unitsIn (s .sends mtu saved unit) ≡ []
+  pub untold : s .says mtu saved unit .unit ≡ of-unit.DroppedForMtu → ⊥
+
+-- one that says of a unit that is never sent that it was dropped for the mtu
+pub record CountsUnasked (s : Step) : Type 0 where
+  pub mtu : ℕ
+  pub saved : Saved
+  pub unit : List ℕ
+  pub never : Typed 9 unit ⊎ Typed 12 unit
+  pub told : s .says mtu saved unit .unit ≡ of-unit.DroppedForMtu

@@ -75,12 +75,15 @@ pub struct H264Payloader {
 struct PutPair {
     // how far output and table are written
     place: Place,
+    // what became of it
     outcome: PairOutcome,
 }
 
 // What the step that sends one unit leaves.
 struct Emitted {
+    // the sets that wait then
     sender: H264Payloader,
+    // how far output and table are written
     place: Place,
     // what became of the unit, and of the pair that may stand before it
     outcome: Outcome,
@@ -88,7 +91,9 @@ struct Emitted {
 
 // What the units of a frame leave.
 struct Walked {
+    // the sets that wait then
     sender: H264Payloader,
+    // how far output and table are written
     place: Place,
     // what was dropped of them for the mtu
     drops: Drops,
@@ -180,7 +185,7 @@ impl H264Payloader {
     }
 
     // A step that sends nothing: no pair is due.
-    fn quiet(self, place: Place, unit: UnitOutcome) -> Emitted
+    fn unsent(self, place: Place, unit: UnitOutcome) -> Emitted
         ensures { λ r. ⌜ (r .sender ≡ self) × (r .place ≡ place) × (r .outcome ≡ withoutPair unit) ⌝ }
     {
         Emitted {
@@ -201,10 +206,10 @@ impl H264Payloader {
         ensures { λ r. ⌜ r .outcome ≡ outcomeFor mtu (savedIn self) (now (unit .entry)) ⌝ }
     {
         match fate_of(unit) {
-            Fate::Empty => self.quiet(to, UnitOutcome::Empty),
-            Fate::Dropped => self.quiet(to, UnitOutcome::DroppedByType),
-            Fate::Sps => self.with_sps(unit).quiet(to, UnitOutcome::Saved),
-            Fate::Pps => self.with_pps(unit).quiet(to, UnitOutcome::Saved),
+            Fate::Empty => self.unsent(to, UnitOutcome::Empty),
+            Fate::Dropped => self.unsent(to, UnitOutcome::DroppedByType),
+            Fate::Sps => self.with_sps(unit).unsent(to, UnitOutcome::Saved),
+            Fate::Pps => self.with_pps(unit).unsent(to, UnitOutcome::Saved),
             Fate::Coded => {
                 let before = self.put_waiting(mtu, out, ends, to);
                 let behind = before.place;

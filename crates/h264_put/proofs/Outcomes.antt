@@ -8,8 +8,8 @@ use native.Mathlib.Omega.{arith}
 use lib.Dec.{leb, ltb}
 use lib.ListN.{length}
 use borrow.Author.Tests.{le-leb, lt-leb, lt-ltb, le-ltb}
-use Rattle.h264_put.specs.declared.outcome.UnitOutcome.the-variants as unit
-use Rattle.h264_put.specs.declared.outcome.PairOutcome.the-variants as pair
+use Rattle.h264_put.specs.declared.outcome.UnitOutcome.the-variants as of-unit
+use Rattle.h264_put.specs.declared.outcome.PairOutcome.the-variants as of-pair
 use Rattle.h264_put.specs.declared.outcome.Outcome.{Outcome}
 use Rattle.h264_put.specs.declared.outcome.Drops.{Drops}
 use Rattle.h264_put.specs.Groups.{Saved, bothSaved, stapA}
@@ -18,32 +18,32 @@ use Rattle.h264_put.proofs.Sinks.{length-stapA}
 
 module _ (mtu : ℕ) (u : List ℕ) where
   by-tests : (fits under : Bool) → leb (length u) mtu ≡ fits → ltb mtu 3 ≡ under →
-      cond fits unit.Sent (cond under unit.DroppedForMtu unit.Sent) ≡ unitOutcome mtu u
+      cond fits of-unit.Sent (cond under of-unit.DroppedForMtu of-unit.Sent) ≡ unitOutcome mtu u
   unfolding unitOutcome
-  by-tests fits under e q = sym (ap₂ (λ (x y : Bool). cond x unit.Sent (cond y unit.DroppedForMtu unit.Sent)) e q)
+  by-tests fits under e q = sym (ap₂ (λ (x y : Bool). cond x of-unit.Sent (cond y of-unit.DroppedForMtu of-unit.Sent)) e q)
 
-  pub sent-alone : length u ≤ mtu → unit.Sent ≡ unitOutcome mtu u
+  pub sent-alone : length u ≤ mtu → of-unit.Sent ≡ unitOutcome mtu u
   sent-alone h = by-tests true (ltb mtu 3) (le-leb (length u) mtu h) refl
 
-  pub dropped-under : mtu < length u → mtu < 3 → unit.DroppedForMtu ≡ unitOutcome mtu u
+  pub dropped-under : mtu < length u → mtu < 3 → of-unit.DroppedForMtu ≡ unitOutcome mtu u
   dropped-under h g = by-tests false true (lt-leb (length u) mtu h) (lt-ltb mtu 3 g)
 
-  pub sent-divided : mtu < length u → 3 ≤ mtu → unit.Sent ≡ unitOutcome mtu u
+  pub sent-divided : mtu < length u → 3 ≤ mtu → of-unit.Sent ≡ unitOutcome mtu u
   sent-divided h g = by-tests false false (lt-leb (length u) mtu h) (le-ltb mtu 3 g)
 
 module _ (mtu : ℕ) (v : Saved) where
   by-pair : (both fits : Bool) → bothSaved v ≡ both → leb (length (stapA (v .sps) (v .pps))) mtu ≡ fits →
-      cond both (cond fits pair.Sent pair.DroppedForMtu) pair.NotDue ≡ pairOutcome mtu v
+      cond both (cond fits of-pair.Sent of-pair.DroppedForMtu) of-pair.NotDue ≡ pairOutcome mtu v
   unfolding pairOutcome
-  by-pair both fits e q = sym (ap₂ (λ (x y : Bool). cond x (cond y pair.Sent pair.DroppedForMtu) pair.NotDue) e q)
+  by-pair both fits e q = sym (ap₂ (λ (x y : Bool). cond x (cond y of-pair.Sent of-pair.DroppedForMtu) of-pair.NotDue) e q)
 
-  pub not-due : bothSaved v ≡ false → pair.NotDue ≡ pairOutcome mtu v
+  pub not-due : bothSaved v ≡ false → of-pair.NotDue ≡ pairOutcome mtu v
   not-due e = by-pair false (leb (length (stapA (v .sps) (v .pps))) mtu) e refl
 
-  pub due-over : bothSaved v ≡ true → mtu < 5 + length (v .sps) + length (v .pps) → pair.DroppedForMtu ≡ pairOutcome mtu v
+  pub due-over : bothSaved v ≡ true → mtu < 5 + length (v .sps) + length (v .pps) → of-pair.DroppedForMtu ≡ pairOutcome mtu v
   due-over e h = by-pair true false e (lt-leb (length (stapA (v .sps) (v .pps))) mtu (rw (length-stapA (v .sps) (v .pps)) h))
 
-  pub due-sent : bothSaved v ≡ true → 5 + length (v .sps) + length (v .pps) ≤ mtu → pair.Sent ≡ pairOutcome mtu v
+  pub due-sent : bothSaved v ≡ true → 5 + length (v .sps) + length (v .pps) ≤ mtu → of-pair.Sent ≡ pairOutcome mtu v
   due-sent e h = by-pair true true e (le-leb (length (stapA (v .sps) (v .pps))) mtu (rw (length-stapA (v .sps) (v .pps)) h))
 
 -- ---- the counts

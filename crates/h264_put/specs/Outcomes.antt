@@ -7,9 +7,9 @@ use lib.ListN.{length}
 use Rattle.h264_put.specs.declared.fate.Fate.{Fate}
 use Rattle.h264_put.specs.declared.fate.Fate.the-variants.{Empty, Dropped, Sps, Pps, Coded}
 use Rattle.h264_put.specs.declared.outcome.UnitOutcome.{UnitOutcome}
-use Rattle.h264_put.specs.declared.outcome.UnitOutcome.the-variants as unit
+use Rattle.h264_put.specs.declared.outcome.UnitOutcome.the-variants as of-unit
 use Rattle.h264_put.specs.declared.outcome.PairOutcome.{PairOutcome}
-use Rattle.h264_put.specs.declared.outcome.PairOutcome.the-variants as pair
+use Rattle.h264_put.specs.declared.outcome.PairOutcome.the-variants as of-pair
 use Rattle.h264_put.specs.declared.outcome.Outcome.{Outcome}
 use Rattle.h264_put.specs.declared.outcome.Drops.{Drops}
 use Rattle.h264_put.specs.Groups.{Saved, bothSaved, fateOf, keep, stapA}
@@ -18,30 +18,30 @@ use Rattle.h264_put.specs.Groups.{Saved, bothSaved, fateOf, keep, stapA}
 
 -- "A unit that fits goes alone, else as FU-A with at most mtu - 2 bytes each; under mtu 3 it is dropped."
 unfoldable pub unitOutcome : ℕ → List ℕ → UnitOutcome
-unitOutcome mtu u = cond (leb (length u) mtu) unit.Sent (cond (ltb mtu 3) unit.DroppedForMtu unit.Sent)
+unitOutcome mtu u = cond (leb (length u) mtu) of-unit.Sent (cond (ltb mtu 3) of-unit.DroppedForMtu of-unit.Sent)
 
 -- "with both saved, is preceded by a STAP-A (0x78) if that fits the mtu; the pair is forgotten either way"
 unfoldable pub pairOutcome : ℕ → Saved → PairOutcome
 pairOutcome mtu v =
-    cond (bothSaved v) (cond (leb (length (stapA (v .sps) (v .pps))) mtu) pair.Sent pair.DroppedForMtu) pair.NotDue
+    cond (bothSaved v) (cond (leb (length (stapA (v .sps) (v .pps))) mtu) of-pair.Sent of-pair.DroppedForMtu) of-pair.NotDue
 
 -- at a unit that is not to be sent no pair is due
 abbrev pub withoutPair : UnitOutcome → Outcome
-withoutPair u = record { unit = u; pair = pair.NotDue }
+withoutPair u = record { unit = u; pair = of-pair.NotDue }
 
 -- "Empty units and types 9, 12 are dropped; 7, 8 are saved. Any other unit" is sent or dropped for the mtu
 abbrev pub outcomeBy : Fate → ℕ → Saved → List ℕ → Outcome
-outcomeBy Empty mtu v u = withoutPair unit.Empty
-outcomeBy Dropped mtu v u = withoutPair unit.DroppedByType
-outcomeBy Sps mtu v u = withoutPair unit.Saved
-outcomeBy Pps mtu v u = withoutPair unit.Saved
+outcomeBy Empty mtu v u = withoutPair of-unit.Empty
+outcomeBy Dropped mtu v u = withoutPair of-unit.DroppedByType
+outcomeBy Sps mtu v u = withoutPair of-unit.Saved
+outcomeBy Pps mtu v u = withoutPair of-unit.Saved
 outcomeBy Coded mtu v u = record { unit = unitOutcome mtu u; pair = pairOutcome mtu v }
 
 -- what becomes of one unit and of the pair at it, where v is saved
 unfoldable pub outcomeFor : ℕ → Saved → List ℕ → Outcome
 outcomeFor mtu v u = outcomeBy (fateOf u) mtu v u
 
--- of units in order
+-- of units in order, where the frame is answered: what is refused becomes nothing
 abbrev pub outcomesOf : ℕ → Saved → List (List ℕ) → List Outcome
 outcomesOf mtu v [] = []
 outcomesOf mtu v (u ∷ us) = outcomeFor mtu v u ∷ outcomesOf mtu (keep v u) us
@@ -49,16 +49,16 @@ outcomesOf mtu v (u ∷ us) = outcomeFor mtu v u ∷ outcomesOf mtu (keep v u) u
 -- ---- how many are dropped for the mtu
 
 abbrev pub unitDropped : UnitOutcome → Bool
-unitDropped unit.Empty = false
-unitDropped unit.DroppedByType = false
-unitDropped unit.Saved = false
-unitDropped unit.Sent = false
-unitDropped unit.DroppedForMtu = true
+unitDropped of-unit.Empty = false
+unitDropped of-unit.DroppedByType = false
+unitDropped of-unit.Saved = false
+unitDropped of-unit.Sent = false
+unitDropped of-unit.DroppedForMtu = true
 
 abbrev pub pairDropped : PairOutcome → Bool
-pairDropped pair.NotDue = false
-pairDropped pair.Sent = false
-pairDropped pair.DroppedForMtu = true
+pairDropped of-pair.NotDue = false
+pairDropped of-pair.Sent = false
+pairDropped of-pair.DroppedForMtu = true
 
 abbrev pub one : Bool → ℕ
 one b = cond b 1 0

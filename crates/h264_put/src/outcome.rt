@@ -27,13 +27,15 @@ pub enum PairOutcome {
 
 // What became of one unit, and of the pair at it.
 pub struct Outcome {
+    // of the unit
     pub unit: UnitOutcome,
+    // of the pair, which goes out before the unit or not at all
     pub pair: PairOutcome,
 }
 
 // How many were dropped for the mtu.
 pub struct Drops {
-    // units, fewer than the frame has bytes
+    // units, no more than the frame has bytes
     pub units: usize,
     // pairs of parameter sets, no more than the frame has units
     pub pairs: usize,

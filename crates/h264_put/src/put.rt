@@ -123,6 +123,7 @@ fn put_fragments(unit: &[u8], size: usize, out: &mut [u8], ends: &mut [usize], t
 
 // What putting a unit leaves.
 pub struct PutUnit {
+    // how far output and table are written
     pub place: Place,
     // Sent or DroppedForMtu
     pub outcome: UnitOutcome,

@@ -31,7 +31,7 @@ pub struct Sending {
     pub packets: u64,
     // how many units were dropped for the mtu
     pub units_dropped: u64,
-    // how many pairs of parameter sets were
+    // how many pairs of parameter sets were dropped for the mtu
     pub pairs_dropped: u64,
     // NO_SETS until a pair was among the packets
     pub sets: u8,

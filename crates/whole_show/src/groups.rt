@@ -27,7 +27,7 @@ pub struct Groups {
     pub pps: usize,
     // how many units are dropped for the mtu
     pub units_dropped: usize,
-    // how many pairs of parameter sets are
+    // how many pairs of parameter sets are dropped for the mtu
     pub pairs_dropped: usize,
 }
 

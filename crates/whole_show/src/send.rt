@@ -20,7 +20,7 @@ pub struct Sending {
     pub sender: H264Payloader,
     // how many units it said were dropped for the mtu
     pub units_dropped: usize,
-    // how many pairs of parameter sets it said were
+    // how many pairs of parameter sets it said were dropped for the mtu
     pub pairs_dropped: usize,
 }
 

@@ -47,7 +47,7 @@ returns c =
     let start = arm .before .before .before .before .before .before in
     let s = sinkAt (start .args .out .now) (start .args .ends .now) (start .args .to) in
     let e = sym (arm .before .before .fate-of .ensures) ∙ arm .enum-told .given .1 in
-    let left = c .quiet in (
+    let left = c .unsent in (
       done-empty (start .args .self) (start .args .mtu) (start .args .unit .now) s (start .pre) e (left .result .sender) _ (left .ensures .0)
           (ap (sinkAt (start .args .out .now) (start .args .ends .now)) (left .ensures .1)),
       told-by (start .args .self) (start .args .mtu) (start .args .unit .now) s (start .pre) Empty e (left .result .outcome) (left .ensures .2),
@@ -59,7 +59,7 @@ returns-2 c =
     let start = arm .before .before .before .before .before .before in
     let s = sinkAt (start .args .out .now) (start .args .ends .now) (start .args .to) in
     let e = sym (arm .before .before .fate-of .ensures) ∙ arm .enum-told2 .given .1 in
-    let left = c .quiet2 in (
+    let left = c .unsent2 in (
       done-dropped (start .args .self) (start .args .mtu) (start .args .unit .now) s (start .pre) e (left .result .sender) _ (left .ensures .0)
           (ap (sinkAt (start .args .out .now) (start .args .ends .now)) (left .ensures .1)),
       told-by (start .args .self) (start .args .mtu) (start .args .unit .now) s (start .pre) Dropped e (left .result .outcome) (left .ensures .2),
@@ -72,7 +72,7 @@ returns-3 c =
     let s = sinkAt (start .args .out .now) (start .args .ends .now) (start .args .to) in
     let e = sym (arm .before .before .fate-of .ensures) ∙ arm .enum-told3 .given .1 in
     let saved = c .before .with-sps in
-    let left = c .quiet3 in (
+    let left = c .unsent3 in (
       done-sps (start .args .self) (start .args .mtu) (start .args .unit .now) s (start .pre) e (saved .result) (saved .ensures) (left .result .sender) _ (left .ensures .0)
           (ap (sinkAt (start .args .out .now) (start .args .ends .now)) (left .ensures .1)),
       told-by (start .args .self) (start .args .mtu) (start .args .unit .now) s (start .pre) Sps e (left .result .outcome) (left .ensures .2),
@@ -85,7 +85,7 @@ returns-4 c =
     let s = sinkAt (start .args .out .now) (start .args .ends .now) (start .args .to) in
     let e = sym (arm .before .before .fate-of .ensures) ∙ arm .enum-told4 .given .1 in
     let saved = c .before .with-pps in
-    let left = c .quiet4 in (
+    let left = c .unsent4 in (
       done-pps (start .args .self) (start .args .mtu) (start .args .unit .now) s (start .pre) e (saved .result) (saved .ensures) (left .result .sender) _ (left .ensures .0)
           (ap (sinkAt (start .args .out .now) (start .args .ends .now)) (left .ensures .1)),
       told-by (start .args .self) (start .args .mtu) (start .args .unit .now) s (start .pre) Pps e (left .result .outcome) (left .ensures .2),

@@ -63,18 +63,21 @@ and-requires c κs =
 
 loop-less : tie.Need-loop-less Inv-loop μ-loop
 loop-less c =
-    let piece = c .before .before .before .before .before .before .before .before .before .before .before .before .before .unit-at in
-    let onward = piece-onward (c .before .before .before .before .before .before .before .before .before .before .before .before .before .before .before .before .before .before .before .args .frame .now) (c .before .before .before .before .before .before .before .before .before .before .before .before .before .before .loop .start)
-    (piece .result) (piece .ensures) (not-false _ (c .if1 .left)) in
+    let turn = c .before .before .before .before .before .before .before .before .before .before .before .before .before in
+    let piece = turn .unit-at in
+    let frame = turn .before .before .before .before .before .before .args .frame .now in
+    let onward = piece-onward frame (turn .before .loop .start) (piece .result) (piece .ensures) (not-false _ (c .if1 .left)) in
     omega (arith, onward, piece .ensures .from, piece .ensures .within)
 
 loop-again : tie.Need-loop-again Inv-loop μ-loop
 loop-again c =
-    let frame = c .before .before .before .before .before .before .before .before .before .before .before .before .before .before .before .before .before .before .before .args .frame .now in
-    let at-head = c .before .before .before .before .before .before .before .before .before .before .before .before .before .before .loop in
+    let emitted = c .before .before .before .before .before .before .before .before .before in
+    let turn = emitted .before .before .before .before in
+    let frame = turn .before .before .before .before .before .before .args .frame .now in
+    let at-head = turn .before .loop in
     let s = sinkAt (at-head .out) (at-head .ends) (at-head .place) in
-    let piece = c .before .before .before .before .before .before .before .before .before .before .before .before .before .unit-at in
-    let sent = c .before .before .before .before .before .before .before .before .before .emit in
+    let piece = turn .unit-at in
+    let sent = emitted .emit in
     let counts = c .before .before .and in
     let onward = piece-onward frame (at-head .start) (piece .result) (piece .ensures) (not-false _ (c .if1 .left)) in (
       piece .ensures .within,
@@ -100,18 +103,24 @@ loop-again c =
     )
 
 same-length : tie.Need-same-length Inv-loop μ-loop
-same-length c = c .before .before .before .before .before .before .before .before .before .emit .kept .1 .1 .1 .0 ∙ c .before .before .before .before .before .before .before .before .before .before .before .before .before .before .loop .inv .2
+same-length c =
+    let emitted = c .before .before .before .before .before .before .before .before .before in
+    emitted .emit .kept .1 .1 .1 .0 ∙ emitted .before .before .before .before .before .loop .inv .2
 
 same-length-2 : tie.Need-same-length-2 Inv-loop μ-loop
-same-length-2 c = c .before .before .before .before .before .before .before .before .before .emit .kept .1 .1 .1 .1 .0 ∙ c .before .before .before .before .before .before .before .before .before .before .before .before .before .before .loop .inv .3
+same-length-2 c =
+    let emitted = c .before .before .before .before .before .before .before .before .before in
+    emitted .emit .kept .1 .1 .1 .1 .0 ∙ emitted .before .before .before .before .before .loop .inv .3
 
 returns : tie.Need-returns Inv-loop μ-loop
 returns c =
-    let frame = c .before .before .before .before .before .before .before .before .before .before .before .before .before .before .before .before .before .before .before .args .frame .now in
-    let at-head = c .before .before .before .before .before .before .before .before .before .before .before .before .before .before .loop in
+    let emitted = c .before .before .before .before .before .before .before .before .before in
+    let turn = emitted .before .before .before .before in
+    let frame = turn .before .before .before .before .before .before .args .frame .now in
+    let at-head = turn .before .loop in
     let s = sinkAt (at-head .out) (at-head .ends) (at-head .place) in
-    let piece = c .before .before .before .before .before .before .before .before .before .before .before .before .before .unit-at in
-    let sent = c .before .before .before .before .before .before .before .before .before .emit in
+    let piece = turn .unit-at in
+    let sent = emitted .emit in
     let ended = walk-end _ _ _ _ frame (at-head .start) (at-head .sender) s (at-head .drops) (at-head .inv .1) (piece .result) (piece .ensures) _ _ _ _
     (sent .ensures .0) (sent .ensures .1) (c .before .before .and .ensures) (not-true _ (c .if1 .taken)) in
     (record { state = ended .0; put = ended .1 }, ended .2)
