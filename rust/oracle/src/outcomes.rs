@@ -69,9 +69,9 @@ pub fn send(sender: &mut H264Payloader, mtu: usize, frame: &Bytes) -> Result<Sen
     }
     let mut again = vec![];
     for unit in units(frame) {
-        let due = one_by_one.waiting().map(|(sps, pps)| stap_a(sps, pps));
+        let before = one_by_one.clone();
         let alone = one_by_one.payload(mtu, &unit)?;
-        outcomes.push(outcome(&unit, due, &alone));
+        outcomes.push(outcome(&unit, before, &alone, one_by_one.clone().held()));
         again.extend(alone);
     }
     assert_eq!(again, packets, "the units' packets are the frame's");
@@ -100,17 +100,32 @@ fn stap_a(sps: &Bytes, pps: &Bytes) -> Bytes {
     Bytes::from([&[OUTPUT_STAP_AHEADER][..], &size(sps), sps, &size(pps), pps].concat())
 }
 
-/// What became of a unit with these packets, and of the pair whose packet was due before them.
-fn outcome(unit: &Bytes, due: Option<Bytes>, packets: &[Bytes]) -> Outcome {
-    let without_pair = |unit| Outcome { unit, pair: Pair::NotDue };
-    let Some(first) = unit.first() else {
-        return without_pair(Unit::Empty);
+type Sets = (Bytes, Bytes);
+
+/// What became of a unit, and of the pair at it, by these packets and by the sets held afterwards.
+fn outcome(unit: &Bytes, before: H264Payloader, packets: &[Bytes], after: Sets) -> Outcome {
+    let due = before.waiting().map(|(sps, pps)| stap_a(sps, pps));
+    let (sps, pps) = before.held();
+    let unsent = |unit, sets: Sets| {
+        assert!(packets.is_empty(), "{unit:?}, and a packet");
+        assert_eq!(after, sets, "{unit:?}, and the sets");
+        Outcome { unit, pair: Pair::NotDue }
     };
-    match first & NALU_TYPE_BITMASK {
-        kind @ (9 | 12) => return without_pair(Unit::DroppedByType(kind)),
-        kind @ (7 | 8) => return without_pair(Unit::Saved(kind)),
-        _ => {}
+    match unit.first().map(|first| first & NALU_TYPE_BITMASK) {
+        None => unsent(Unit::Empty, (sps, pps)),
+        Some(kind @ (9 | 12)) => unsent(Unit::DroppedByType(kind), (sps, pps)),
+        Some(kind @ 7) => unsent(Unit::Saved(kind), (unit.clone(), pps)),
+        Some(kind @ 8) => unsent(Unit::Saved(kind), (sps, unit.clone())),
+        Some(_) => {
+            // "The pair is forgotten either way"; a set without the other waits on.
+            assert_eq!(after, if due.is_some() { Sets::default() } else { (sps, pps) });
+            of_sent(unit, due, packets)
+        }
     }
+}
+
+/// What became of a unit that is to be sent, and of the pair whose packet was due before it.
+fn of_sent(unit: &Bytes, due: Option<Bytes>, packets: &[Bytes]) -> Outcome {
     // A unit that is itself such a packet comes second, or in fragments, which begin otherwise.
     let (pair, own) = match (&due, packets) {
         (None, _) => (Pair::NotDue, packets),
