@@ -28,14 +28,18 @@ pub enum Pair {
 
 #[derive(Clone, Copy, Debug, Eq, PartialEq)]
 pub struct Outcome {
+    /// What became of the unit itself.
     pub unit: Unit,
+    /// What became of the pair before it, if one was due.
     pub pair: Pair,
 }
 
-/// How many were dropped for the mtu.
+/// What was dropped for the mtu.
 #[derive(Clone, Copy, Debug, Default, Eq, PartialEq)]
 pub struct Drops {
+    /// Units that were to be sent and have no packet.
     pub units: usize,
+    /// Pairs that were due and have no STAP-A.
     pub pairs: usize,
 }
 
