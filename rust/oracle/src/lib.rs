@@ -12,8 +12,8 @@ pub mod packet;
 pub mod packetizer;
 pub mod vp8;
 
+pub mod asked;
 pub mod binary;
-pub mod fates;
 pub mod limits;
 pub mod outcomes;
 mod questions;

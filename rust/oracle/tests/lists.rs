@@ -3,8 +3,6 @@
 
 use std::process::Command;
 
-use oracle::fates;
-
 fn lists(arguments: &[&str]) -> String {
     let output = Command::new(env!("CARGO_BIN_EXE_lists")).args(arguments).output();
     let output = output.expect("lists runs");
@@ -71,19 +69,6 @@ fn h264() {
             ("h264.tail", "0 1"),
         ],
     );
-}
-
-/// A list stops where a fate is missing: so it is with the rows of any one left out.
-#[test]
-fn every_fate() {
-    let list = lists(&["h264"]);
-    let rows = || list.lines().filter_map(|row| row.split_once('\t'));
-    assert!(fates::missing(rows()).is_empty());
-    for fate in fates::every() {
-        let others =
-            rows().filter(|(question, answer)| !fates::of(question, answer).contains(&fate));
-        assert!(fates::missing(others).contains(&fate), "{fate}");
-    }
 }
 
 #[test]

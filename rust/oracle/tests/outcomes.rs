@@ -1,4 +1,4 @@
-//! What became of units and pairs, told from the Rust's packets: each fate by a frame of its own,
+//! What became of units and pairs, told from the Rust's packets: each outcome by a frame of its own,
 //! and the counts as the paper's words have them.
 
 use bytes::Bytes;

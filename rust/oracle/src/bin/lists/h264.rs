@@ -24,7 +24,7 @@ pub fn rows(list: &mut List) {
     reading_limits(list);
     shows(list);
     drops(list);
-    list.must_have_every_fate();
+    list.must_ask_all();
 }
 
 fn published(list: &mut List) {

@@ -4,7 +4,7 @@ use std::collections::{BTreeMap, HashSet};
 use std::io::Write;
 use std::process::exit;
 
-use oracle::{binary, fates};
+use oracle::{asked, binary};
 
 use crate::random::Random;
 
@@ -57,12 +57,11 @@ impl List {
         answer
     }
 
-    /// Stops unless everything that can become of a unit and of a pair occurs.
-    pub fn must_have_every_fate(&self) {
+    /// Stops unless every outcome of a unit and of a pair occurs.
+    pub fn must_ask_all(&self) {
         let rows = self.rows.iter().map(|(question, answer)| (&question[..], &answer[..]));
-        let missing = fates::missing(rows);
-        if !missing.is_empty() {
-            fail(&format!("no question has {}", missing.join("; ")));
+        if let Err(reason) = asked::all(rows) {
+            fail(&reason);
         }
     }
 

@@ -1,5 +1,5 @@
-//! What a list of H.264 sending has to ask about: everything that can become of a unit and of a
-//! pair, and the frames that are not looked at.
+//! What a list of H.264 sending has to ask about: every outcome of a unit and of a pair, and the
+//! frames that are not looked at.
 
 use std::collections::HashSet;
 
@@ -21,7 +21,8 @@ struct Asked {
 
 type Test = fn(&Asked) -> bool;
 
-const FATES: [(&str, Test); 18] = [
+/// What must occur, each by its name.
+const OUTCOMES: [(&str, Test); 19] = [
     ("an empty unit", |asked| asked.unit(Unit::Empty)),
     ("a unit of type 9", |asked| asked.unit(Unit::DroppedByType(9))),
     ("a unit of type 12", |asked| asked.unit(Unit::DroppedByType(12))),
@@ -37,6 +38,7 @@ const FATES: [(&str, Test); 18] = [
     }),
     ("a unit dropped at mtu 1", |asked| asked.mtu == 1 && asked.unit(Unit::DroppedForMtu)),
     ("a unit dropped at mtu 2", |asked| asked.mtu == 2 && asked.unit(Unit::DroppedForMtu)),
+    ("a unit dropped, with no pair due", |asked| asked.both(Unit::DroppedForMtu, Pair::NotDue)),
     ("a unit and its pair dropped", |asked| asked.both(Unit::DroppedForMtu, Pair::DroppedForMtu)),
     ("several units dropped of a frame", |asked| asked.sent.drops().units > 1),
     ("several pairs dropped of a frame", |asked| asked.sent.drops().pairs > 1),
@@ -48,24 +50,26 @@ const FATES: [(&str, Test); 18] = [
     }),
 ];
 
-pub fn every() -> impl Iterator<Item = &'static str> {
-    FATES.iter().map(|(name, _)| *name)
-}
-
-/// Those that occur in a row: none where nothing is sent, or the frame is refused.
-pub fn of(question: &str, answer: &str) -> Vec<&'static str> {
-    match Asked::of(question) {
-        Ok(asked) if answer.starts_with("ok") => {
-            FATES.iter().filter(|(_, is)| is(&asked)).map(|(name, _)| *name).collect()
-        }
-        _ => vec![],
+/// Refuses a list in which one of them does not occur, and says which.
+pub fn all<'a>(rows: impl Iterator<Item = (&'a str, &'a str)>) -> Result<(), String> {
+    let had: HashSet<&str> = rows.flat_map(|(question, answer)| of(question, answer)).collect();
+    let names = OUTCOMES.iter().map(|(name, _)| *name);
+    let missing: Vec<&str> = names.filter(|name| !had.contains(name)).collect();
+    if missing.is_empty() {
+        Ok(())
+    } else {
+        Err(format!("no question has {}", missing.join("; ")))
     }
 }
 
-/// Those that no row of a list has.
-pub fn missing<'a>(rows: impl Iterator<Item = (&'a str, &'a str)>) -> Vec<&'static str> {
-    let had: HashSet<&str> = rows.flat_map(|(question, answer)| of(question, answer)).collect();
-    every().filter(|fate| !had.contains(fate)).collect()
+/// Those that occur in a row: none where nothing is sent, or the frame is refused.
+fn of(question: &str, answer: &str) -> Vec<&'static str> {
+    match Asked::of(question) {
+        Ok(asked) if answer.starts_with("ok") => {
+            OUTCOMES.iter().filter(|(_, is)| is(&asked)).map(|(name, _)| *name).collect()
+        }
+        _ => vec![],
+    }
 }
 
 impl Asked {
