@@ -88,6 +88,8 @@ fn parameter_pair() {
     let frame = "00000167aa00000168bb000001650102";
     asked(&format!("h264.send 9 - - {frame}"), "ok - - 0 0 78000267aa000268bb,650102");
     asked(&format!("h264.send 8 - - {frame}"), "ok - - 0 1 650102");
+    // "Under mtu 3 it is dropped"; nor does the pair fit.
+    asked(&format!("h264.send 2 - - {frame}"), "ok - - 1 1 -");
 }
 
 // "`65 01 00 00 00 01 ..` after a start code: unit 6501."

@@ -49,7 +49,7 @@ pub fn h264(list: &mut List) {
     for mtu in [4, 2] {
         list.ask(format!("h264.send {mtu} - - 000001650102030405"));
     }
-    for mtu in [9, 8] {
+    for mtu in [9, 8, 2] {
         list.ask(format!("h264.send {mtu} - - 00000167aa00000168bb000001650102"));
     }
     list.ask("h264.next 00000165010000000141 3");
