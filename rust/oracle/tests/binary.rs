@@ -113,12 +113,7 @@ impl Read<'_> {
             }
             "header.ids" => format!("ok {}", bytes(4)),
             "h264.next" => format!("at {} {}", a[1], a[2]),
-            "h264.send" => {
-                assert_eq!([a[6], a[9]], [7, 10].map(|at| self.row.answer[at].len() as u64));
-                assert_eq!([a[8], a[11]], [0, 0]);
-                let (sps, pps, packets) = (bytes(7), bytes(10), self.packets(a));
-                format!("ok {sps} {pps} {} {} {packets}", a[3], a[12])
-            }
+            "h264.send" => self.sent(a),
             "h264.read" => {
                 let gathered = hex(&self.row.answer[5][..a[8] as usize]);
                 assert_eq!([a[1], a[7]], [self.row.answer[4].len() as u64, self.numbers[4]]);
@@ -132,6 +127,14 @@ impl Read<'_> {
             "header.size" | "header.len" | "packet.size" => format!("ok {}", a[1]),
             _ => a[1].to_string(),
         }
+    }
+
+    /// What H.264 sending answers: nothing stands behind the sets.
+    fn sent(&self, a: &[u64]) -> String {
+        let [sps, pps] = [7, 10].map(|at| self.row.answer[at]);
+        assert_eq!([a[6], a[9]], [sps, pps].map(|set| set.len() as u64));
+        assert_eq!([a[8], a[11]], [0, 0]);
+        format!("ok {} {} {} {} {}", hex(sps), hex(pps), a[3], a[12], self.packets(a))
     }
 
     fn packets(&self, a: &[u64]) -> String {
