@@ -121,7 +121,7 @@ pub fn h264_frame(random: &mut Random) -> Bytes {
     Bytes::from(if random.one_in(4) { random.damaged(&frame) } else { frame })
 }
 
-/// A unit behind a start code: its first byte, and at most one of these lengths.
+/// A unit behind a start code: its first byte, then at most as many bytes as one of these says.
 fn unit(random: &mut Random, head: u8, lens: &[usize]) -> Vec<u8> {
     let (zeros, below) = (2 + random.below(4), random.pick(lens));
     [&vec![0; zeros][..], &[1, head], &noise(random, below)].concat()
@@ -186,7 +186,9 @@ mod tests {
 
     use super::*;
 
-    /// How often, of frames that one sender sends.
+    /// Of the frames that one sender sends, more than one in 5 comes where a pair waits and at an mtu
+    /// up to 12; more than one in 25 has a unit dropped, one in 10 a pair, one in 50 both, one in 75
+    /// several units, and one in 300 several pairs.
     #[test]
     fn enough_is_dropped_for_the_mtu() {
         let (mut random, mut sender, frames) = (Random::new(1), H264Payloader::default(), 20_000);
