@@ -323,8 +323,4 @@ pub no-dropping-untold : (s : Step) → DropsUntold s → TellsAlways s → ⊥
 no-dropping-untold s w t = w .untold (t (w .mtu) (w .saved) (w .unit) .unit-told of-unit.DroppedForMtu .1 (w .other, w .unsent))
 
 pub no-counting-unasked : (s : Step) → CountsUnasked s → TellsAlways s → ⊥
-no-counting-unasked s w t = never (w .unit) (w .never) (t (w .mtu) (w .saved) (w .unit) .unit-told of-unit.DroppedForMtu .0 (w .told) .0)
-  where
-    never : (u : List ℕ) → Typed 9 u ⊎ Typed 12 u → Other u → ⊥
-    never [] m o = o
-    never (b ∷ s) m o = ⊎-elim (o .2) (o .3) m
+no-counting-unasked s w t = w .never (t (w .mtu) (w .saved) (w .unit) .unit-told of-unit.DroppedForMtu .0 (w .told) .0)

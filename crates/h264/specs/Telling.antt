@@ -116,10 +116,10 @@ pub record DropsUntold (s : Step) : Type 0 where
   pub unsent : unitsIn (s .sends mtu saved unit) ≡ []
   pub untold : s .says mtu saved unit .unit ≡ of-unit.DroppedForMtu → ⊥
 
--- one that says of a unit that is never sent that it was dropped for the mtu
+-- one that says of a unit that is not to be sent, of a delimiter say, that it was dropped for the mtu
 pub record CountsUnasked (s : Step) : Type 0 where
   pub mtu : ℕ
   pub saved : Saved
   pub unit : List ℕ
-  pub never : Typed 9 unit ⊎ Typed 12 unit
+  pub never : Other unit → ⊥
   pub told : s .says mtu saved unit .unit ≡ of-unit.DroppedForMtu

@@ -41,7 +41,7 @@ outcomeBy Coded mtu v u = record { unit = unitOutcome mtu u; pair = pairOutcome 
 unfoldable pub outcomeFor : ℕ → Saved → List ℕ → Outcome
 outcomeFor mtu v u = outcomeBy (fateOf u) mtu v u
 
--- of units in order, where the frame is answered: what is refused becomes nothing
+-- of units in order; of a frame that is refused nothing is sent or saved, and this is not asked
 abbrev pub outcomesOf : ℕ → Saved → List (List ℕ) → List Outcome
 outcomesOf mtu v [] = []
 outcomesOf mtu v (u ∷ us) = outcomeFor mtu v u ∷ outcomesOf mtu (keep v u) us
