@@ -2,6 +2,7 @@
 //
 // Only proved code calls this crate, so its functions may ask that the place is there.
 ghost use mathlib.Core.Path.{_≡_};
+ghost use mathlib.Core.List.{reverse};
 ghost use Prim.Native.Nat.{_+_, _<_, _≤_};
 ghost use lib.ListN.{length, replicate};
 ghost use Rattle.wire.specs.Net.{u16At, u32At, be16, be32};
@@ -33,39 +34,60 @@ fn octet32(b: u8) -> u32
     b as u32
 }
 
+// A number with its octets the other way round. A slice's octets are read and stored lowest first, and the number is turned, so that
+// the compiler makes one access and a byte swap of them, also where the call is inlined among other accesses.
+fn turned16(n: u16) -> u16
+    ensures { λ r. ⌜ be16 r ≡ reverse (be16 n) ⌝ }
+{
+    n % 256 * 256 + n / 256 % 256
+}
+
+fn turned32(n: u32) -> u32
+    ensures { λ r. ⌜ be32 r ≡ reverse (be32 n) ⌝ }
+{
+    n % 256 * 16777216
+        + n / 256 % 256 * 65536
+        + n / 256 / 256 % 256 * 256
+        + n / 256 / 256 / 256 % 256
+}
+
 pub fn get_u16(s: &[u8], at: usize) -> u16
     requires { ⌜ at + 2 ≤ length (now s) ⌝ }
     ensures { λ r. ⌜ r ≡ u16At (now (s .entry)) at ⌝ }
 {
-    octet16(s[at]) * 256 + octet16(s[at + 1])
+    turned16(octet16(s[at + 1]) * 256 + octet16(s[at]))
 }
 
 pub fn get_u32(s: &[u8], at: usize) -> u32
     requires { ⌜ at + 4 ≤ length (now s) ⌝ }
     ensures { λ r. ⌜ r ≡ u32At (now (s .entry)) at ⌝ }
 {
-    octet32(s[at]) * 16777216
-        + octet32(s[at + 1]) * 65536
-        + octet32(s[at + 2]) * 256
-        + octet32(s[at + 3])
+    turned32(
+        octet32(s[at + 3]) * 16777216
+            + octet32(s[at + 2]) * 65536
+            + octet32(s[at + 1]) * 256
+            + octet32(s[at]),
+    )
 }
 
 pub fn put_u16(s: &mut [u8], at: usize, n: u16)
     requires { ⌜ at + 2 ≤ length (now s) ⌝ }
     ensures { λ _. ⌜ now (s .exit) ≡ splice (now (s .entry)) at (be16 n) ⌝ }
 {
-    s[at] = (n / 256 % 256) as u8;
-    s[at + 1] = (n % 256) as u8;
+    let turned = turned16(n);
+    s[at] = (turned % 256) as u8;
+    s[at + 1] = (turned / 256 % 256) as u8;
 }
 
 pub fn put_u32(s: &mut [u8], at: usize, n: u32)
     requires { ⌜ at + 4 ≤ length (now s) ⌝ }
     ensures { λ _. ⌜ now (s .exit) ≡ splice (now (s .entry)) at (be32 n) ⌝ }
 {
-    s[at] = (n / 256 / 256 / 256 % 256) as u8;
-    s[at + 1] = (n / 256 / 256 % 256) as u8;
-    s[at + 2] = (n / 256 % 256) as u8;
-    s[at + 3] = (n % 256) as u8;
+    let turned = turned32(n);
+    s[at] = (turned % 256) as u8;
+    s[at + 1] = (turned / 256 % 256) as u8;
+    s[at + 2] = (turned / 256 / 256 % 256) as u8;
+    s[at + 3] = (turned / 256 / 256 / 256 % 256) as u8;
 }
 
 // Copies all of src to the places of dst from at on.
