@@ -36,7 +36,8 @@ module _ (frame : List ℕ) (i z : ℕ) (h : i < length frame) where
   unfolding rest
   turn = rw (drop-cons frame i 0 h, add-one i)
 
-  on-by : (code : Bool) → endsCode (getD frame i 0) z ≡ code → code ≡ false → (isZero : Bool) → eqb (getD frame i 0) 0 ≡ isZero →
+  -- a byte that ends no start code, be it a zero or not
+  pub on-by : (code : Bool) → endsCode (getD frame i 0) z ≡ code → code ≡ false → (isZero : Bool) → eqb (getD frame i 0) 0 ≡ isZero →
       scan (drop i frame) i z ≡ scan (drop (i + 1) frame) (i + 1) (zerosBy isZero z)
   unfolding rest
   on-by code e n isZero q =

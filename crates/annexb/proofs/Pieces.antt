@@ -9,10 +9,11 @@ use lib.Dec.{eqb}
 use lib.ListN.{length, take, drop, replicate, length-replicate, replicate-append-replicate, length-drop}
 use lib.Seq.{take-append-add, take-all, length-take-le, drop-drop}
 use borrow.Author.Tests.{eqb-true}
+use Rattle.annexb.specs.declared.Code.{Code}
 use Rattle.annexb.specs.declared.Found.{Found}
 use Rattle.annexb.specs.declared.Found.the-variants.{At, Nothing}
 use Rattle.annexb.specs.declared.Piece.{Piece}
-use Rattle.annexb.specs.Search.{zerosBy, endsCode, scan, nextCode}
+use Rattle.annexb.specs.Search.{zerosBy, endsCode, scan, nextCode, codeOf}
 use Rattle.annexb.specs.Units.{Cut, cut, cutBy, pieces, units, unitsOfCut, Pieced}
 use Rattle.annexb.proofs.Codes.{no-one}
 
@@ -208,3 +209,15 @@ pub piece-end : (frame : List ℕ) (start : ℕ) (p : Piece) → Pieced frame st
     pieces (drop start frame) ≡ take (p .end - start) (drop start frame) ∷ []
 piece-end frame start p w e =
     w .same ∙ ap (λ (b : Bool). take (p .end - start) (drop start frame) ∷ cond b (pieces (drop (p .next) frame)) []) e
+
+-- ---- a start code by its ends
+
+-- what is so of the ends of a start code found, and of no start code where none is
+pub by-ends : (frame : List ℕ) (start : ℕ) (c : Code) → c ≡ codeOf (nextCode frame start) → (T : Code → Type 0) →
+    ((p n : ℕ) → nextCode frame start ≡ At p n → 0 < n → T (record { at = p; next = p + n })) →
+    (nextCode frame start ≡ Nothing → T (record { at = 0; next = 0 })) → T c
+by-ends frame start c e T found none = subst T (sym e) (go (nextCode frame start) refl)
+  where
+    go : (f : Found) → nextCode frame start ≡ f → T (codeOf f)
+    go (At p n) q = found p n q (told-of frame start (At p n) q .some)
+    go Nothing q = none q

@@ -1,3 +1,4 @@
 pub mod Search
+pub mod Runs
 pub mod Units
 pub mod AnnexB

@@ -6,6 +6,7 @@ use lib.Dec.{eqb, leb, ltb}
 use lib.ListN.{length, drop}
 use Rattle.error.specs.Said.{Said, says, refused, refuse}
 use Rattle.error.specs.Refusal.{refusalOf}
+use Rattle.annexb.specs.declared.Code.{Code}
 use Rattle.annexb.specs.declared.Found.{Found}
 use Rattle.annexb.specs.declared.Found.the-variants.{At, Nothing}
 use Rattle.annexb.specs.declared.Search.{Search}
@@ -29,6 +30,11 @@ scan (b ∷ s) at zeros =
 -- "The search yields the place and length of the first start code, all its zeros included": from the place `start` on
 unfoldable pub nextCode : List ℕ → ℕ → Found
 nextCode frame start = scan (drop start frame) start 0
+
+-- a start code by its ends: where its first zero stands, and the place behind its 1; both 0 where there is none
+abbrev pub codeOf : Found → Code
+codeOf (At place len) = record { at = place; next = place + len }
+codeOf Nothing = record { at = 0; next = 0 }
 
 -- ---- the search as a call
 

@@ -4,9 +4,10 @@
 //
 // A start code is two or more zeros and a 1. Bytes before the first one are ignored; without one the frame is one unit.
 ghost use mathlib.Core.Path.{_≡_};
-ghost use Prim.Native.Nat.{_≤_};
-ghost use lib.ListN.{length, drop};
-ghost use Rattle.annexb.specs.Search.{nextCode, saidSearch, nextInd};
+ghost use Prim.Native.Nat.{_+_, _≤_};
+ghost use lib.ListN.{length, drop, getD};
+ghost use Rattle.annexb.specs.Search.{nextCode, codeOf, saidSearch, nextInd};
+ghost use Rattle.annexb.specs.Runs.{Run, Zero, Other, ZerosEnd, ZerosStart};
 ghost use Rattle.annexb.specs.Units.{units, pieces, Pieced};
 use error::Error;
 
@@ -21,28 +22,176 @@ pub enum Search {
     Refused(Error),
 }
 
+// Where a start code lies. Two numbers and no enum: an enum that is returned is stored in parts and loaded whole, which stalls.
+struct Code {
+    // the place of its first zero; 0 where there is none
+    at: usize,
+    // the place behind its 1, at most the frame's length; 0 where there is none
+    next: usize,
+}
+
+fn lesser(a: u8, b: u8) -> u8
+    ensures { λ r. ⌜ (r ≤ a) × (r ≤ b) ⌝ }
+{
+    if b < a {
+        return b;
+    }
+    a
+}
+
+fn greater(a: u8, b: u8) -> u8
+    ensures { λ r. ⌜ (a ≤ r) × (b ≤ r) ⌝ }
+{
+    if a < b {
+        return b;
+    }
+    a
+}
+
+// The least of the sixteen bytes from i on. No byte ends the loop early: so all sixteen are compared at once.
+fn least(frame: &[u8], i: usize) -> u8
+    requires { ⌜ i + 16 ≤ length (now frame) ⌝ }
+    ensures { λ r. ⌜ Run (λ b. r ≤ b) (now (frame .entry)) i (i + 16) ⌝ }
+{
+    let mut m: u8 = 255;
+    let mut k = 0;
+    while k < 16 {
+        m = lesser(m, frame[i + k]);
+        k += 1;
+    }
+    m
+}
+
+// The greatest of the sixteen bytes from i on, likewise.
+fn greatest(frame: &[u8], i: usize) -> u8
+    requires { ⌜ i + 16 ≤ length (now frame) ⌝ }
+    ensures { λ r. ⌜ Run (λ b. b ≤ r) (now (frame .entry)) i (i + 16) ⌝ }
+{
+    let mut m: u8 = 0;
+    let mut k = 0;
+    while k < 16 {
+        m = greater(m, frame[i + k]);
+        k += 1;
+    }
+    m
+}
+
+// Behind bytes from start on that are neither 0 nor 1, sixteen at a time. The step is behind a branch, so that no turn waits for the one before.
+fn past_others(frame: &[u8], start: usize) -> usize
+    requires { ⌜ start ≤ length (now frame) ⌝ }
+    ensures { λ r. ⌜ Run Other (now (frame .entry)) start r ⌝ }
+{
+    let mut i = start;
+    loop {
+        if frame.len() - i < 16 {
+            break i;
+        }
+        if least(frame, i) < 2 {
+            break i;
+        }
+        i += 16;
+    }
+}
+
+// Behind zeros from start on, likewise.
+fn past_sixteens(frame: &[u8], start: usize) -> usize
+    requires { ⌜ start ≤ length (now frame) ⌝ }
+    ensures { λ r. ⌜ Run Zero (now (frame .entry)) start r ⌝ }
+{
+    let mut i = start;
+    loop {
+        if frame.len() - i < 16 {
+            break i;
+        }
+        if 0 < greatest(frame, i) {
+            break i;
+        }
+        i += 16;
+    }
+}
+
+// Behind the zeros from start on. A start code has two or three as a rule: sixteen at once are worth a look only behind those.
+fn past_zeros(frame: &[u8], start: usize) -> usize
+    requires { ⌜ start ≤ length (now frame) ⌝ }
+    ensures { λ r. ⌜ ZerosEnd (now (frame .entry)) start r ⌝ }
+{
+    let mut i = start;
+    loop {
+        if frame.len() <= i {
+            break i;
+        }
+        if frame[i] != 0 {
+            break i;
+        }
+        i += 1;
+        if 3 <= i - start {
+            i = past_sixteens(frame, i);
+        }
+    }
+}
+
+// The first of the zeros up to the one two places behind i; those before i do not count.
+fn first_zero(frame: &[u8], i: usize) -> usize
+    requires { ⌜ (i + 3 ≤ length (now frame)) × (getD (now frame) (i + 2) 0 ≡ 0) ⌝ }
+    ensures { λ r. ⌜ ZerosStart (now (frame .entry)) i r ⌝ }
+{
+    if frame[i + 1] != 0 {
+        return i + 2;
+    }
+    if frame[i] != 0 {
+        return i + 1;
+    }
+    i
+}
+
+// The first start code from start on. In each turn no zero before i counts: so none ends before the byte two ahead, which says how to go on.
+fn find_code(frame: &[u8], start: usize) -> Code
+    ensures { λ r. ⌜ r ≡ codeOf (nextCode (now (frame .entry)) start) ⌝ }
+{
+    if frame.len() < start {
+        return Code { at: 0, next: 0 };
+    }
+    let mut i = start;
+    loop {
+        if frame.len() - i < 3 {
+            break Code { at: 0, next: 0 };
+        }
+        let b = frame[i + 2];
+        if 1 < b {
+            i = past_others(frame, i + 3);
+            continue;
+        }
+        if b == 1 {
+            if frame[i] == 0 && frame[i + 1] == 0 {
+                break Code { at: i, next: i + 3 };
+            }
+            i += 3;
+            continue;
+        }
+        let first = first_zero(frame, i);
+        let end = past_zeros(frame, i + 3);
+        if frame.len() <= end {
+            break Code { at: 0, next: 0 };
+        }
+        if frame[end] == 1 && 2 <= end - first {
+            break Code {
+                at: first,
+                next: end + 1,
+            };
+        }
+        i = end + 1;
+    }
+}
+
 // The first start code from start on, all its zeros included.
 pub fn next_code(frame: &[u8], start: usize) -> Found
     ensures { λ r. ⌜ r ≡ nextCode (now (frame .entry)) start ⌝ }
 {
-    let mut zero_count = 0;
-    let mut i = start;
-    loop {
-        if frame.len() <= i {
-            break Found::Nothing;
-        }
-        let b = frame[i];
-        if b == 0 {
-            zero_count += 1;
-            i += 1;
-            continue;
-        }
-        if b == 1 && 2 <= zero_count {
-            break Found::At(i - zero_count, zero_count + 1);
-        }
-        zero_count = 0;
-        i += 1;
+    let code = find_code(frame, start);
+    if code.next == 0 {
+        return Found::Nothing;
     }
+    Found::At(code.at, code.next - code.at)
 }
 
 // The search by itself: too long a frame is refused, and a place beyond its end.
@@ -62,10 +211,8 @@ pub fn next_ind(frame: &[u8], start: usize) -> Search
 pub fn first_unit(frame: &[u8]) -> usize
     ensures { λ r. ⌜ (r ≤ length (now (frame .entry))) × (pieces (drop r (now (frame .entry))) ≡ units (now (frame .entry))) ⌝ }
 {
-    match next_code(frame, 0) {
-        Found::At(at, len) => at + len,
-        Found::Nothing => 0,
-    }
+    let code = find_code(frame, 0);
+    code.next
 }
 
 // A unit of a frame.
@@ -83,16 +230,17 @@ pub fn unit_at(frame: &[u8], start: usize) -> Piece
     requires { ⌜ start ≤ length (now frame) ⌝ }
     ensures { λ r. ⌜ Pieced (now (frame .entry)) start r ⌝ }
 {
-    match next_code(frame, start) {
-        Found::At(at, len) => Piece {
-            end: at,
-            more: true,
-            next: at + len,
-        },
-        Found::Nothing => Piece {
+    let code = find_code(frame, start);
+    if code.next == 0 {
+        return Piece {
             end: frame.len(),
             more: false,
             next: frame.len(),
-        },
+        };
+    }
+    Piece {
+        end: code.at,
+        more: true,
+        next: code.next,
     }
 }

@@ -1,27 +1,21 @@
--- The first unit starts behind the first start code, or with the frame.
-use mathlib.Core.Path.{sym, _∙_}
+-- The first unit starts behind the first start code, or with the frame: a code's end says which.
+use mathlib.Core.Path.{_≡_}
+use Prim.Native.Nat.{_≤_}
 use native.Mathlib.Omega.{arith}
+use lib.ListN.{length, drop}
 use borrow.Author.Needs.{needs}
-use Rattle.annexb.proofs.Pieces.{first-at, first-none}
+use Rattle.annexb.specs.declared.Code.{Code}
+use Rattle.annexb.specs.Units.{pieces, units}
+use Rattle.annexb.proofs.Pieces.{by-ends, first-at, first-none}
 use Rattle.annexb.proofs.first_unit.Statement.{statement}
 use Rattle.annexb.proofs.first_unit.Tie as tie
 
-add : tie.Need-add-result
-add c =
-    let start = c .before .before .before .before .before in
-    let found = c .before .at .given in
-    omega (arith, first-at (start .args .frame .now) (found .0 .0) (found .0 .1 .0) (sym (c .before .before .before .next-code .ensures) ∙ found .1) .0)
-
 returns : tie.Need-returns
 returns c =
-    let start = c .before .before .before .before .before in
-    let found = c .before .at .given in
-    first-at (start .args .frame .now) (found .0 .0) (found .0 .1 .0) (sym (c .before .before .before .next-code .ensures) ∙ found .1)
-
-returns-2 : tie.Need-returns-2
-returns-2 c =
-    (omega arith, first-none (c .before .before .before .before .args .frame .now) (sym (c .before .before .next-code .ensures) ∙ c .enum-told .given .1))
+    let frame = c .before .before .args .frame .now in
+    by-ends frame 0 (c .find-code .result) (c .find-code .ensures)
+    (λ (x : Code). (x .next ≤ length frame) × (pieces (drop (x .next) frame) ≡ units frame))
+    (λ p n e h. first-at frame p n e) (λ e. (omega arith, first-none frame e))
 
 pub first-unit-spec : {M : Type 1} → statement M
-first-unit-spec =
-    tie.close (tie.spec (λ c κs. search needs) (λ c. search needs) add (λ c. search needs) returns returns-2)
+first-unit-spec = tie.close (tie.spec (λ c κs. search needs) returns)

@@ -1,69 +1,37 @@
--- The invariant: what is still to be searched yields what the whole search yields. Each way through a turn is one law of `scan`.
-use mathlib.Core.Path.{_≡_, refl, sym, _∙_}
-use mathlib.Core.Bool.{false}
-use mathlib.Core.Logic.{⊎-elim}
-use Prim.Native.Nat.{_≤_, _-_}
-use lib.ListN.{length, drop, getD}
+-- A start code's length is what lies between its ends, and an end of 0 says that there is none.
+use mathlib.Core.Path.{_≡_, refl, sym, ap, _∙_}
+use Prim.Native.Nat.{_-_, _≤_}
+use native.Mathlib.Omega.{arith}
 use borrow.Author.Needs.{needs}
-use Rattle.annexb.specs.Search.{scan, nextCode, endsCode}
-use Rattle.annexb.proofs.Codes.{scan-end, scan-zero, scan-other, scan-code, no-one, few-zeros, one-after-zeros}
+use Rattle.annexb.specs.declared.Code.{Code}
+use Rattle.annexb.specs.declared.Found.the-variants.{At, Nothing}
+use Rattle.annexb.specs.Search.{nextCode}
+use Rattle.annexb.proofs.Pieces.{by-ends}
 use Rattle.annexb.proofs.next_code.Statement.{statement}
 use Rattle.annexb.proofs.next_code.Tie as tie
 
-abbrev Inv-loop : tie.InvT-loop
-Inv-loop frame start zero-count₀ i₀ zero-count i = (zero-count ≤ i) × (scan (drop i frame) i zero-count ≡ nextCode frame start)
+returns : tie.Need-returns
+returns c =
+    let args = c .before .before .before .before .args in
+    let code = c .before .before .find-code in
+    by-ends (args .frame .now) (args .start) (code .result) (code .ensures)
+    (λ (x : Code). x .next ≡ 0 → Nothing ≡ nextCode (args .frame .now) (args .start))
+    (λ p n e h z. absurd (omega arith)) (λ e z. sym e) (c .if1 .taken)
 
-abbrev μ-loop : tie.MeasureT-loop
-μ-loop frame start zero-count₀ i₀ zero-count i = length frame - i
+sub : tie.Need-sub-t5
+sub c =
+    let args = c .before .before .before .before .before .args in
+    let code = c .before .before .before .find-code in
+    by-ends (args .frame .now) (args .start) (code .result) (code .ensures)
+    (λ (x : Code). x .at ≤ x .next) (λ p n e h. omega arith) (λ e. omega arith)
 
-loop-holds : tie.Need-loop-holds Inv-loop μ-loop
-unfolding nextCode
-loop-holds c = (search needs, refl)
-
-loop-again : tie.Need-loop-again Inv-loop μ-loop
-loop-again c =
-    let at-head = c .before .before .before .loop in
-    let frame = c .before .before .before .before .args .frame .now in
-    (search needs, sym (scan-zero frame (at-head .i) (at-head .zero-count) (search needs) (c .if2 .taken)) ∙ at-head .inv .1)
-
-loop-again-2 : tie.Need-loop-again-2 Inv-loop μ-loop
-loop-again-2 c =
-    let at-head = c .before .before .before .before .loop in
-    let frame = c .before .before .before .before .before .args .frame .now in
-    let b = getD frame (at-head .i) 0 in
-    let none : endsCode b (at-head .zero-count) ≡ false =
-    ⊎-elim (λ w. few-zeros b (at-head .zero-count) (w .1 .left)) (λ w. no-one b (at-head .zero-count) (w .left)) (c .if3 .came) in
-    (search needs, sym (scan-other frame (at-head .i) (at-head .zero-count) (search needs) (c .before .if2 .left) none) ∙ at-head .inv .1)
-
-returns : tie.Need-returns Inv-loop μ-loop
-returns c = sym (scan-end _ _ _ (c .if1 .taken)) ∙ c .before .loop .inv .1
-
-returns-2 : tie.Need-returns-2 Inv-loop μ-loop
+returns-2 : tie.Need-returns-2
 returns-2 c =
-    let at-head = c .before .before .before .before .before .loop in
-    let frame = c .before .before .before .before .before .before .args .frame .now in
-    sym (
-    scan-code frame (at-head .i) (at-head .zero-count) (search needs)
-    (one-after-zeros _ (at-head .zero-count) (c .before .if3 .taken) (c .if4 .taken))
-    )
-    ∙ at-head .inv .1
+    let args = c .before .before .before .before .before .args in
+    let code = c .before .before .before .find-code in
+    by-ends (args .frame .now) (args .start) (code .result) (code .ensures)
+    (λ (x : Code). (x .next ≡ 0 → ⊥) → At (x .at) (x .next - x .at) ≡ nextCode (args .frame .now) (args .start))
+    (λ p n e h z. ap (At p) (omega arith) ∙ sym e) (λ e z. absurd (z refl)) (c .before .if1 .left)
 
 pub next-code-spec : {M : Type 1} → statement M
-next-code-spec =
-    tie.close
-    (tie.spec
-    Inv-loop
-    μ-loop
-    loop-holds
-    (λ c. search needs)
-    (λ c. search needs)
-    (λ c. search needs)
-    (λ c. search needs)
-    loop-again
-    (λ c. search needs)
-    (λ c. search needs)
-    (λ c. search needs)
-    (λ c. search needs)
-    loop-again-2
-    returns
-    returns-2)
+next-code-spec = tie.close (tie.spec (λ c κs. search needs) returns sub returns-2)
