@@ -19,14 +19,13 @@ use Rattle.annexb.specs.Units.{unitsAt}
 use Rattle.h264_put.specs.Groups.{Saved, nothingSaved, keep, keepAll, groupsOf, packetsOf}
 use Rattle.h264_put.specs.declared.outcome.Drops.{Drops}
 use Rattle.h264_put.specs.Outcomes.{outcomesOf, dropsIn}
-use Rattle.h264_put.specs.Step.{tooLong}
-use Rattle.h264.specs.Payload.{Counts, Left, layOut, savedIn, outside, overLimit, tooSmall, refusedWith, emptySink, sentAs, leftBy, payloadOf}
+use Rattle.h264_put.specs.Step.{emptySink, tooLong, overLimit}
+use Rattle.h264.specs.Payload.{Counts, Left, layOut, savedIn, outside, tooSmall, refusedWith, sentAs, leftBy, payloadOf}
 use Rattle.h264.specs.Frames.{groupsFrom, groupsSent}
 use Rattle.wire.proofs.Bools.{or-false-left, or-false-right}
 use Rattle.h264_put.proofs.Sizes.{packets-append}
 use Rattle.h264.proofs.Calls.{fits-small}
-use Rattle.h264.proofs.State.{saved-laid, Short}
-use Rattle.h264.proofs.Walks.{short-keep}
+use Rattle.h264.proofs.State.{saved-laid, Short, short-keep}
 use Rattle.error.proofs.Refusing.{not-says, same-answer}
 use Rattle.sequence.specs.Number.{numberOf}
 use Rattle.sequence.specs.Arrival.{Arrival, ours, other, raised, Window}
@@ -62,7 +61,7 @@ room-of ps out ends e =
 
 -- what such a call leaves, cut at the ends that it wrote
 cut-sent : (v : Saved) (ps : List (List ℕ)) (d : Drops) (out ends : List ℕ) → Room (emptySink out ends) ps →
-    let l : Left = sentAs v ps d out ends in cutBy (l .answer) (l .out) (l .ends) ≡ ps
+    let l : Left = sentAs (layOut v) ps d out ends in cutBy (l .answer) (l .out) (l .ends) ≡ ps
 unfolding whole
 cut-sent v ps d out ends r =
     let n : 0 + length ps ≡ length ps = omega arith in
@@ -102,7 +101,7 @@ module _ (mtu : ℕ) where
 
   -- what a call that answers leaves
   abbrev answered : Saved → (frame out ends : List ℕ) → Left
-  answered v frame out ends = sentAs (keepAll v (unitsAt mtu frame)) (sent v frame) (dropped v frame) out ends
+  answered v frame out ends = sentAs (layOut (keepAll v (unitsAt mtu frame))) (sent v frame) (dropped v frame) out ends
 
   record Passed (v : Saved) (frame out ends : List ℕ) : Type 0 where
     leaves : payloadOf (layOut v) mtu frame out ends ≡ answered v frame out ends

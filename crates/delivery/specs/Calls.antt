@@ -14,8 +14,8 @@ use Rattle.packet.specs.Plain.{plainFields}
 use Rattle.h264.specs.declared.send.H264Payloader.{H264Payloader}
 use Rattle.annexb.specs.Units.{unitsAt}
 use Rattle.h264_put.specs.Groups.{Saved, nothingSaved, keepAll, groupsOf, packetsOf}
-use Rattle.h264_put.specs.Step.{tooLong}
-use Rattle.h264.specs.Payload.{Counts, Left, layOut, emptySink, payloadOf}
+use Rattle.h264_put.specs.Step.{emptySink, tooLong}
+use Rattle.h264.specs.Payload.{Counts, Left, layOut, payloadOf}
 use Rattle.sequence.specs.Number.{numberOf}
 use Rattle.sequence.specs.Joiner.{bytesOf}
 use Rattle.delivery.specs.Show.{payloads, count, packet}

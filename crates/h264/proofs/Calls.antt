@@ -1,31 +1,28 @@
--- What `payload` leaves, by the outcome of its tests. Assumes nothing.
-use mathlib.Core.Path.{_≡_, refl, sym, ap, ap₂, subst, _∙_}
+-- What a call leaves, by the outcome of its tests. Assumes nothing.
+use mathlib.Core.Path.{_≡_, refl, sym, ap, ap₂, _∙_}
 use mathlib.Core.List.{List, [], _∷_}
 use mathlib.Core.Bool.{Bool, true, false, cond, _||_, or-assoc, or-false}
 use Prim.Native.Nat.{ℕ, _+_, _≤_}
 use native.Mathlib.Nat.{zero-add, add-zero, add-assoc}
 use native.Mathlib.Omega.{arith}
 use lib.Dec.{ltb}
-use lib.ListN.{length, length-append, length-take}
+use lib.ListN.{length, length-append}
 use borrow.Author.Tests.{ltb-false, le-ltb}
-use Rattle.error.specs.Said.{says}
+use Rattle.error.specs.Said.{Said, says, refused}
 use Rattle.wire.specs.Packets.{Sink, Room, whole, joined, putAll}
 use Rattle.wire.proofs.Packets.{putAll-whole, joined-append}
 use Rattle.h264_measure.specs.declared.Measure.{Measure}
 use Rattle.h264_put.specs.declared.outcome.Drops.{Drops}
-use Rattle.h264.specs.declared.send.H264Payloader.{H264Payloader}
 use Rattle.h264.specs.declared.send.Payloads.{Payloads}
-use Rattle.h264.specs.declared.send.Sent.{Sent}
 use Rattle.annexb.specs.Units.{units, noUnits, unitsAt}
 use Rattle.h264_put.specs.Groups.{Saved, keep, keepAll, groupsFor, groupsOf, packetsOf}
 use Rattle.h264_put.specs.Outcomes.{outcomesOf, dropsIn}
-use Rattle.h264.specs.Payload.{layOut, savedIn, outside, overLimit, tooSmall, said, Left, left, refusedWith, emptySink, sentAs, leftBy, payloadOf}
-use Rattle.h264_put.specs.Step.{tooLong}
-use Rattle.h264.specs.Step.{Tidy, Done}
+use Rattle.h264_put.specs.Step.{emptySink, tooLong, overLimit}
+use Rattle.h264.specs.Payload.{outsideBy, tooSmall, Counts, said, LeftIn, leftWith, refusedWith, sentAs, leftBy, callOf, sendingOf}
+use Rattle.h264.specs.Step.{stateBy}
 use Rattle.h264_measure.specs.Measured.{Lengths, measured, measuredAll, nothingYet}
 use Rattle.wire.proofs.Bools.{or-false-left, or-false-right}
 use Rattle.h264_put.proofs.Sizes.{packets-append}
-use Rattle.h264.proofs.State.{Short, saved-laid, tidy-laid}
 
 -- ---- what the measure says of all units
 
@@ -62,16 +59,11 @@ module _ (mtu : ℕ) where
 
 -- ---- the call
 
--- what a call leaves, by the state and the answer that it hands back
-pub left-by : (r : Sent) (h : H264Payloader) (a : Payloads) (out ends : List ℕ) → r .sender ≡ h → r .answer ≡ a →
-    left r out ends ≡ record { sender = h; answer = said a; out = out; ends = ends }
-left-by r h a out ends p q = ap₂ (λ (x : H264Payloader) (y : Payloads). record { sender = x; answer = said y; out = out; ends = ends }) p q
-
 -- output and table as they stand, and what was dropped, beside the state
-abbrev pub leftWith : H264Payloader → Sink → Drops → Left
-leftWith h s d =
+abbrev pub leftAt : {S : Type 0} → S → Sink → Drops → LeftIn S
+leftAt state s d =
     record {
-      sender = h;
+      sender = state;
       answer = says (record { packets = s .n; bytes = s .at; «units_dropped» = d .units; «pairs_dropped» = d .pairs });
       out = s .out;
       ends = s .ends;
@@ -83,131 +75,152 @@ fits-small packets out ends r =
     (le-ltb (length out) (length (joined packets)) (omega (arith, r .bytes)))
     (le-ltb (length ends) (length packets) (omega (arith, r .places)))
 
-module _ (h : H264Payloader) (mtu : ℕ) (frame out ends : List ℕ) where
-  answer : List (List ℕ) → Left
-  answer us = sentAs (keepAll (savedIn h) us) (packetsOf (groupsOf mtu (savedIn h) us)) (dropsIn (outcomesOf mtu (savedIn h) us)) out ends
+-- ---- a frame within the domain
+
+module _ (v : Saved) (mtu : ℕ) (frame out ends : List ℕ) where
+  answer : List (List ℕ) → LeftIn Saved
+  answer us = sentAs (keepAll v us) (packetsOf (groupsOf mtu v us)) (dropsIn (outcomesOf mtu v us)) out ends
 
   small : List (List ℕ) → Bool
-  small us = tooSmall (packetsOf (groupsOf mtu (savedIn h) us)) out ends
+  small us = tooSmall (packetsOf (groupsOf mtu v us)) out ends
 
-  by-tests : (us : List (List ℕ)) (o l t : Bool) → unitsAt mtu frame ≡ us → outside h mtu frame ≡ o → overLimit us ≡ l → small us ≡ t →
-      leftBy o l t (refusedWith 8 h out ends) (refusedWith 7 h out ends) (refusedWith 5 h out ends) (answer us) ≡ payloadOf h mtu frame out ends
-  unfolding payloadOf answer small
-  by-tests us o l t e a b c =
-      let outcome : Bool → Bool → Bool → List (List ℕ) → Left =
-      λ (x y z : Bool) (ps : List (List ℕ)).
-      leftBy x y z (refusedWith 8 h out ends) (refusedWith 7 h out ends) (refusedWith 5 h out ends) (answer ps) in
-      sym (ap (λ (ps : List (List ℕ)). outcome (outside h mtu frame) (overLimit ps) (small ps) ps) e
-      ∙ ap₂ (λ (x y : Bool). outcome x y (small us) us) a b
-      ∙ ap (λ (z : Bool). outcome o l z us) c)
+  by-tests : (us : List (List ℕ)) (l t : Bool) → unitsAt mtu frame ≡ us → overLimit us ≡ l → small us ≡ t →
+      leftBy false l t (refusedWith 8 v out ends) (refusedWith 7 v out ends) (refusedWith 5 v out ends) (answer us) ≡ sendingOf false v mtu frame out ends
+  unfolding sendingOf answer small
+  by-tests us l t e b c =
+      let outcome : Bool → Bool → List (List ℕ) → LeftIn Saved =
+      λ (y z : Bool) (ps : List (List ℕ)).
+      leftBy false y z (refusedWith 8 v out ends) (refusedWith 7 v out ends) (refusedWith 5 v out ends) (answer ps) in
+      sym (ap (λ (ps : List (List ℕ)). outcome (overLimit ps) (small ps) ps) e
+      ∙ ap (λ (y : Bool). outcome y (small us) us) b
+      ∙ ap (λ (z : Bool). outcome l z us) c)
 
-  pub call-outside : outside h mtu frame ≡ true → refusedWith 8 h out ends ≡ payloadOf h mtu frame out ends
-  call-outside e = by-tests (unitsAt mtu frame) true (overLimit (unitsAt mtu frame)) (small (unitsAt mtu frame)) refl e refl refl
+  -- what is sent, as output and table have it
+  finished : (us : List (List ℕ)) → unitsAt mtu frame ≡ us → overLimit us ≡ false → Room (emptySink out ends) (packetsOf (groupsOf mtu v us)) →
+      (v′ : Saved) (s : Sink) (d : Drops) → v′ ≡ keepAll v us → s ≡ putAll (emptySink out ends) (packetsOf (groupsOf mtu v us)) →
+      d ≡ dropsIn (outcomesOf mtu v us) → leftAt v′ s d ≡ sendingOf false v mtu frame out ends
+  unfolding answer small
+  finished us e limit room v′ s d a b k =
+      let packets : List (List ℕ) = packetsOf (groupsOf mtu v us) in
+      ap₂ (λ (x : Saved) (y : Sink). leftAt x y d) a (b ∙ putAll-whole (emptySink out ends) packets room)
+      ∙ ap (leftAt (keepAll v us) (whole (emptySink out ends) packets)) k
+      ∙ by-tests us false false e limit (fits-small packets out ends room)
 
-  module _ (inside : outside h mtu frame ≡ false) where
-    past-sps : (ltb 1024 (h .pps .len) || (ltb 65535 mtu || ltb 16777216 (length frame))) ≡ false
-    past-sps = or-false-right (ltb 1024 (h .sps .len)) _ inside
+  -- "An empty frame or mtu 0 gives no packets and saves nothing."
+  pub call-nothing : noUnits mtu (length frame) ≡ true → leftAt v (emptySink out ends) (record { units = 0; pairs = 0 }) ≡ sendingOf false v mtu frame out ends
+  unfolding unitsAt dropsIn
+  call-nothing e =
+      finished [] (ap (λ (b : Bool). cond b [] (units frame)) e) refl (record { bytes = omega arith; places = omega arith }) v (emptySink out ends)
+      (record { units = 0; pairs = 0 }) refl refl refl
 
-    past-pps : (ltb 65535 mtu || ltb 16777216 (length frame)) ≡ false
-    past-pps = or-false-right (ltb 1024 (h .pps .len)) _ past-sps
+  module _ (some : noUnits mtu (length frame) ≡ false) (n k : ℕ) (lengths : Lengths v n k) (m : Measure)
+      (e : (x : Saved) → Lengths x n k → m ≡ measuredAll (nothingYet n k) mtu x (units frame))
+    where
+      units-are : unitsAt mtu frame ≡ units frame
+      unfolding unitsAt
+      units-are = ap (λ (x : Bool). cond x [] (units frame)) some
 
-    pub inside-sps : h .sps .len ≤ 1024
-    inside-sps = ltb-false 1024 (h .sps .len) (or-false-left (ltb 1024 (h .sps .len)) _ inside)
+      m-is : m ≡ measuredAll (nothingYet n k) mtu v (units frame)
+      m-is = e v lengths
 
-    pub inside-pps : h .pps .len ≤ 1024
-    inside-pps = ltb-false 1024 (h .pps .len) (or-false-left (ltb 1024 (h .pps .len)) _ past-sps)
+      long-is : m .long ≡ overLimit (units frame)
+      long-is = ap (λ (x : Measure). x .long) m-is ∙ all-long mtu (nothingYet n k) v (units frame)
 
-    pub inside-mtu : mtu ≤ 65535
-    inside-mtu = ltb-false 65535 mtu (or-false-left (ltb 65535 mtu) _ past-pps)
+      bytes-are : m .bytes ≡ length (joined (packetsOf (groupsOf mtu v (units frame))))
+      bytes-are = ap (λ (x : Measure). x .bytes) m-is ∙ all-bytes mtu (nothingYet n k) v (units frame) ∙ zero-add _
 
-    pub inside-frame : length frame ≤ 16777216
-    inside-frame = ltb-false 16777216 (length frame) (or-false-right (ltb 65535 mtu) (ltb 16777216 (length frame)) past-pps)
+      packets-are : m .packets ≡ length (packetsOf (groupsOf mtu v (units frame)))
+      packets-are = ap (λ (x : Measure). x .packets) m-is ∙ all-packets mtu (nothingYet n k) v (units frame) ∙ zero-add _
 
-    -- what is sent, as output and table have it
-    finished : (us : List (List ℕ)) → unitsAt mtu frame ≡ us → overLimit us ≡ false → Room (emptySink out ends) (packetsOf (groupsOf mtu (savedIn h) us)) →
-        (h′ : H264Payloader) (s : Sink) (d : Drops) → h′ ≡ layOut (keepAll (savedIn h) us) →
-        s ≡ putAll (emptySink out ends) (packetsOf (groupsOf mtu (savedIn h) us)) → d ≡ dropsIn (outcomesOf mtu (savedIn h) us) →
-        leftWith h′ s d ≡ payloadOf h mtu frame out ends
-    unfolding answer small
-    finished us e limit room h′ s d a b k =
-        let packets : List (List ℕ) = packetsOf (groupsOf mtu (savedIn h) us) in
-        ap₂ (λ (x : H264Payloader) (y : Sink). leftWith x y d) a (b ∙ putAll-whole (emptySink out ends) packets room)
-        ∙ ap (leftWith (layOut (keepAll (savedIn h) us)) (whole (emptySink out ends) packets)) k
-        ∙ by-tests us false false false e inside limit (fits-small packets out ends room)
+      small-is : (ltb (length out) (m .bytes) || ltb (length ends) (m .packets)) ≡ small (units frame)
+      unfolding small
+      small-is = ap₂ (λ (x y : ℕ). ltb (length out) x || ltb (length ends) y) bytes-are packets-are
 
-    -- "An empty frame or mtu 0 gives no packets and saves nothing."
-    pub call-nothing : noUnits mtu (length frame) ≡ true → (h′ : H264Payloader) → h′ ≡ layOut (savedIn h) →
-        leftWith h′ (emptySink out ends) (record { units = 0; pairs = 0 }) ≡ payloadOf h mtu frame out ends
-    unfolding unitsAt dropsIn
-    call-nothing e h′ q =
-        finished [] (ap (λ (b : Bool). cond b [] (units frame)) e) refl (record { bytes = omega arith; places = omega arith }) h′ (emptySink out ends)
-        (record { units = 0; pairs = 0 }) q refl refl
+      pub call-long : m .long ≡ true → refusedWith 7 v out ends ≡ sendingOf false v mtu frame out ends
+      call-long q = by-tests (units frame) true (small (units frame)) units-are (sym long-is ∙ q) refl
 
-    -- the lengths of the record laid out anew
-    module _ (h₁ : H264Payloader) (t : h₁ ≡ layOut (savedIn h)) where
-      lengths : Lengths (savedIn h) (h₁ .sps .len) (h₁ .pps .len)
-      lengths = record { of-sps = sym (ap (λ (x : H264Payloader). x .sps .len) t); of-pps = sym (ap (λ (x : H264Payloader). x .pps .len) t) }
+      module _ (short : m .long ≡ false) where
+        pub call-small : (ltb (length out) (m .bytes) || ltb (length ends) (m .packets)) ≡ true → refusedWith 5 v out ends ≡ sendingOf false v mtu frame out ends
+        call-small q = by-tests (units frame) false true units-are (sym long-is ∙ short) (sym small-is ∙ q)
 
-      pub anew-sps : h₁ .sps .len ≤ 1024
-      anew-sps = omega (arith, lengths .of-sps, length-take (h .sps .len) (h .sps .bytes), inside-sps)
+        pub call-limit : overLimit (units frame) ≡ false
+        call-limit = sym long-is ∙ short
 
-      pub anew-pps : h₁ .pps .len ≤ 1024
-      anew-pps = omega (arith, lengths .of-pps, length-take (h .pps .len) (h .pps .bytes), inside-pps)
+        module _ (fits : (ltb (length out) (m .bytes) || ltb (length ends) (m .packets)) ≡ false) where
+          pub call-room : Room (emptySink out ends) (packetsOf (groupsOf mtu v (units frame)))
+          call-room =
+              let x : m .bytes ≤ length out = ltb-false (length out) (m .bytes) (or-false-left (ltb (length out) (m .bytes)) _ fits) in
+              let y : m .packets ≤ length ends = ltb-false (length ends) (m .packets) (or-false-right (ltb (length out) (m .bytes)) _ fits) in
+              record { bytes = omega (arith, bytes-are); places = omega (arith, packets-are) }
 
-    module _ (some : noUnits mtu (length frame) ≡ false) (h₁ : H264Payloader) (t : h₁ ≡ layOut (savedIn h)) (m : Measure)
-        (e : (v : Saved) → Lengths v (h₁ .sps .len) (h₁ .pps .len) → m ≡ measuredAll (nothingYet (h₁ .sps .len) (h₁ .pps .len)) mtu v (units frame))
-      where
-        units-are : unitsAt mtu frame ≡ units frame
-        unfolding unitsAt
-        units-are = ap (λ (x : Bool). cond x [] (units frame)) some
+          pub call-sent : (v′ : Saved) (s : Sink) (d : Drops) → v′ ≡ keepAll v (units frame) →
+              s ≡ putAll (emptySink out ends) (packetsOf (groupsOf mtu v (units frame))) → d ≡ dropsIn (outcomesOf mtu v (units frame)) →
+              leftAt v′ s d ≡ sendingOf false v mtu frame out ends
+          call-sent v′ s d state put counts = finished (units frame) units-are call-limit call-room v′ s d state put counts
 
-        m-is : m ≡ measuredAll (nothingYet (h₁ .sps .len) (h₁ .pps .len)) mtu (savedIn h) (units frame)
-        m-is = e (savedIn h) (lengths h₁ t)
+-- ---- the domain, and the state
 
-        long-is : m .long ≡ overLimit (units frame)
-        long-is = ap (λ (x : Measure). x .long) m-is ∙ all-long mtu (nothingYet (h₁ .sps .len) (h₁ .pps .len)) (savedIn h) (units frame)
+-- of lengths within the domain
+module _ (n k mtu : ℕ) (frame : List ℕ) (inside : outsideBy n k mtu frame ≡ false) where
+  past-sps : (ltb 1024 k || (ltb 65535 mtu || ltb 16777216 (length frame))) ≡ false
+  past-sps = or-false-right (ltb 1024 n) _ inside
 
-        bytes-are : m .bytes ≡ length (joined (packetsOf (groupsOf mtu (savedIn h) (units frame))))
-        bytes-are =
-            ap (λ (x : Measure). x .bytes) m-is ∙ all-bytes mtu (nothingYet (h₁ .sps .len) (h₁ .pps .len)) (savedIn h) (units frame) ∙ zero-add _
+  past-pps : (ltb 65535 mtu || ltb 16777216 (length frame)) ≡ false
+  past-pps = or-false-right (ltb 1024 k) _ past-sps
 
-        packets-are : m .packets ≡ length (packetsOf (groupsOf mtu (savedIn h) (units frame)))
-        packets-are =
-            ap (λ (x : Measure). x .packets) m-is ∙ all-packets mtu (nothingYet (h₁ .sps .len) (h₁ .pps .len)) (savedIn h) (units frame) ∙ zero-add _
+  pub inside-sps : n ≤ 1024
+  inside-sps = ltb-false 1024 n (or-false-left (ltb 1024 n) _ inside)
 
-        small-is : (ltb (length out) (m .bytes) || ltb (length ends) (m .packets)) ≡ small (units frame)
-        unfolding small
-        small-is = ap₂ (λ (x y : ℕ). ltb (length out) x || ltb (length ends) y) bytes-are packets-are
+  pub inside-pps : k ≤ 1024
+  inside-pps = ltb-false 1024 k (or-false-left (ltb 1024 k) _ past-sps)
 
-        pub call-long : m .long ≡ true → refusedWith 7 h out ends ≡ payloadOf h mtu frame out ends
-        call-long q = by-tests (units frame) false true (small (units frame)) units-are inside (sym long-is ∙ q) refl
+  pub inside-mtu : mtu ≤ 65535
+  inside-mtu = ltb-false 65535 mtu (or-false-left (ltb 65535 mtu) _ past-pps)
 
-        module _ (short : m .long ≡ false) where
-          pub call-small : (ltb (length out) (m .bytes) || ltb (length ends) (m .packets)) ≡ true → refusedWith 5 h out ends ≡ payloadOf h mtu frame out ends
-          call-small q = by-tests (units frame) false false true units-are inside (sym long-is ∙ short) (sym small-is ∙ q)
+  pub inside-frame : length frame ≤ 16777216
+  inside-frame = ltb-false 16777216 (length frame) (or-false-right (ltb 65535 mtu) (ltb 16777216 (length frame)) past-pps)
 
-          module _ (fits : (ltb (length out) (m .bytes) || ltb (length ends) (m .packets)) ≡ false) where
-            room : Room (emptySink out ends) (packetsOf (groupsOf mtu (savedIn h) (units frame)))
-            room =
-                let x : m .bytes ≤ length out = ltb-false (length out) (m .bytes) (or-false-left (ltb (length out) (m .bytes)) _ fits) in
-                let y : m .packets ≤ length ends = ltb-false (length ends) (m .packets) (or-false-right (ltb (length out) (m .bytes)) _ fits) in
-                record { bytes = omega (arith, bytes-are); places = omega (arith, packets-are) }
+-- outside it is refused, whatever the frame
+pub call-outside : (v : Saved) (mtu : ℕ) (frame out ends : List ℕ) → refusedWith 8 v out ends ≡ sendingOf true v mtu frame out ends
+unfolding sendingOf
+call-outside v mtu frame out ends = refl
 
-            same : savedIn h₁ ≡ savedIn h
-            same = ap savedIn t ∙ saved-laid (savedIn h)
+-- a call, by the outcome of its first test
+pub call-by : (o b : Bool) → o ≡ b → (v : Saved) (mtu : ℕ) (frame out ends : List ℕ) (x : LeftIn Saved) → x ≡ sendingOf b v mtu frame out ends →
+    x ≡ sendingOf o v mtu frame out ends
+call-by o b e v mtu frame out ends x q = q ∙ sym (ap (λ (t : Bool). sendingOf t v mtu frame out ends) e)
 
-            pub call-ready : (Tidy h₁ × (overLimit (units frame) ≡ false) × (length frame ≤ 16777216)) × Room (emptySink out ends) (packetsOf (groupsOf mtu (savedIn h₁) (units frame)))
-            call-ready =
-                let within : Short (savedIn h) =
-                record { sps = omega (arith, lengths h₁ t .of-sps, anew-sps h₁ t); pps = omega (arith, lengths h₁ t .of-pps, anew-pps h₁ t) } in (
-                  (tidy-laid h₁ (savedIn h) t within, sym long-is ∙ short, inside-frame),
-                  subst (λ (v : Saved). Room (emptySink out ends) (packetsOf (groupsOf mtu v (units frame)))) (sym same) room,
-                )
+-- what a frame leaves, where the state is said otherwise
+abbrev restated : {S : Type 0} → S → (Saved → S) → LeftIn Saved → LeftIn S
+restated state laid x =
+    record { sender = stateBy (x .answer) state (laid (x .sender)); answer = x .answer; out = x .out; ends = x .ends }
 
-            pub call-sent : (h₂ : H264Payloader) (s : Sink) (d : Drops) →
-                Done (keepAll (savedIn h₁) (units frame)) (groupsOf mtu (savedIn h₁) (units frame)) (emptySink out ends) h₂ s →
-                d ≡ dropsIn (outcomesOf mtu (savedIn h₁) (units frame)) → leftWith h₂ s d ≡ payloadOf h mtu frame out ends
-            call-sent h₂ s d done counts =
-                finished (units frame) units-are (sym long-is ∙ short) room h₂ s d (done .state ∙ ap (λ (v : Saved). layOut (keepAll v (units frame))) same)
-                (done .put ∙ ap (λ (v : Saved). putAll (emptySink out ends) (packetsOf (groupsOf mtu v (units frame)))) same)
-                (counts ∙ ap (λ (v : Saved). dropsIn (outcomesOf mtu v (units frame))) same)
+module _ {S : Type 0} (state : S) (laid : Saved → S) (v : Saved) (mtu : ℕ) (frame out ends : List ℕ) where
+  by-outcome : (o l t : Bool) (kept : Saved) (packets : List (List ℕ)) (d : Drops) →
+      restated state laid (leftBy o l t (refusedWith 8 v out ends) (refusedWith 7 v out ends) (refusedWith 5 v out ends) (sentAs kept packets d out ends)) ≡
+      leftBy o l t (refusedWith 8 state out ends) (refusedWith 7 state out ends) (refusedWith 5 state out ends) (sentAs (laid kept) packets d out ends)
+  by-outcome true l t kept packets d = refl
+  by-outcome false true t kept packets d = refl
+  by-outcome false false true kept packets d = refl
+  by-outcome false false false kept packets d = refl
+
+  as-stated : (o : Bool) → restated state laid (sendingOf o v mtu frame out ends) ≡ callOf o state laid v mtu frame out ends
+  unfolding sendingOf
+  as-stated o =
+      let us : List (List ℕ) = unitsAt mtu frame in
+      let packets : List (List ℕ) = packetsOf (groupsOf mtu v us) in
+      by-outcome o (overLimit us) (tooSmall packets out ends) (keepAll v us) packets (dropsIn (outcomesOf mtu v us))
+
+-- a state that is kept beside a refusal is so too where it is said otherwise
+same-state : {S : Type 0} (state : S) (laid : Saved → S) (v v′ : Saved) (a : Said Counts) → stateBy a state (laid v′) ≡ stateBy a state (laid (stateBy a v v′))
+same-state state laid v v′ (says c) = refl
+same-state state laid v v′ (refused r) = refl
+
+-- a call leaves the state that the answer asks for
+pub call-stated : {S : Type 0} (state : S) (laid : Saved → S) (o : Bool) (v : Saved) (mtu : ℕ) (frame out ends : List ℕ) (v′ : Saved) (a : Payloads) (out′ ends′ : List ℕ) →
+    leftWith (stateBy (said a) v v′) a out′ ends′ ≡ sendingOf o v mtu frame out ends → (after : S) → after ≡ stateBy (said a) state (laid v′) →
+    leftWith after a out′ ends′ ≡ callOf o state laid v mtu frame out ends
+call-stated {S} state laid o v mtu frame out ends v′ a out′ ends′ e after q =
+    ap (λ (x : S). leftWith x a out′ ends′) (q ∙ same-state state laid v v′ (said a))
+    ∙ ap (restated state laid) e
+    ∙ as-stated state laid v mtu frame out ends o

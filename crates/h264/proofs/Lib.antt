@@ -1,7 +1,6 @@
 pub mod State
-pub mod Steps
-pub mod Walks
 pub mod Calls
+pub mod Agreeing
 pub mod Parts
 pub mod Fits
 pub mod LeftOut

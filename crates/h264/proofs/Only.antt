@@ -14,12 +14,15 @@ use Rattle.h264.specs.declared.send.H264Payloader.{H264Payloader}
 use Rattle.h264.specs.declared.send.Payloads.{Payloads}
 use Rattle.h264.specs.declared.send.Payloads.the-variants.{Written, Refused}
 use Rattle.h264.specs.declared.send.Sent.{Sent}
+use Rattle.h264.specs.declared.lent.LentPayloader.{LentPayloader}
+use Rattle.h264.specs.declared.lent.LentSent.{LentSent}
 use Rattle.annexb.specs.Search.{nextCode, saidSearch, beyond, nextInd}
 use Rattle.annexb.specs.Units.{unitsAt}
 use Rattle.h264_put.specs.Groups.{Saved, nothingSaved, keepAll, groupsOf, packetsOf}
 use Rattle.h264_put.specs.declared.outcome.Drops.{Drops}
 use Rattle.h264_put.specs.Outcomes.{outcomesOf, dropsIn}
-use Rattle.h264.specs.Payload.{layOut, savedIn, outside, overLimit, tooSmall, Counts, said, Left, left, refusedWith, sentAs, leftBy, payloadOf}
+use Rattle.h264_put.specs.Step.{overLimit}
+use Rattle.h264.specs.Payload.{layOut, savedIn, Lent, savedLent, lendOut, outsideBy, outside, tooSmall, Counts, said, LeftIn, Left, left, leftLent, refusedWith, sentAs, leftBy, callOf, payloadOf, lentOf}
 
 -- an answer's values, back from what it says
 abbrev unsaid : Said Counts → Payloads
@@ -44,22 +47,57 @@ back-view : (x : Handed) → back (view x) ≡ x
 back-view x i = (record { sender = x .0 .sender; answer = unsaid-said (x .0 .answer) i }, x .1, x .2)
 
 -- each of the four outcomes is one that a call can hand back
-sayable : (h : H264Payloader) (out ends : List ℕ) (v : Saved) (ps : List (List ℕ)) (d : Drops) (o l t : Bool) →
-    let r : Left = leftBy o l t (refusedWith 8 h out ends) (refusedWith 7 h out ends) (refusedWith 5 h out ends) (sentAs v ps d out ends) in
-    view (back r) ≡ r
-sayable h out ends v ps d true l t = refl
-sayable h out ends v ps d false true t = refl
-sayable h out ends v ps d false false true = refl
-sayable h out ends v ps d false false false = refl
+module _ {S : Type 0} (state : S) (out ends : List ℕ) where
+  unsaid-again : LeftIn S → LeftIn S
+  unsaid-again x = record { sender = x .sender; answer = said (unsaid (x .answer)); out = x .out; ends = x .ends }
+
+  sayable : (new : S) (ps : List (List ℕ)) (d : Drops) (o l t : Bool) →
+      let r : LeftIn S = leftBy o l t (refusedWith 8 state out ends) (refusedWith 7 state out ends) (refusedWith 5 state out ends) (sentAs new ps d out ends) in
+      unsaid-again r ≡ r
+  unfolding unsaid-again
+  sayable new ps d true l t = refl
+  sayable new ps d false true t = refl
+  sayable new ps d false false true = refl
+  sayable new ps d false false false = refl
+
+  call-sayable : (o : Bool) (laid : Saved → S) (v : Saved) (mtu : ℕ) (frame : List ℕ) →
+      unsaid-again (callOf o state laid v mtu frame out ends) ≡ callOf o state laid v mtu frame out ends
+  call-sayable o laid v mtu frame =
+      let us : List (List ℕ) = unitsAt mtu frame in
+      let ps : List (List ℕ) = packetsOf (groupsOf mtu v us) in
+      sayable (laid (keepAll v us)) ps (dropsIn (outcomesOf mtu v us)) o (overLimit us) (tooSmall ps out ends)
 
 pub payload-only : (h : H264Payloader) (mtu : ℕ) (frame out ends : List ℕ) →
     Determined (λ (x : Handed). left (x .0) (x .1) (x .2) ≡ payloadOf h mtu frame out ends)
-unfolding payloadOf
+unfolding payloadOf unsaid-again
 payload-only h mtu frame out ends =
-    let us : List (List ℕ) = unitsAt mtu frame in
-    let ps : List (List ℕ) = packetsOf (groupsOf mtu (savedIn h) us) in
     by-view view back back-view (back (payloadOf h mtu frame out ends)) (payloadOf h mtu frame out ends)
-    (sayable h out ends (keepAll (savedIn h) us) ps (dropsIn (outcomesOf mtu (savedIn h) us)) (outside h mtu frame) (overLimit us) (tooSmall ps out ends))
+    (call-sayable h out ends (outside h mtu frame) layOut (savedIn h) mtu frame)
+
+-- ---- with lent buffers
+
+-- what a call hands back: its result, the two sets' buffers, output and table
+abbrev pub HandedLent : Type 0
+HandedLent = LentSent × List ℕ × List ℕ × List ℕ × List ℕ
+
+abbrev viewLent : HandedLent → LeftIn Lent
+viewLent x = leftLent (x .0) (x .1) (x .2) (x .3) (x .4)
+
+abbrev backLent : LeftIn Lent → HandedLent
+backLent l = (record { sender = l .sender .sender; answer = unsaid (l .answer) }, l .sender .sps, l .sender .pps, l .out, l .ends)
+
+back-view-lent : (x : HandedLent) → backLent (viewLent x) ≡ x
+back-view-lent x i = (record { sender = x .0 .sender; answer = unsaid-said (x .0 .answer) i }, x .1, x .2, x .3, x .4)
+
+pub lent-only : (l : Lent) (mtu : ℕ) (frame out ends : List ℕ) →
+    Determined (λ (x : HandedLent). leftLent (x .0) (x .1) (x .2) (x .3) (x .4) ≡ lentOf l mtu frame out ends)
+unfolding lentOf unsaid-again
+lent-only l mtu frame out ends =
+    by-view viewLent backLent back-view-lent (backLent (lentOf l mtu frame out ends)) (lentOf l mtu frame out ends)
+    (call-sayable l out ends (outsideBy (l .sender .«sps_len») (l .sender .«pps_len») mtu frame) (lendOut l) (savedLent l) mtu frame)
+
+pub lent-new-only : Determined (λ (r : LentPayloader). r ≡ record { «sps_len» = 0; «pps_len» = 0 })
+lent-new-only = by-value (record { «sps_len» = 0; «pps_len» = 0 })
 
 pub new-only : Determined (λ (r : H264Payloader). r ≡ layOut nothingSaved)
 new-only = by-value (layOut nothingSaved)

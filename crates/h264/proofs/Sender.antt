@@ -1,5 +1,5 @@
--- What is proved of the sender, sentence by sentence; each cites one theorem. `payload`'s contract says that the packets written are
--- `packetsOf (groupsOf mtu saved units)`, so what is said here of those is said of every call. Assumes nothing.
+-- What is proved of the sender, sentence by sentence; each cites one theorem. `payload`'s contract says, of both forms of the sender, that the
+-- packets written are `packetsOf (groupsOf mtu saved units)`, so what is said here of those is said of every call. Assumes nothing.
 use mathlib.Core.Path.{_≡_}
 use mathlib.Core.List.{List, [], _∷_, _++_}
 use mathlib.Core.Bool.{true, _||_}
@@ -11,10 +11,11 @@ use Rattle.rfc6184.specs.Sending.{Each, UnitType, Packetization}
 use Rattle.annexb.specs.Units.{unitsAt}
 use Rattle.annexb.specs.AnnexB.{Prefixed, written, Apart, unitsWritten}
 use Rattle.h264_put.specs.declared.fate.Fate.the-variants.{Sps, Pps, Coded}
-use Rattle.h264_put.specs.Groups.{Saved, bothSaved, pair, fragments, fateOf, keep, keepAll, unitFor, groupsFor, groupsOf, packetsOfGroup, packetsOf}
+use Rattle.h264_put.specs.Groups.{Saved, nothingSaved, bothSaved, pair, fragments, fateOf, keep, keepAll, unitFor, groupsFor, groupsOf, packetsOfGroup, packetsOf}
 use Rattle.h264_put.specs.Outcomes.{outcomeFor, outcomesOf, dropsIn}
 use Rattle.h264.specs.declared.send.H264Payloader.{H264Payloader}
-use Rattle.h264.specs.Payload.{left, payloadOf}
+use Rattle.h264.specs.Payload.{layOut, Lent, left, leftLent, payloadOf, lentOf}
+use Rattle.h264.specs.Alike.{Alike, Asked, SameCalls}
 use Rattle.h264.specs.Frames.{groupsFrom, dropsFrom, unitsOfFrames}
 use Rattle.h264.specs.Conformance.{Octets, SavedOctets, nal, nalsOfAll, Regular, Sendable, unitsIn, carriedIn, isCoded, goesOut, thoseThat, startBit, endBit}
 use Rattle.h264.specs.Course.{latest, NoPair, Coursed, waitingAfter, groupsIn, setsOf, sent, isDropped, cannotGo, replaced, pairsOver, leftOut, Same}
@@ -34,6 +35,7 @@ use Rattle.h264.proofs.StartEnd as S
 use Rattle.h264.proofs.Telling as T
 use Rattle.h264.proofs.Counting as D
 use Rattle.h264.proofs.Only as O
+use Rattle.h264.proofs.Agreeing as G
 
 -- "Every packet fits the mtu."
 pub every-packet-fits : (mtu : ℕ) (v : Saved) (us : List (List ℕ)) → Each (λ (p : List ℕ). length p ≤ mtu) (packetsOf (groupsOf mtu v us))
@@ -208,3 +210,16 @@ two-fragments-at-least = S.two-at-least
 pub one-answer : (h : H264Payloader) (mtu : ℕ) (frame out ends : List ℕ) →
     Determined (λ (x : O.Handed). left (x .0) (x .1) (x .2) ≡ payloadOf h mtu frame out ends)
 one-answer = O.payload-only
+
+pub one-lent-answer : (l : Lent) (mtu : ℕ) (frame out ends : List ℕ) →
+    Determined (λ (x : O.HandedLent). leftLent (x .0) (x .1) (x .2) (x .3) (x .4) ≡ lentOf l mtu frame out ends)
+one-lent-answer = O.lent-only
+
+-- ---- the sets in the record, or in lent buffers
+
+-- Senders that have the same saved say and write the same, frame after frame, and fresh ones have, whatever stands in the buffers.
+pub both-forms-agree : (h : H264Payloader) (l : Lent) → Alike h l → (asked : List Asked) → SameCalls h l asked
+both-forms-agree = G.same-calls
+
+pub fresh-forms-agree : (sps pps : List ℕ) → Alike (layOut nothingSaved) (record { sender = record { «sps_len» = 0; «pps_len» = 0 }; sps = sps; pps = pps })
+fresh-forms-agree = G.fresh-alike

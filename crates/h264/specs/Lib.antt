@@ -1,5 +1,6 @@
 pub mod Payload
 pub mod Step
+pub mod Alike
 pub mod Conformance
 pub mod Course
 pub mod AnySender

@@ -7,11 +7,10 @@ ghost use mathlib.Core.List.{List};
 ghost use Prim.Native.Nat.{ℕ, _+_, _*_, _≤_, _<_};
 ghost use mathlib.Core.Bool.{_||_};
 ghost use lib.Dec.{ltb};
-ghost use lib.ListN.{length};
+ghost use lib.ListN.{length, drop};
 ghost use Rattle.h264_put.specs.Groups.{Saved, fateOf, unitFor, packetsOf};
-ghost use Rattle.annexb.specs.Units.{units};
+ghost use Rattle.annexb.specs.Units.{units, pieces};
 ghost use Rattle.h264_measure.specs.Measured.{sizeOf, Lengths, Small, Grown, measured, measuredAll, nothingYet};
-use annexb::first_unit;
 use annexb::unit_at;
 use h264_put::Fate;
 use h264_put::both;
@@ -134,12 +133,13 @@ fn over(long: bool, len: usize) -> bool
     1024 < len
 }
 
-// What all units of a frame take, where sets of these lengths are saved.
-pub fn measure_frame(frame: &[u8], mtu: usize, sps: usize, pps: usize) -> Measure
+// What all units of a frame take, the first of which starts at first, where sets of these lengths are saved.
+pub fn measure_frame(frame: &[u8], first: usize, mtu: usize, sps: usize, pps: usize) -> Measure
     requires { ⌜ (length (now frame) ≤ 16777216) × (mtu ≤ 65535) × (sps ≤ 1024) × (pps ≤ 1024) ⌝ }
+    requires { ⌜ (first ≤ length (now frame)) × (pieces (drop first (now frame)) ≡ units (now frame)) ⌝ }
     ensures { λ r. ⌜ ((v : Saved) → Lengths v sps pps → r ≡ measuredAll (nothingYet sps pps) mtu v (units (now (frame .entry)))) ⌝ }
 {
-    let mut start = first_unit(frame);
+    let mut start = first;
     let mut m = Measure {
         packets: 0,
         bytes: 0,

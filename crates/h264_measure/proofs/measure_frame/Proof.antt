@@ -10,25 +10,23 @@ use Rattle.h264_measure.proofs.measure_frame.Statement.{statement}
 use Rattle.h264_measure.proofs.measure_frame.Tie as tie
 
 abbrev Inv-loop : tie.InvT-loop
-Inv-loop frame mtu sps pps start₀ m₀ start m = Measuring frame mtu sps pps start m
+Inv-loop frame first mtu sps pps start₀ m₀ start m = Measuring frame mtu sps pps start m
 
 abbrev μ-loop : tie.MeasureT-loop
-μ-loop frame mtu sps pps start₀ m₀ start m = length frame - start
+μ-loop frame first mtu sps pps start₀ m₀ start m = length frame - start
 
 loop-holds : tie.Need-loop-holds Inv-loop μ-loop
 loop-holds c =
-    let start = c .before .before .args in
-    let first = c .first-unit in
-    measuring-first (start .frame .now) (start .mtu) (start .sps) (start .pps) (first .result) (search needs) (search needs)
-    (first .ensures .0)
-    (first .ensures .1)
+    let start = c .before in
+    measuring-first (start .args .frame .now) (start .args .mtu) (start .args .sps) (start .args .pps) (start .args .first) (search needs)
+    (search needs) (start .pre .1 .0) (start .pre .1 .1)
 
 unit-at-requires : tie.Need-unit-at-requires Inv-loop μ-loop
 unit-at-requires c κs = c .loop .inv .within
 
 add-requires : tie.Need-add-requires Inv-loop μ-loop
 add-requires c κs =
-    let start = c .before .before .before .before .before in
+    let start = c .before .before .before .before in
     let at-head = c .before .before .loop in
     let piece = c .before .unit-at in
     let len = piece-length (start .args .frame .now) (at-head .start) (piece .result) (piece .ensures) in
@@ -37,13 +35,13 @@ add-requires c κs =
 loop-less : tie.Need-loop-less Inv-loop μ-loop
 loop-less c =
     let piece = c .before .before .before .before .unit-at in
-    let onward = piece-onward (c .before .before .before .before .before .before .before .before .args .frame .now)
+    let onward = piece-onward (c .before .before .before .before .before .before .before .args .frame .now)
     (c .before .before .before .before .before .loop .start) (piece .result) (piece .ensures) (not-false _ (c .if1 .left)) in
     omega (arith, onward, piece .ensures .from, piece .ensures .within)
 
 loop-again : tie.Need-loop-again Inv-loop μ-loop
 loop-again c =
-    let start = c .before .before .before .before .before .before .before .before .args in
+    let start = c .before .before .before .before .before .before .before .args in
     let at-head = c .before .before .before .before .before .loop in
     let piece = c .before .before .before .before .unit-at in
     let added = c .before .before .add in
@@ -52,7 +50,7 @@ loop-again c =
 
 returns : tie.Need-returns Inv-loop μ-loop
 returns c =
-    let start = c .before .before .before .before .before .before .before .before .args in
+    let start = c .before .before .before .before .before .before .before .args in
     let at-head = c .before .before .before .before .before .loop in
     let piece = c .before .before .before .before .unit-at in
     let added = c .before .before .add in
@@ -65,7 +63,6 @@ measure-frame-spec =
     (tie.spec
     Inv-loop
     μ-loop
-    (λ c κs. search needs)
     loop-holds
     unit-at-requires
     (λ c. search needs)

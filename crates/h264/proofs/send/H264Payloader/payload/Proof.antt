@@ -1,127 +1,86 @@
--- One law for each way through the code. A place of the code is named after what its test showed: within the domain, some unit, no set
--- too long, room that fits.
-use mathlib.Core.Path.{refl, sym, _∙_}
-use Rattle.h264.proofs.Calls.{left-by, call-outside, inside-sps, inside-pps, inside-mtu, inside-frame, anew-sps, anew-pps, call-nothing, call-long, call-small, call-ready, call-sent}
-use Rattle.error.specs.declared.Error.the-variants.{OutsideDomain, OverLimits, ErrBufferTooSmall}
-use Rattle.h264.specs.declared.send.Payloads.the-variants.{Refused}
+-- A set that waits then is put into the record, zeros behind it, or stands there already; beside a refusal none is put anywhere.
+use mathlib.Core.Path.{_≡_, ap₂, _∙_}
+use mathlib.Core.List.{List}
+use Prim.Native.Nat.{ℕ, _-_}
+use native.Mathlib.Omega.{arith}
+use lib.ListN.{length, replicate}
+use Rattle.error.specs.Said.{Said}
+use Rattle.wire.specs.Part.{splice}
+use Rattle.h264.specs.declared.send.Payloads.{Payloads}
+use Rattle.h264.specs.Payload.{layOut, savedIn, outside, Counts, said, Left, leftWith, payloadOf}
+use Rattle.h264.specs.Step.{tailOf}
+use Rattle.h264.proofs.State.{tail-within, put-back}
+use Rattle.h264.proofs.Calls.{call-stated}
 use borrow.Author.Needs.{needs}
 use Rattle.h264.proofs.send.H264Payloader.payload.Statement.{statement}
 use Rattle.h264.proofs.send.H264Payloader.payload.Tie as tie
 
+-- the sets' bytes are arrays
+full : (c : tie.Start) → (length (c .args .t1 .sps .bytes) ≡ 1024) × (length (c .args .t1 .pps .bytes) ≡ 1024)
+full c = (search needs, search needs)
+
+deliver-requires : tie.Need-deliver-requires
+deliver-requires c κs = (omega (arith, full (c .before .before .before .before .before .before .before .before .before .before) .0), omega (arith, full (c .before .before .before .before .before .before .before .before .before .before) .1))
+
+store-requires : tie.Need-store-requires
+store-requires c κs = c .before .before .before .before .before .before .before .before .deliver .ensures .0 .of-sps
+
+store-requires-2 : tie.Need-store-requires-2
+store-requires-2 c κs = c .before .before .before .before .before .before .before .before .before .before .deliver .ensures .0 .of-pps
+
+clear-from-requires : tie.Need-clear-from-requires
+clear-from-requires c κs =
+    let delivered = c .before .before .before .before .before .before .before .before .before .before .before .before .before .deliver in
+    rw (c .after .ensures) (tail-within (said (delivered .result .answer)) (delivered .result .waiting .sps .len) (delivered .ensures .0 .of-sps .short))
+
+clear-from-requires-2 : tie.Need-clear-from-requires-2
+clear-from-requires-2 c κs =
+    let delivered = c .before .before .before .before .before .before .before .before .before .before .before .before .before .before .before .before .deliver in
+    rw (c .after2 .ensures) (tail-within (said (delivered .result .answer)) (delivered .result .waiting .pps .len) (delivered .ensures .0 .of-pps .short))
+
+-- a set put back, by the three calls that do it
+set-is : (b b′ b″ s : List ℕ) (at len : ℕ) (a : Said Counts) → b′ ≡ splice b 0 s → at ≡ tailOf a len → b″ ≡ splice b′ at (replicate (1024 - at) 0) →
+    b″ ≡ splice (splice b 0 s) (tailOf a len) (replicate (1024 - tailOf a len) 0)
+set-is b b′ b″ s at len a stored from cleared = cleared ∙ ap₂ (λ (x : List ℕ) (n : ℕ). splice x n (replicate (1024 - n) 0)) stored from
+
+-- the state, by the sets' bytes and lengths
+state-is : (x x′ y y′ : List ℕ) (n n′ m m′ : ℕ) (a : Payloads) (out ends : List ℕ) → x ≡ x′ → y ≡ y′ → n ≡ n′ → m ≡ m′ →
+    _≡_ {A = Left} (leftWith (record { sps = record { bytes = x; len = n }; pps = record { bytes = y; len = m } }) a out ends)
+    (leftWith (record { sps = record { bytes = x′; len = n′ }; pps = record { bytes = y′; len = m′ } }) a out ends)
+state-is x x′ y y′ n n′ m m′ a out ends ex ey en em =
+    ap₂ (λ (s p : List ℕ). leftWith (record { sps = record { bytes = s; len = n }; pps = record { bytes = p; len = m } }) a out ends) ex ey
+    ∙ ap₂ (λ (i j : ℕ). leftWith (record { sps = record { bytes = x′; len = i }; pps = record { bytes = y′; len = j } }) a out ends) en em
+
 returns : tie.Need-returns
+unfolding payloadOf
 returns c =
-    let outside = c .before in
-    let start = outside .before .before .before .before .before .args in
-    left-by (c .refused .result) (start .self) (Refused OutsideDomain) (start .out .now) (start .ends .now) (c .refused .ensures .0) (c .refused .ensures .1)
-    ∙ call-outside (start .self) (start .mtu) (start .frame .now) (start .out .now) (start .ends .now) (sym (outside .before .is-outside .ensures) ∙ outside .if1 .taken)
-
-tidy-requires : tie.Need-tidy-requires
-tidy-requires c κs =
-    let within = c in
-    let start = within .before .before .before .before .before .args in
-    let inside = sym (within .before .is-outside .ensures) ∙ within .if1 .left in
-    (inside-sps (start .self) (start .mtu) (start .frame .now) (start .out .now) (start .ends .now) inside, inside-pps (start .self) (start .mtu) (start .frame .now) (start .out .now) (start .ends .now) inside)
-
-returns-2 : tie.Need-returns-2
-returns-2 c =
-    let nothing = c .before in
-    let within = nothing .before .before .before in
-    let start = within .before .before .before .before .before .args in
-    let tidied = nothing .before .before .tidy in
-    left-by _ (tidied .result) _ (start .out .now) (start .ends .now) refl (c .written .ensures)
-    ∙ call-nothing (start .self) (start .mtu) (start .frame .now) (start .out .now) (start .ends .now)
-    (sym (within .before .is-outside .ensures) ∙ within .if1 .left) (sym (nothing .before .is-nothing .ensures) ∙ nothing .if2 .taken) (tidied .result) (tidied .ensures)
-
-measure-frame-requires : tie.Need-measure-frame-requires
-measure-frame-requires c κs =
-    let some = c in
-    let within = some .before .before .before in
-    let start = within .before .before .before .before .before .args in
-    let inside = sym (within .before .is-outside .ensures) ∙ within .if1 .left in (
-      inside-frame (start .self) (start .mtu) (start .frame .now) (start .out .now) (start .ends .now) inside,
-      inside-mtu (start .self) (start .mtu) (start .frame .now) (start .out .now) (start .ends .now) inside,
-      anew-sps (start .self) (start .mtu) (start .frame .now) (start .out .now) (start .ends .now) inside
-          (some .before .before .tidy .result) (some .before .before .tidy .ensures),
-      anew-pps (start .self) (start .mtu) (start .frame .now) (start .out .now) (start .ends .now) inside
-          (some .before .before .tidy .result) (some .before .before .tidy .ensures),
-    )
-
-returns-3 : tie.Need-returns-3
-returns-3 c =
-    let long = c .before in
-    let some = long .before .before in
-    let within = some .before .before .before in
-    let start = within .before .before .before .before .before .args in
-    let tidied = some .before .before .tidy in
-    let measured = long .before .measure-frame in
-    left-by (c .refused2 .result) (start .self) (Refused OverLimits) (start .out .now) (start .ends .now) (c .refused2 .ensures .0) (c .refused2 .ensures .1)
-    ∙ call-long (start .self) (start .mtu) (start .frame .now) (start .out .now) (start .ends .now)
-    (sym (within .before .is-outside .ensures) ∙ within .if1 .left) (sym (some .before .is-nothing .ensures) ∙ some .if2 .left) (tidied .result) (tidied .ensures) (measured .result) (measured .ensures)
-    (long .if3 .taken)
-
-returns-4 : tie.Need-returns-4
-returns-4 c =
-    let small = c .before in
-    let short = small .before .before in
-    let some = short .before .before in
-    let within = some .before .before .before in
-    let start = within .before .before .before .before .before .args in
-    let tidied = some .before .before .tidy in
-    let measured = short .before .measure-frame in
-    left-by (c .refused3 .result) (start .self) (Refused ErrBufferTooSmall) (start .out .now) (start .ends .now) (c .refused3 .ensures .0)
-    (c .refused3 .ensures .1)
-    ∙ call-small (start .self) (start .mtu) (start .frame .now) (start .out .now) (start .ends .now)
-    (sym (within .before .is-outside .ensures) ∙ within .if1 .left) (sym (some .before .is-nothing .ensures) ∙ some .if2 .left) (tidied .result) (tidied .ensures) (measured .result) (measured .ensures)
-    (short .if3 .left) (sym (small .before .is-too-small .ensures) ∙ small .if4 .taken)
-
-walk-requires : tie.Need-walk-requires
-walk-requires c κs =
-    let fits = c .before .before in
-    let short = fits .before .before in
-    let some = short .before .before in
-    let within = some .before .before .before in
-    let start = within .before .before .before .before .before .args in
-    let measured = short .before .measure-frame in
-    call-ready (start .self) (start .mtu) (start .frame .now) (start .out .now) (start .ends .now)
-    (sym (within .before .is-outside .ensures) ∙ within .if1 .left) (sym (some .before .is-nothing .ensures) ∙ some .if2 .left)
-    (some .before .before .tidy .result) (some .before .before .tidy .ensures) (measured .result) (measured .ensures) (short .if3 .left)
-    (sym (fits .before .is-too-small .ensures) ∙ fits .if4 .left)
-
-returns-5 : tie.Need-returns-5
-returns-5 c =
-    let fits = c .before .before .before .before .before .before .before .before .before .before .before in
-    let short = fits .before .before in
-    let some = short .before .before in
-    let within = some .before .before .before in
-    let start = within .before .before .before .before .before .args in
-    let tidied = some .before .before .tidy in
-    let measured = short .before .measure-frame in
-    let walked = c .before .before .before .before .before .before .before .before .walk in
-    left-by _ (walked .result .sender) _ _ _ refl (c .written2 .ensures)
-    ∙ call-sent (start .self) (start .mtu) (start .frame .now) (start .out .now) (start .ends .now)
-    (sym (within .before .is-outside .ensures) ∙ within .if1 .left) (sym (some .before .is-nothing .ensures) ∙ some .if2 .left) (tidied .result) (tidied .ensures) (measured .result) (measured .ensures)
-    (short .if3 .left) (sym (fits .before .is-too-small .ensures) ∙ fits .if4 .left) (walked .result .sender) _ (walked .result .drops)
-    (walked .ensures .0) (walked .ensures .1)
+    let start = c .before .before .before .before .before .before .before .before .before .before .before .before .before .before .before .before .before .before .before .before .before .before .before .before .before .before .before .before .before .before .before .before in
+    let a = start .args in
+    let delivered = c .before .before .before .before .before .before .before .before .before .before .before .before .before .before .before .before .before .before .before .before .before .deliver in
+    let w = delivered .result .waiting in
+    let answer = delivered .result .answer in
+    state-is _ _ _ _ _ _ _ _ answer _ _
+    (set-is _ _ _ _ _ (w .sps .len) (said answer) (c .before .before .before .before .before .before .before .before .before .before .before .before .store .ensures) (c .before .before .before .before .before .before .before .before .after .ensures) (c .before .before .before .before .before .before .before .clear-from .ensures))
+    (set-is _ _ _ _ _ (w .pps .len) (said answer) (c .before .before .before .before .before .before .before .before .before .before .store2 .ensures) (c .before .before .before .before .before .after2 .ensures) (c .before .before .before .before .clear-from2 .ensures))
+    (c .before .before .before .after3 .ensures) (c .before .after4 .ensures)
+    ∙ call-stated (a .t1) layOut (outside (a .t1) (a .mtu) (a .frame .now)) (savedIn (a .t1)) (a .mtu) (a .frame .now) (a .out .now) (a .ends .now) _ answer _ _
+    (delivered .ensures .1 .1) _
+    (put-back (a .t1 .sps .bytes) (a .t1 .pps .bytes) (a .frame .now) w (delivered .ensures .0) (a .t1 .sps .len) (a .t1 .pps .len) (full start .0) (full start .1)
+    (said answer) (delivered .ensures .1 .0))
 
 pub payload-spec : {M : Type 1} → statement M
 payload-spec =
     tie.close
     (tie.spec
+    deliver-requires
+    store-requires
+    store-requires-2
     (λ c κs. search needs)
+    clear-from-requires
     (λ c κs. search needs)
-    returns
-    tidy-requires
+    clear-from-requires-2
     (λ c κs. search needs)
-    (λ c κs. search needs)
-    returns-2
-    measure-frame-requires
-    (λ c κs. search needs)
-    returns-3
-    (λ c κs. search needs)
-    (λ c κs. search needs)
-    returns-4
-    walk-requires
     (λ c κs. search needs)
     (λ c. search needs)
     (λ c. search needs)
-    returns-5)
+    returns)

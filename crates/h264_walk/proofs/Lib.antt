@@ -1,0 +1,4 @@
+pub mod Bytes
+pub mod Pairs
+pub mod Steps
+pub mod Walks
