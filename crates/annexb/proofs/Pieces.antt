@@ -210,14 +210,18 @@ pub piece-end : (frame : List ℕ) (start : ℕ) (p : Piece) → Pieced frame st
 piece-end frame start p w e =
     w .same ∙ ap (λ (b : Bool). take (p .end - start) (drop start frame) ∷ cond b (pieces (drop (p .next) frame)) []) e
 
--- ---- a start code by its ends
+-- ---- a start code in two numbers
 
--- what is so of the ends of a start code found, and of no start code where none is
-pub by-ends : (frame : List ℕ) (start : ℕ) (c : Code) → c ≡ codeOf (nextCode frame start) → (T : Code → Type 0) →
-    ((p n : ℕ) → nextCode frame start ≡ At p n → 0 < n → T (record { at = p; next = p + n })) →
-    (nextCode frame start ≡ Nothing → T (record { at = 0; next = 0 })) → T c
-by-ends frame start c e T found none = subst T (sym e) (go (nextCode frame start) refl)
+-- what is so of the place and the length of a start code found, and of two zeros where none is
+pub by-code : (frame : List ℕ) (start : ℕ) (c : Code) → c ≡ codeOf (nextCode frame start) → (T : Code → Type 0) →
+    ((p n : ℕ) → nextCode frame start ≡ At p n → 0 < n → T (record { at = p; len = n })) →
+    (nextCode frame start ≡ Nothing → T (record { at = 0; len = 0 })) → T c
+by-code frame start c e T found none = subst T (sym e) (go (nextCode frame start) refl)
   where
     go : (f : Found) → nextCode frame start ≡ f → T (codeOf f)
     go (At p n) q = found p n q (told-of frame start (At p n) q .some)
     go Nothing q = none q
+
+pub code-within : (frame : List ℕ) (start : ℕ) → start ≤ length frame → (c : Code) → c ≡ codeOf (nextCode frame start) → c .at + c .len ≤ length frame
+code-within frame start h c e =
+    by-code frame start c e (λ (x : Code). x .at + x .len ≤ length frame) (λ p n q some. piece-at frame start p n h q .within) (λ q. omega arith)

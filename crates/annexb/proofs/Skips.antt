@@ -47,10 +47,10 @@ module _ (frame : List ℕ) (i e : ℕ) where
       (λ k h low p. scan-zero frame k (k - i) h p ∙ ap (ahead frame (k + 1)) (omega arith))
 
   -- "A start code is two or more zeros and a 1"
-  pub code-found : {n : ℕ} → n ≡ e + 1 → Run Zero frame i e → e < length frame → getD frame e 0 ≡ 1 → leb 2 (e - i) ≡ true →
-      record { at = i; next = n } ≡ codeOf (ahead frame i 0)
+  pub code-found : {n : ℕ} → n ≡ e - i + 1 → Run Zero frame i e → e < length frame → getD frame e 0 ≡ 1 → leb 2 (e - i) ≡ true →
+      record { at = i; len = n } ≡ codeOf (ahead frame i 0)
   code-found q r h one two =
-      ap₂ (λ (x y : ℕ). record { at = x; next = y }) (omega (arith, r .from)) (omega (arith, r .from))
+      ap₂ (λ (x y : ℕ). record { at = x; len = y }) (omega (arith, r .from)) q
       ∙ ap codeOf (sym (past-zeros r ∙ scan-code frame e (e - i) h (one-after-zeros (getD frame e 0) (e - i) one two)))
 
   pub no-code : Run Zero frame i e → e < length frame → (getD frame e 0 ≡ 0 → ⊥) → endsCode (getD frame e 0) (e - i) ≡ false →

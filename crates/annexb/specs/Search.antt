@@ -31,10 +31,10 @@ scan (b ∷ s) at zeros =
 unfoldable pub nextCode : List ℕ → ℕ → Found
 nextCode frame start = scan (drop start frame) start 0
 
--- a start code by its ends: where its first zero stands, and the place behind its 1; both 0 where there is none
+-- a start code in two numbers, its place and its length; both 0 where there is none
 abbrev pub codeOf : Found → Code
-codeOf (At place len) = record { at = place; next = place + len }
-codeOf Nothing = record { at = 0; next = 0 }
+codeOf (At place len) = record { at = place; len = len }
+codeOf Nothing = record { at = 0; len = 0 }
 
 -- ---- the search as a call
 

@@ -26,8 +26,8 @@ pub enum Search {
 struct Code {
     // the place of its first zero; 0 where there is none
     at: usize,
-    // the place behind its 1, at most the frame's length; 0 where there is none
-    next: usize,
+    // how many bytes it has, its 1 among them; 0 where there is none
+    len: usize,
 }
 
 fn lesser(a: u8, b: u8) -> u8
@@ -149,12 +149,12 @@ fn find_code(frame: &[u8], start: usize) -> Code
     ensures { λ r. ⌜ r ≡ codeOf (nextCode (now (frame .entry)) start) ⌝ }
 {
     if frame.len() < start {
-        return Code { at: 0, next: 0 };
+        return Code { at: 0, len: 0 };
     }
     let mut i = start;
     loop {
         if frame.len() - i < 3 {
-            break Code { at: 0, next: 0 };
+            break Code { at: 0, len: 0 };
         }
         let b = frame[i + 2];
         if 1 < b {
@@ -163,7 +163,7 @@ fn find_code(frame: &[u8], start: usize) -> Code
         }
         if b == 1 {
             if frame[i] == 0 && frame[i + 1] == 0 {
-                break Code { at: i, next: i + 3 };
+                break Code { at: i, len: 3 };
             }
             i += 3;
             continue;
@@ -171,12 +171,12 @@ fn find_code(frame: &[u8], start: usize) -> Code
         let first = first_zero(frame, i);
         let end = past_zeros(frame, i + 3);
         if frame.len() <= end {
-            break Code { at: 0, next: 0 };
+            break Code { at: 0, len: 0 };
         }
         if frame[end] == 1 && 2 <= end - first {
             break Code {
                 at: first,
-                next: end + 1,
+                len: end - first + 1,
             };
         }
         i = end + 1;
@@ -188,10 +188,10 @@ pub fn next_code(frame: &[u8], start: usize) -> Found
     ensures { λ r. ⌜ r ≡ nextCode (now (frame .entry)) start ⌝ }
 {
     let code = find_code(frame, start);
-    if code.next == 0 {
+    if code.len == 0 {
         return Found::Nothing;
     }
-    Found::At(code.at, code.next - code.at)
+    Found::At(code.at, code.len)
 }
 
 // The search by itself: too long a frame is refused, and a place beyond its end.
@@ -212,7 +212,7 @@ pub fn first_unit(frame: &[u8]) -> usize
     ensures { λ r. ⌜ (r ≤ length (now (frame .entry))) × (pieces (drop r (now (frame .entry))) ≡ units (now (frame .entry))) ⌝ }
 {
     let code = find_code(frame, 0);
-    code.next
+    code.at + code.len
 }
 
 // A unit of a frame.
@@ -231,7 +231,7 @@ pub fn unit_at(frame: &[u8], start: usize) -> Piece
     ensures { λ r. ⌜ Pieced (now (frame .entry)) start r ⌝ }
 {
     let code = find_code(frame, start);
-    if code.next == 0 {
+    if code.len == 0 {
         return Piece {
             end: frame.len(),
             more: false,
@@ -241,6 +241,6 @@ pub fn unit_at(frame: &[u8], start: usize) -> Piece
     Piece {
         end: code.at,
         more: true,
-        next: code.next,
+        next: code.at + code.len,
     }
 }
