@@ -46,37 +46,19 @@ fn bytes(hex: &str) -> Vec<u8> {
 type LeftOut = fn(&Row) -> bool;
 
 /// Which rows are left out, and the outcomes that then do not occur: these and no others. Of the
-/// pairs of a frame only the first can be saved before it; and a unit in fragments behind its pair is
-/// asked about in frames that have sets and units sent alone.
+/// pairs of a frame only the first can be saved before it.
 const MISSING: [(LeftOut, &[&str]); 17] = [
     (|row| row.has(&[0, 0, 1, 0, 0]) || row.frame.ends_with(&[0, 0, 1]), &["an empty unit"]),
     (|row| row.has_type(9), &["a unit of type 9"]),
     (|row| row.has_type(12), &["a unit of type 12"]),
-    (
-        |row| row.has_type(7),
-        &[
-            "an SPS that is saved",
-            "a unit in fragments behind its pair",
-            "a unit in fragments, its pair dropped",
-            "several pairs dropped of a frame",
-        ],
-    ),
-    (
-        |row| row.has_type(8),
-        &[
-            "a PPS that is saved",
-            "a unit in fragments behind its pair",
-            "a unit in fragments, its pair dropped",
-            "several pairs dropped of a frame",
-        ],
-    ),
+    (|row| row.has_type(7), &["an SPS that is saved", "several pairs dropped of a frame"]),
+    (|row| row.has_type(8), &["a PPS that is saved", "several pairs dropped of a frame"]),
     (
         |row| row.packets.iter().any(|packet| row.has(packet)),
         &[
             "a unit sent alone, with no pair due",
             "a unit sent alone behind its pair",
             "a unit sent alone, its pair dropped",
-            "a unit in fragments behind its pair",
         ],
     ),
     (

@@ -5,7 +5,7 @@ use oracle::text::hex;
 use crate::cases;
 use crate::list::List;
 use crate::random::{strings, Random};
-use crate::vectors;
+use crate::{search, sets, vectors};
 
 pub fn rows(list: &mut List) {
     cases::h264(list);
@@ -24,6 +24,8 @@ pub fn rows(list: &mut List) {
     reading_limits(list);
     shows(list);
     drops(list);
+    search::rows(list);
+    sets::rows(list);
     list.must_ask_all();
 }
 
@@ -77,7 +79,8 @@ fn partitions(list: &mut List) {
     list.ask("h264.tail 1");
 }
 
-fn send(list: &mut List, mtu: usize, sets: &str, frame: &[u8]) -> String {
+/// Asks a sender in which these sets wait.
+pub fn send(list: &mut List, mtu: usize, sets: &str, frame: &[u8]) -> String {
     list.ask_sender(format!("h264.send {mtu} {sets} {}", hex(frame)))
 }
 

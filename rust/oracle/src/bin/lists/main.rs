@@ -1,6 +1,7 @@
 //! Prints lists of questions with the oracle's answers, the same on every run.
 
 mod cases;
+mod frames;
 mod h264;
 mod header;
 mod list;
@@ -8,6 +9,8 @@ mod packet;
 mod random;
 mod reading;
 mod records;
+mod search;
+mod sets;
 mod vectors;
 mod vp8;
 
