@@ -3,6 +3,7 @@ use crate::equal;
 use crate::rows;
 use h264::Found;
 use h264::H264Payloader;
+use h264::LentPayloader;
 use h264::ParameterSet;
 use h264::Payloads;
 use h264::Search;
@@ -28,18 +29,27 @@ pub fn next<'a>(q: &'a [u8], a: &'a [u8]) -> bool {
     }
 }
 
+// Asked of both senders, the one that goes by value and the one whose sets lie in lent buffers: both must be as the row has it.
 pub fn send<'a>(q: &'a [u8], a: &'a [u8]) -> bool {
+    sent_by(false, q, a) && sent_by(true, q, a)
+}
+
+fn sent_by<'a>(lent: bool, q: &'a [u8], a: &'a [u8]) -> bool {
     let mut out = [rows::FILL; 2048];
     let mut ends = [equal::NO_END; 2048];
     let places = rows::room(rows::number(q, 3));
     let packets = rows::room(rows::number(q, 4));
-    let r = sender(q).payload(
+    let before = sender(q);
+    let r = payload(
+        lent,
+        before,
         rows::number(q, 1),
         rows::field(q, 2),
         &mut out[0..places],
         &mut ends[0..packets],
     );
-    let same = equal::buffer(sent(a, r), rows::field(a, 4), rows::FILL, &out);
+    let same = sent(a, r, lent, before);
+    let same = equal::buffer(same, rows::field(a, 4), rows::FILL, &out);
     equal::ends(same, rows::field(a, 5), &ends)
 }
 
@@ -56,7 +66,36 @@ fn set(len: usize, front: &[u8]) -> ParameterSet {
     ParameterSet { bytes, len }
 }
 
-fn sent(a: &[u8], r: Sent) -> bool {
+// What either sender leaves, in the form of the one that goes by value.
+fn payload(
+    lent: bool,
+    sender: H264Payloader,
+    mtu: usize,
+    frame: &[u8],
+    out: &mut [u8],
+    ends: &mut [usize],
+) -> Sent {
+    if !lent {
+        return sender.payload(mtu, frame, out, ends);
+    }
+    let mut sps = sender.sps;
+    let mut pps = sender.pps;
+    let held = LentPayloader {
+        sps_len: sps.len,
+        pps_len: pps.len,
+    };
+    let r = held.payload(&mut sps.bytes, &mut pps.bytes, mtu, frame, out, ends);
+    let after = r.sender;
+    let answer = r.answer;
+    sps.len = after.sps_len;
+    pps.len = after.pps_len;
+    Sent {
+        sender: H264Payloader { sps, pps },
+        answer,
+    }
+}
+
+fn sent(a: &[u8], r: Sent, lent: bool, before: H264Payloader) -> bool {
     let after = r.sender;
     let answer = r.answer;
     let same = match answer {
@@ -71,13 +110,26 @@ fn sent(a: &[u8], r: Sent) -> bool {
         }
         Payloads::Refused(e) => equal::number(equal::refused(a, e), a, 12, 0),
     };
-    let same = same_set(same, rows::rest(a, 6), after.sps);
-    same_set(same, rows::rest(a, 9), after.pps)
+    let sps = rows::rest(a, 6);
+    let pps = rows::rest(a, 9);
+    let same = same_set(same, sps, after.sps, behind(lent, sps, before.sps));
+    same_set(same, pps, after.pps, behind(lent, pps, before.pps))
 }
 
-fn same_set(same: bool, a: &[u8], set: ParameterSet) -> bool {
+// What must stand behind a set: what the row says, and in a lent buffer what stood there before.
+fn behind(lent: bool, a: &[u8], before: ParameterSet) -> [u8; 1024] {
+    if lent {
+        return before.bytes;
+    }
+    let fill = rows::byte(a, 2);
+    [fill; 1024]
+}
+
+fn same_set(same: bool, a: &[u8], set: ParameterSet, behind: [u8; 1024]) -> bool {
+    let mut places = behind;
+    rows::lay(rows::field(a, 1), &mut places);
     let same = equal::number(same, a, 0, set.len);
-    equal::places(same, rows::field(a, 1), rows::byte(a, 2), &set.bytes)
+    same && check::same(&places, &set.bytes)
 }
 
 pub fn read<'a>(q: &'a [u8], a: &'a [u8]) -> bool {
