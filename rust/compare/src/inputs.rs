@@ -4,7 +4,7 @@ use bytes::Bytes;
 use oracle::header::{Extension, Header};
 
 use crate::random::Random;
-use crate::{reading, records_asked};
+use crate::{frames, reading, records_asked};
 
 /// Strings to be read and records to be written, made once and picked from.
 pub struct Pool {
@@ -102,8 +102,20 @@ pub fn element_data(random: &mut Random) -> Bytes {
     Bytes::from(random.bytes(len))
 }
 
-/// A frame of H.264 units: start codes and zeros of all lengths, pairs of short sets, sets of all sizes, or no code at all.
+/// A frame of H.264 units, or of long runs.
 pub fn h264_frame(random: &mut Random) -> Bytes {
+    let frame = if random.one_in(4) { long_runs(random) } else { units(random) };
+    Bytes::from(if random.one_in(4) { random.damaged(&frame) } else { frame })
+}
+
+/// Long runs of zeros and of bytes above 1 around start codes, with sets and units to be sent behind these.
+fn long_runs(random: &mut Random) -> Vec<u8> {
+    let least = random.pick(&[1, 20, 60, 60, 100, 400]);
+    frames::runs(random, &[0x65, 0x41, 0x67, 0x68], least)
+}
+
+/// Units behind start codes and zeros of all lengths, pairs of short sets, sets of all sizes, or no code at all.
+fn units(random: &mut Random) -> Vec<u8> {
     let mut frame = if random.one_in(4) { noise(random, 6) } else { vec![] };
     for _ in 0..random.below(5) {
         if random.one_in(4) {
@@ -118,7 +130,7 @@ pub fn h264_frame(random: &mut Random) -> Bytes {
         frame.extend([0, 0, 1, random.pick(&[0x67, 0x68])]);
         frame.extend(vec![0x5A; 1_022 + random.below(4)]);
     }
-    Bytes::from(if random.one_in(4) { random.damaged(&frame) } else { frame })
+    frame
 }
 
 /// A unit behind a start code: its first byte, then at most as many bytes as one of these says.
@@ -181,6 +193,8 @@ pub fn vp8_packet(random: &mut Random) -> Bytes {
 
 #[cfg(test)]
 mod tests {
+    use std::collections::HashSet;
+
     use oracle::h264::H264Payloader;
     use oracle::outcomes::{send, Drops};
 
@@ -203,5 +217,22 @@ mod tests {
         }
         let least = [5, 25, 10, 50, 75, 300].map(|one_in| frames / one_in);
         assert!(counts.iter().zip(least).all(|(count, least)| *count > least), "{counts:?}");
+    }
+
+    /// There are start codes of 2 to 40 zeros, and searches for one that begin with 0 to 40 bytes above 1.
+    #[test]
+    fn codes_stand_behind_runs_of_all_lengths() {
+        let mut random = Random::new(1);
+        let (mut zeros, mut others) = (HashSet::new(), HashSet::new());
+        for _ in 0..20_000 {
+            let (frame, mut start) = (h264_frame(&mut random), 0);
+            while let Some((place, len)) = H264Payloader::start_code(&frame, start) {
+                zeros.insert(len - 1);
+                others.insert(frame[start..place].iter().take_while(|byte| **byte > 1).count());
+                start = place + len;
+            }
+        }
+        assert!((2..=40).all(|len| zeros.contains(&len)), "{zeros:?}");
+        assert!((0..=40).all(|len| others.contains(&len)), "{others:?}");
     }
 }

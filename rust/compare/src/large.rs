@@ -58,6 +58,8 @@ fn frames(random: &mut Random, tally: &mut Tally, len: usize) {
         for first in [&[0, 0, 1, 0x65][..], &[0x41], &[0, 0, 1, 0x67]] {
             Sender::default().payload(tally, random, mtu, &long(first, len));
         }
+        let late_code = [&vec![0; len - 2][..], &[1, 0x65]].concat();
+        Sender::default().payload(tally, random, mtu, &Bytes::from(late_code));
         let mut sender = Vp8Payloader { enable_picture_id: true, picture_id: 127 };
         vp8::payload(tally, random, &mut sender, mtu, &long(&[], len));
     }

@@ -17,6 +17,9 @@ mod vp8;
 
 // Chance and inputs of the oracle's lists.
 #[allow(dead_code)]
+#[path = "../../oracle/src/bin/lists/frames.rs"]
+mod frames;
+#[allow(dead_code)]
 #[path = "../../oracle/src/bin/lists/random.rs"]
 mod random;
 #[path = "../../oracle/src/bin/lists/reading.rs"]
