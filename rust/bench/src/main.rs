@@ -1,16 +1,22 @@
 //! Times the proved calls beside rtp 0.17.2 and beside a plain copy of the same bytes, and prints the table for docs/FIGURES.md.
 
+mod by_value;
 mod h264;
 mod joiner;
 mod packets;
 mod timing;
 mod vp8;
 
+// Chance of the oracle's lists.
+#[allow(dead_code)]
+#[path = "../../oracle/src/bin/lists/random.rs"]
+mod random;
+
 use std::fs;
 
 use timing::Row;
 
-/// The mtu of all senders.
+/// The mtu of a sender whose row names no other.
 const MTU: usize = 1_200;
 
 fn main() {
