@@ -1,7 +1,8 @@
 /* RTP headers and packets, H.264 and VP8 payloads, and a joiner of H.264 units: the proved calls of crates/gateway.
  *
  * A slice is a pointer and a count of elements: `const uint8_t *packet, size_t packet_len`. The pointer is not read where the count
- * is 0. What is written (`uint8_t *`, `size_t *`, a joiner) overlaps nothing else that is passed in the same call.
+ * is 0. A buffer of a fixed size is a pointer to that many bytes: `uint8_t sps[1024]`. What is written (`uint8_t *`, `size_t *`, such a
+ * buffer, a joiner) overlaps nothing else that is passed in the same call.
  * A `bool` is true or false, in a record too: a record that was never set is no argument. Any other value in a record is; what lies
  * outside the limits is refused with 8.
  *
@@ -171,6 +172,21 @@ struct rtp_h264_sent {
     struct rtp_h264_payloader sender;
 };
 
+/* A sender whose parameter sets lie in two buffers that the host keeps. Both lengths 0 for one with nothing saved. */
+struct rtp_h264_lent_payloader {
+    size_t sps_len; /* how many bytes in front of its buffer are a sequence parameter set that waits, 0 to 1,024; 0 for none */
+    size_t pps_len; /* of the picture parameter set, likewise */
+};
+
+struct rtp_h264_lent_sent {
+    struct rtp_refused refused;
+    size_t packets;       /* how many packets were written */
+    size_t bytes;         /* how many bytes they have together */
+    size_t units_dropped; /* how many units were dropped for the mtu */
+    size_t pairs_dropped; /* how many pairs of parameter sets were dropped for the mtu */
+    struct rtp_h264_lent_payloader sender;
+};
+
 struct rtp_h264_packet {
     bool is_avc;     /* units are handed out behind a 4-byte length, and not behind a start code */
     size_t gathered; /* how many bytes of fragments stand in front of the gather buffer; 0 for none: 0 to 16,777,215 */
@@ -196,6 +212,13 @@ struct rtp_h264_payloader rtp_h264_payloader_new(void);
  * counted. */
 struct rtp_h264_sent rtp_h264_payload(struct rtp_h264_payloader sender, size_t mtu, const uint8_t *frame, size_t frame_len, uint8_t *out,
                                       size_t out_len, size_t *ends, size_t ends_len);
+
+/* The same with the parameter sets in sps and pps, which the host leaves alone between calls. A set that waits stands in front of its
+ * buffer; what stands behind it is any, and stays. Nothing of their size goes by value: this is the call for a host that sends a frame a
+ * call. */
+struct rtp_h264_lent_sent rtp_h264_lent_payload(struct rtp_h264_lent_payloader sender, uint8_t sps[1024], uint8_t pps[1024], size_t mtu,
+                                                const uint8_t *frame, size_t frame_len, uint8_t *out, size_t out_len, size_t *ends,
+                                                size_t ends_len);
 
 /* Reads a payload: fragments are gathered in gather, which is left alone between calls; whole units are handed out in out. */
 struct rtp_h264_read rtp_h264_depacketize(struct rtp_h264_packet packet, const uint8_t *payload, size_t payload_len, uint8_t *gather,
@@ -308,6 +331,8 @@ struct rtp_sizes {
     size_t parameter_set;
     size_t h264_payloader;
     size_t h264_sent;
+    size_t h264_lent_payloader;
+    size_t h264_lent_sent;
     size_t h264_packet;
     size_t body;
     size_t h264_read;

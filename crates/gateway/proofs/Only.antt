@@ -24,7 +24,7 @@ use Rattle.vp8_read.specs.Read.{depacketized}
 use Rattle.vp8_read.specs.Partition.{partitionHead}
 use Rattle.h264.specs.declared.send.H264Payloader.{H264Payloader}
 use Rattle.h264_put.specs.Groups.{nothingSaved}
-use Rattle.h264.specs.Payload.{Left, layOut, payloadOf}
+use Rattle.h264.specs.Payload.{Lent, LeftIn, Left, layOut, payloadOf, lentOf}
 use Rattle.h264_packet.specs.declared.H264Packet.{H264Packet}
 use Rattle.h264_packet.specs.Depacketize.{headTest}
 use Rattle.h264_packet.specs.Depacketize.{depacketized as depacketizedBy}
@@ -39,6 +39,7 @@ use Rattle.gateway.specs.declared.rtp_extension.RtpElement.{RtpElement}
 use Rattle.gateway.specs.declared.rtp_extension.RtpIds.{RtpIds}
 use Rattle.gateway.specs.declared.rtp_packet.RtpPacketRead.{RtpPacketRead}
 use Rattle.gateway.specs.declared.rtp_h264.RtpH264Sent.{RtpH264Sent}
+use Rattle.gateway.specs.declared.rtp_h264.RtpH264LentSent.{RtpH264LentSent}
 use Rattle.gateway.specs.declared.rtp_h264.RtpH264Read.{RtpH264Read}
 use Rattle.gateway.specs.declared.rtp_vp8.RtpVp8Sent.{RtpVp8Sent}
 use Rattle.gateway.specs.declared.rtp_vp8.RtpVp8Read.{RtpVp8Read}
@@ -48,7 +49,7 @@ use Rattle.gateway.specs.declared.rtp_sizes.RtpSizes.{RtpSizes}
 use Rattle.gateway.specs.Refused.{testAs}
 use Rattle.gateway.specs.HeaderAnswers.{headerReadAs, lengthAs, headerChangedAs, elementAs, idsAs}
 use Rattle.gateway.specs.PacketAnswers.{packetReadAs}
-use Rattle.gateway.specs.H264Answers.{h264SentAs, h264ReadAs}
+use Rattle.gateway.specs.H264Answers.{h264SentAs, h264LentSentAs, h264ReadAs}
 use Rattle.gateway.specs.Vp8Answers.{vp8SentAs, vp8ReadAs}
 use Rattle.gateway.specs.JoinerAnswers.{joinedAs, closedAs}
 use Rattle.gateway.specs.Sizes.{sizes}
@@ -118,6 +119,14 @@ pub h264-payload-only : (k : H264Payloader) (mtu : ℕ) (frame out ends : List �
 h264-payload-only k mtu frame out ends =
     let l : Left = payloadOf k mtu frame out ends in
     by-three (h264SentAs l) (l .out) (l .ends)
+
+pub h264-lent-payload-only : (k : Lent) (mtu : ℕ) (frame out ends : List ℕ) →
+    let l = lentOf k mtu frame out ends in
+    Determined (λ (r : RtpH264LentSent × (List ℕ × (List ℕ × (List ℕ × List ℕ)))).
+    (r .0 ≡ h264LentSentAs l) × ((r .1 .0 ≡ l .sender .sps) × ((r .1 .1 .0 ≡ l .sender .pps) × ((r .1 .1 .1 .0 ≡ l .out) × (r .1 .1 .1 .1 ≡ l .ends)))))
+h264-lent-payload-only k mtu frame out ends =
+    let l : LeftIn Lent = lentOf k mtu frame out ends in
+    by-both (by-value (h264LentSentAs l)) (by-both (by-value (l .sender .sps)) (by-three (l .sender .pps) (l .out) (l .ends)))
 
 pub h264-depacketize-only : (k : H264Packet) (payload gather out : List ℕ) →
     let h = depacketizedHeard k payload (depacketizedBy (k .«is_avc») (k .gathered) payload gather out) in

@@ -62,7 +62,7 @@ use Rattle.joiner.specs.Said.{saidJoined, saidClosed}
 use Rattle.gateway.specs.Refused.{refusedAs, saidBy, testAs}
 use Rattle.gateway.specs.HeaderAnswers.{headerReadAs, lengthAs, headerChangedAs, elementAs, foundBy, idsAs}
 use Rattle.gateway.specs.PacketAnswers.{packetReadAs}
-use Rattle.gateway.specs.H264Answers.{h264SentAs, countsBy, bodyAs, bodyBy, h264ReadAs}
+use Rattle.gateway.specs.H264Answers.{countedAs, h264SentAs, h264LentSentAs, countsBy, bodyAs, bodyBy, h264ReadAs}
 use Rattle.gateway.specs.Vp8Answers.{vp8SentAs, vp8ReadAs}
 use Rattle.gateway.specs.JoinerAnswers.{joinedAs, answerBy, closedAs}
 
@@ -127,11 +127,22 @@ pub packet-read-told : (a : PacketRead) (h : Header) →
 packet-read-told (whole.Payload at len) h = refl
 packet-read-told (whole.Refused e) h = refusal-told e (record { place = 0; len = 0 })
 
+-- with the sets in the record or in lent buffers
+counted-told : (a : Payloads) →
+    let c = countedAs (h264.said a) in
+    saidBy (c .refused) (countsBy (c .packets) (c .bytes) (c .«units_dropped») (c .«pairs_dropped»)) ≡ h264.said a
+counted-told (payloads.Written packets bytes units pairs) = refl
+counted-told (payloads.Refused e) = refusal-told e (countsBy 0 0 0 0)
+
 pub h264-sent-told : (a : Payloads) (s : H264Payloader) →
-    let r = h264SentAs (record { sender = s; answer = h264.said a; out = []; ends = [] }) in
-    saidBy (r .refused) (countsBy r) ≡ h264.said a
-h264-sent-told (payloads.Written packets bytes units pairs) s = refl
-h264-sent-told (payloads.Refused e) s = refusal-told e (record { packets = 0; bytes = 0; «units_dropped» = 0; «pairs_dropped» = 0 })
+    let r = h264SentAs (h264.leftWith s a [] []) in
+    saidBy (r .refused) (countsBy (r .packets) (r .bytes) (r .«units_dropped») (r .«pairs_dropped»)) ≡ h264.said a
+h264-sent-told a s = counted-told a
+
+pub h264-lent-sent-told : (a : Payloads) (l : h264.Lent) →
+    let r = h264LentSentAs (h264.leftWith l a [] []) in
+    saidBy (r .refused) (countsBy (r .packets) (r .bytes) (r .«units_dropped») (r .«pairs_dropped»)) ≡ h264.said a
+h264-lent-sent-told a l = counted-told a
 
 pub h264-read-told : (a : Depacketize) (s : Showing) (k : H264Packet) (p g : ℕ) →
     let r = h264ReadAs (record { packet = k; answer = reader.saidDepacketize a; showing = s; gather = []; out = [] }) p g in

@@ -65,6 +65,13 @@ parameterSet = struct (array 1024 u8 ∷ word ∷ [])
 abbrev pub h264Payloader : Laid
 h264Payloader = struct (parameterSet ∷ parameterSet ∷ [])
 
+abbrev pub lentPayloader : Laid
+lentPayloader = struct (word ∷ word ∷ [])
+
+-- the counts, beside the sender
+abbrev pub h264Sent : Laid → Laid
+h264Sent sender = struct (refused ∷ word ∷ word ∷ word ∷ word ∷ sender ∷ [])
+
 abbrev pub h264Packet : Laid
 h264Packet = struct (flag ∷ word ∷ [])
 
@@ -95,7 +102,9 @@ sizes =
       «packet_read» = struct (refused ∷ word ∷ word ∷ header ∷ []) .size;
       «parameter_set» = parameterSet .size;
       «h264_payloader» = h264Payloader .size;
-      «h264_sent» = struct (refused ∷ word ∷ word ∷ word ∷ word ∷ h264Payloader ∷ []) .size;
+      «h264_sent» = h264Sent h264Payloader .size;
+      «h264_lent_payloader» = lentPayloader .size;
+      «h264_lent_sent» = h264Sent lentPayloader .size;
       «h264_packet» = h264Packet .size;
       body = body .size;
       «h264_read» = struct (refused ∷ word ∷ body ∷ h264Packet ∷ []) .size;

@@ -4,11 +4,11 @@ ghost use mathlib.Core.List.{[]};
 ghost use Prim.Native.Nat.{ℕ, _≤_};
 ghost use lib.ListN.{length};
 ghost use Rattle.h264_put.specs.Groups.{nothingSaved};
-ghost use Rattle.h264.specs.Payload.{layOut, left, payloadOf};
+ghost use Rattle.h264.specs.Payload.{layOut, said, left, leftLent, payloadOf, lentOf};
 ghost use Rattle.h264_packet.specs.Depacketize.{depacketized, in-packet, Lies, headTest};
 ghost use Rattle.h264_packet.specs.Said.{saidShown, heard, depacketizedHeard, saidHead};
 ghost use Rattle.gateway.specs.Refused.{testAs};
-ghost use Rattle.gateway.specs.H264Answers.{h264SentAs, bodyNowhere, bodyAs, h264ReadAs};
+ghost use Rattle.gateway.specs.H264Answers.{countedAs, h264SentAs, lent, h264LentSentAs, bodyNowhere, bodyAs, h264ReadAs};
 use crate::refused::Refused;
 use crate::refused::RtpTest;
 use crate::refused::answered;
@@ -16,6 +16,8 @@ use crate::refused::refusal;
 use crate::refused::tested;
 use crate::refused::untested;
 use h264::H264Payloader;
+use h264::LentPayloader;
+use h264::LentSent;
 use h264::Payloads;
 use h264::Sent;
 use h264_packet::Depacketize;
@@ -40,6 +42,35 @@ pub struct RtpH264Sent {
     pub sender: H264Payloader,
 }
 
+// The payloads of a frame, where the parameter sets lie in lent buffers.
+#[repr(C)]
+pub struct RtpH264LentSent {
+    pub refused: Refused,
+    // how many packets were written; 0 beside a refusal
+    pub packets: usize,
+    // how many bytes they have together; 0 beside a refusal
+    pub bytes: usize,
+    // how many units were dropped for the mtu; 0 beside a refusal
+    pub units_dropped: usize,
+    // how many pairs of parameter sets were dropped for the mtu; 0 beside a refusal
+    pub pairs_dropped: usize,
+    // the lengths for the next frame, of what stands in front of the buffers then; as they came beside a refusal
+    pub sender: LentPayloader,
+}
+
+// What both of these records say before the sender.
+struct Counted {
+    refused: Refused,
+    // how many packets were written; 0 beside a refusal
+    packets: usize,
+    // how many bytes they have together; 0 beside a refusal
+    bytes: usize,
+    // how many units were dropped for the mtu; 0 beside a refusal
+    units_dropped: usize,
+    // how many pairs of parameter sets were dropped for the mtu; 0 beside a refusal
+    pairs_dropped: usize,
+}
+
 // Where the body of the unit that a payload completed lies: `len` bytes from `at` on.
 #[repr(C)]
 pub struct RtpBody {
@@ -61,33 +92,63 @@ pub struct RtpH264Read {
     pub packet: H264Packet,
 }
 
-fn h264_sent(answer: Sent) -> RtpH264Sent
-    ensures { λ r. ⌜ r ≡ h264SentAs (left answer [] []) ⌝ }
+fn counts(answer: Payloads) -> Counted
+    ensures { λ r. ⌜ r ≡ countedAs (said answer) ⌝ }
 {
-    let payloads = answer.answer;
-    let sender = answer.sender;
-    match payloads {
+    match answer {
         Payloads::Written {
             packets,
             bytes,
             units_dropped,
             pairs_dropped,
-        } => RtpH264Sent {
+        } => Counted {
             refused: answered(),
             packets,
             bytes,
             units_dropped,
             pairs_dropped,
-            sender,
         },
-        Payloads::Refused(e) => RtpH264Sent {
+        Payloads::Refused(e) => Counted {
             refused: refusal(e),
             packets: 0,
             bytes: 0,
             units_dropped: 0,
             pairs_dropped: 0,
-            sender,
         },
+    }
+}
+
+fn h264_sent(answer: Sent) -> RtpH264Sent
+    ensures { λ r. ⌜ r ≡ h264SentAs (left answer [] []) ⌝ }
+{
+    let payloads = answer.answer;
+    let counted = counts(payloads);
+    let refused = counted.refused;
+    let sender = answer.sender;
+    RtpH264Sent {
+        refused,
+        packets: counted.packets,
+        bytes: counted.bytes,
+        units_dropped: counted.units_dropped,
+        pairs_dropped: counted.pairs_dropped,
+        sender,
+    }
+}
+
+fn h264_lent_sent(answer: LentSent) -> RtpH264LentSent
+    ensures { λ r. ⌜ r ≡ h264LentSentAs (leftLent answer [] [] [] []) ⌝ }
+{
+    let payloads = answer.answer;
+    let counted = counts(payloads);
+    let refused = counted.refused;
+    let sender = answer.sender;
+    RtpH264LentSent {
+        refused,
+        packets: counted.packets,
+        bytes: counted.bytes,
+        units_dropped: counted.units_dropped,
+        pairs_dropped: counted.pairs_dropped,
+        sender,
     }
 }
 
@@ -176,6 +237,26 @@ pub extern "C" fn rtp_h264_payload(
     ensures { λ _. ⌜ now (ends .exit) ≡ payloadOf sender mtu (now (frame .entry)) (now (out .entry)) (now (ends .entry)) .ends ⌝ }
 {
     h264_sent(sender.payload(mtu, frame, out, ends))
+}
+
+// The same with the parameter sets in two lent buffers, so that nothing of their size goes by value: for hosts that send a frame a call.
+#[no_mangle]
+pub extern "C" fn rtp_h264_lent_payload(
+    sender: LentPayloader,
+    sps: &mut [u8; 1024],
+    pps: &mut [u8; 1024],
+    mtu: usize,
+    frame: &[u8],
+    out: &mut [u8],
+    ends: &mut [usize],
+) -> RtpH264LentSent
+    ensures { λ r. ⌜ r ≡ h264LentSentAs (lentOf (lent sender (now (sps .entry)) (now (pps .entry))) mtu (now (frame .entry)) (now (out .entry)) (now (ends .entry))) ⌝ }
+    ensures { λ _. ⌜ now (sps .exit) ≡ lentOf (lent sender (now (sps .entry)) (now (pps .entry))) mtu (now (frame .entry)) (now (out .entry)) (now (ends .entry)) .sender .sps ⌝ }
+    ensures { λ _. ⌜ now (pps .exit) ≡ lentOf (lent sender (now (sps .entry)) (now (pps .entry))) mtu (now (frame .entry)) (now (out .entry)) (now (ends .entry)) .sender .pps ⌝ }
+    ensures { λ _. ⌜ now (out .exit) ≡ lentOf (lent sender (now (sps .entry)) (now (pps .entry))) mtu (now (frame .entry)) (now (out .entry)) (now (ends .entry)) .out ⌝ }
+    ensures { λ _. ⌜ now (ends .exit) ≡ lentOf (lent sender (now (sps .entry)) (now (pps .entry))) mtu (now (frame .entry)) (now (out .entry)) (now (ends .entry)) .ends ⌝ }
+{
+    h264_lent_sent(sender.payload(sps, pps, mtu, frame, out, ends))
 }
 
 // Reads a payload: fragments are gathered in gather, whole units handed out in out.
