@@ -53,6 +53,8 @@ same! {
     ParameterSet is sys::ParameterSet { bytes, len }
     H264Payloader is sys::H264Payloader { sps, pps }
     RtpH264Sent is sys::H264Sent { refused, packets, bytes, units_dropped, pairs_dropped, sender }
+    LentPayloader is sys::LentPayloader { sps_len, pps_len }
+    RtpH264LentSent is sys::H264LentSent { refused, packets, bytes, units_dropped, pairs_dropped, sender }
     H264Packet is sys::H264Packet { is_avc, gathered }
     RtpBody is sys::Body { lies_in, at, len }
     RtpH264Read is sys::H264Read { refused, bytes, body, packet }

@@ -38,6 +38,8 @@ pub mod error;
 pub mod header;
 pub mod joiner;
 pub mod packet;
+#[cfg(test)]
+mod senders;
 mod sys;
 
 pub use error::{Error, Result};

@@ -86,6 +86,23 @@ pub struct H264Sent {
 
 #[repr(C)]
 #[derive(Clone, Copy)]
+pub struct LentPayloader {
+    pub sps_len: usize,
+    pub pps_len: usize,
+}
+
+#[repr(C)]
+pub struct H264LentSent {
+    pub refused: Refused,
+    pub packets: usize,
+    pub bytes: usize,
+    pub units_dropped: usize,
+    pub pairs_dropped: usize,
+    pub sender: LentPayloader,
+}
+
+#[repr(C)]
+#[derive(Clone, Copy)]
 pub struct H264Packet {
     pub is_avc: bool,
     pub gathered: usize,
@@ -167,6 +184,8 @@ pub struct Sizes {
     pub parameter_set: usize,
     pub h264_payloader: usize,
     pub h264_sent: usize,
+    pub h264_lent_payloader: usize,
+    pub h264_lent_sent: usize,
     pub h264_packet: usize,
     pub body: usize,
     pub h264_read: usize,
@@ -209,7 +228,9 @@ extern "C" {
         buf_len: usize,
     ) -> Length;
 
+    #[cfg(test)]
     pub fn rtp_h264_payloader_new() -> H264Payloader;
+    #[cfg(test)]
     pub fn rtp_h264_payload(
         sender: H264Payloader,
         mtu: usize,
@@ -220,6 +241,18 @@ extern "C" {
         ends: *mut usize,
         ends_len: usize,
     ) -> H264Sent;
+    pub fn rtp_h264_lent_payload(
+        sender: LentPayloader,
+        sps: *mut [u8; 1024],
+        pps: *mut [u8; 1024],
+        mtu: usize,
+        frame: *const u8,
+        frame_len: usize,
+        out: *mut u8,
+        out_len: usize,
+        ends: *mut usize,
+        ends_len: usize,
+    ) -> H264LentSent;
     pub fn rtp_h264_depacketize(
         packet: H264Packet,
         payload: *const u8,
@@ -288,6 +321,8 @@ mod tests {
         assert_eq!(s.parameter_set, size_of::<ParameterSet>());
         assert_eq!(s.h264_payloader, size_of::<H264Payloader>());
         assert_eq!(s.h264_sent, size_of::<H264Sent>());
+        assert_eq!(s.h264_lent_payloader, size_of::<LentPayloader>());
+        assert_eq!(s.h264_lent_sent, size_of::<H264LentSent>());
         assert_eq!(s.h264_packet, size_of::<H264Packet>());
         assert_eq!(s.body, size_of::<Body>());
         assert_eq!(s.h264_read, size_of::<H264Read>());
@@ -348,6 +383,20 @@ mod tests {
                 8,
             );
             assert_eq!(sent.sender.pps.len, 3);
+            let (mut sps, mut pps) = ([0; 1024], [0; 1024]);
+            let sent = rtp_h264_lent_payload(
+                LentPayloader { sps_len: 0, pps_len: 0 },
+                &mut sps,
+                &mut pps,
+                100,
+                sets.as_ptr(),
+                sets.len(),
+                out.as_mut_ptr(),
+                64,
+                ends.as_mut_ptr(),
+                8,
+            );
+            assert_eq!(sent.sender.pps_len, 3);
             let reader = H264Packet { is_avc: false, gathered: 0 };
             let mut read = |payload: &[u8]| {
                 rtp_h264_depacketize(

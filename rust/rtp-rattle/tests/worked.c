@@ -33,6 +33,8 @@ static void sizes(void) {
     CHECK(s.parameter_set == sizeof(struct rtp_parameter_set));
     CHECK(s.h264_payloader == sizeof(struct rtp_h264_payloader));
     CHECK(s.h264_sent == sizeof(struct rtp_h264_sent));
+    CHECK(s.h264_lent_payloader == sizeof(struct rtp_h264_lent_payloader));
+    CHECK(s.h264_lent_sent == sizeof(struct rtp_h264_lent_sent));
     CHECK(s.h264_packet == sizeof(struct rtp_h264_packet));
     CHECK(s.body == sizeof(struct rtp_body));
     CHECK(s.h264_read == sizeof(struct rtp_h264_read));
@@ -43,7 +45,7 @@ static void sizes(void) {
     CHECK(s.joiner == sizeof(struct rtp_joiner));
     CHECK(s.joined == sizeof(struct rtp_joined));
     CHECK(s.closed == sizeof(struct rtp_closed));
-    CHECK(sizeof s == 23 * sizeof(size_t));
+    CHECK(sizeof s == 25 * sizeof(size_t));
 }
 
 static void headers(void) {
@@ -139,6 +141,84 @@ static void dropped(void) {
     }
 }
 
+/* A host that keeps the parameter sets of a sender. */
+struct host {
+    struct rtp_h264_lent_payloader sender;
+    uint8_t sps[1024], pps[1024], out[16];
+    size_t ends[4];
+};
+
+/* Nothing saved, and every byte A7. */
+static struct host fresh(void) {
+    struct host h;
+    memset(&h, 0xA7, sizeof h);
+    h.sender = (struct rtp_h264_lent_payloader){0, 0};
+    return h;
+}
+
+static struct rtp_h264_lent_sent send_lent(struct host *h, size_t mtu, const uint8_t *frame, size_t len) {
+    struct rtp_h264_lent_sent sent =
+        rtp_h264_lent_payload(h->sender, h->sps, h->pps, mtu, frame, len, h->out, sizeof h->out, h->ends, 4);
+    h->sender = sent.sender;
+    return sent;
+}
+
+/* Whether the buffers hold these sets in front and A7 behind them, and the sender's lengths are n and m. */
+static bool holds(const struct host *h, const char *sps, const char *pps, size_t n, size_t m) {
+    struct host full = fresh();
+    memcpy(full.sps, sps, strlen(sps));
+    memcpy(full.pps, pps, strlen(pps));
+    return memcmp(h->sps, full.sps, 1024) == 0 && memcmp(h->pps, full.pps, 1024) == 0 && h->sender.sps_len == n && h->sender.pps_len == m;
+}
+
+/* The parameter sets in the host's buffers: sent at once, and over two calls. */
+static void lent(void) {
+    static const uint8_t unit[] = {0, 0, 1, 0x65, 1, 2, 3, 4, 5};
+    static const uint8_t pair[] = {0, 0, 1, 0x67, 0xAA, 0, 0, 1, 0x68, 0xBB, 0, 0, 1, 0x65, 1, 2};
+    struct host h = fresh();
+    struct rtp_h264_lent_sent sent = send_lent(&h, 4, unit, sizeof unit);
+    CHECK(sent.refused.number == 0 && sent.packets == 3 && sent.bytes == 11 && sent.units_dropped == 0 && sent.pairs_dropped == 0);
+    CHECK(h.ends[0] == 4 && h.ends[1] == 8 && h.ends[2] == 11 && SAME(h.out, "\x7C\x85\1\2\x7C\5\3\4\x7C\x45\5\xA7"));
+    CHECK(holds(&h, "", "", 0, 0));
+
+    sent = send_lent(&h, 9, pair, sizeof pair);
+    CHECK(sent.refused.number == 0 && sent.packets == 2 && sent.bytes == 12 && h.ends[0] == 9 && h.ends[1] == 12);
+    CHECK(SAME(h.out, "\x78\0\2\x67\xAA\0\2\x68\xBB\x65\1\2") && holds(&h, "", "", 0, 0));
+    sent = send_lent(&h, 8, pair, sizeof pair);
+    CHECK(sent.packets == 1 && sent.units_dropped == 0 && sent.pairs_dropped == 1);
+    sent = send_lent(&h, 2, pair, sizeof pair);
+    CHECK(sent.packets == 0 && sent.units_dropped == 1 && sent.pairs_dropped == 1 && holds(&h, "", "", 0, 0));
+
+    h = fresh();
+    CHECK(send_lent(&h, 9, pair, 5).packets == 0 && holds(&h, "\x67\xAA", "", 2, 0));
+    CHECK(send_lent(&h, 9, pair + 5, 5).packets == 0 && holds(&h, "\x67\xAA", "\x68\xBB", 2, 2));
+    sent = send_lent(&h, 9, pair + 10, 6);
+    CHECK(sent.packets == 2 && SAME(h.out, "\x78\0\2\x67\xAA\0\2\x68\xBB\x65\1\2") && holds(&h, "\x67\xAA", "\x68\xBB", 0, 0));
+}
+
+/* Each refusal leaves the four buffers and the lengths as they were. Behind 67AA, 68BB, 650102 stands a set of 1,025 bytes. */
+static void lent_refused(void) {
+    static const uint8_t frame[20 + 1024] = {0, 0, 1, 0x67, 0xAA, 0, 0, 1, 0x68, 0xBB, 0, 0, 1, 0x65, 1, 2, 0, 0, 1, 0x67};
+    static const struct {
+        struct rtp_h264_lent_payloader sender;
+        size_t len, room, rows;
+        uint8_t refused;
+    } cases[] = {
+        {{1025, 0}, 16, 16, 4, RTP_OUTSIDE_DOMAIN},       {{0, 1025}, 16, 16, 4, RTP_OUTSIDE_DOMAIN},
+        {{SIZE_MAX, 2}, 16, 16, 4, RTP_OUTSIDE_DOMAIN},   {{0, 0}, sizeof frame, 16, 4, RTP_OVER_LIMITS},
+        {{3, 1024}, sizeof frame, 0, 0, RTP_OVER_LIMITS}, {{0, 0}, 16, 11, 4, RTP_BUFFER_TOO_SMALL},
+        {{0, 0}, 16, 16, 1, RTP_BUFFER_TOO_SMALL},        {{1, 0}, 16, 0, 0, RTP_BUFFER_TOO_SMALL},
+    };
+    for (size_t i = 0; i < sizeof cases / sizeof *cases; i++) {
+        struct host h = fresh(), as_it_was = h;
+        struct rtp_h264_lent_sent sent = rtp_h264_lent_payload(cases[i].sender, h.sps, h.pps, 9, frame, cases[i].len, h.out, cases[i].room,
+                                                               h.ends, cases[i].rows);
+        CHECK(sent.refused.number == cases[i].refused && sent.packets == 0 && sent.bytes == 0);
+        CHECK(sent.units_dropped == 0 && sent.pairs_dropped == 0 && memcmp(&h, &as_it_was, sizeof h) == 0);
+        CHECK(sent.sender.sps_len == cases[i].sender.sps_len && sent.sender.pps_len == cases[i].sender.pps_len);
+    }
+}
+
 static void vp8(void) {
     struct rtp_vp8_payloader payloader = {.enable_picture_id = true, .picture_id = 127};
     uint8_t out[16];
@@ -190,6 +270,8 @@ static void limits(void) {
     size_t ends[4];
     CHECK(bytes != NULL);
     CHECK(rtp_h264_payload(rtp_h264_payloader_new(), 1200, bytes, frame + 1, out, sizeof out, ends, 4).refused.number == RTP_OUTSIDE_DOMAIN);
+    struct host h = fresh();
+    CHECK(send_lent(&h, 1200, bytes, frame + 1).refused.number == RTP_OUTSIDE_DOMAIN && holds(&h, "", "", 0, 0));
     CHECK(rtp_vp8_payload((struct rtp_vp8_payloader){0}, 1200, bytes, frame + 1, out, sizeof out, ends, 4).refused.number == RTP_OUTSIDE_DOMAIN);
 
     struct rtp_h264_packet reader = {.is_avc = false, .gathered = frame - 1};
@@ -216,6 +298,8 @@ int main(void) {
     packets();
     h264();
     dropped();
+    lent();
+    lent_refused();
     vp8();
     joining();
     limits();

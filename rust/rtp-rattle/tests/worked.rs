@@ -145,7 +145,11 @@ fn parameter_pair() {
     // over two frames the pair waits in the sender
     let mut sender = H264Payloader::new();
     assert_eq!(sent(&mut sender, 9, &frame[..10]), Vec::<Vec<u8>>::new());
-    assert_eq!((sender.sps_nalu(), sender.pps_nalu()), (&b"\x67\xAA"[..], &b"\x68\xBB"[..]));
+    let pair = (&b"\x67\xAA"[..], &b"\x68\xBB"[..]);
+    assert_eq!((sender.sps_nalu(), sender.pps_nalu()), pair);
+    let refused = sender.payload(9, &frame[10..], &mut [], &mut []).map(|sent| sent.len());
+    assert_eq!(refused, Err(Error::ErrBufferTooSmall));
+    assert_eq!((sender.sps_nalu(), sender.pps_nalu()), pair);
     assert_eq!(
         sent(&mut sender, 9, &frame[10..]),
         [&b"\x78\x00\x02\x67\xAA\x00\x02\x68\xBB"[..], b"\x65\x01\x02"]

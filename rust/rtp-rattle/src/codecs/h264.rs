@@ -8,7 +8,14 @@ use crate::sys;
 
 /// Cuts frames into payloads. A parameter set waits in it until a unit is sent behind the pair.
 #[derive(Clone)]
-pub struct H264Payloader(sys::H264Payloader);
+pub struct H264Payloader {
+    /// how many bytes in front of each buffer are a set that waits, 0 to 1,024
+    lens: sys::LentPayloader,
+    /// of the sequence parameter set: lent to each call, so that none copies it
+    sps: [u8; 1024],
+    /// of the picture parameter set, likewise
+    pps: [u8; 1024],
+}
 
 impl Default for H264Payloader {
     fn default() -> Self {
@@ -28,18 +35,21 @@ impl fmt::Debug for H264Payloader {
 impl H264Payloader {
     /// A sender with nothing saved.
     pub fn new() -> Self {
-        // SAFETY: the call takes nothing.
-        H264Payloader(unsafe { sys::rtp_h264_payloader_new() })
+        H264Payloader {
+            lens: sys::LentPayloader { sps_len: 0, pps_len: 0 },
+            sps: [0; 1024],
+            pps: [0; 1024],
+        }
     }
 
     /// The sequence parameter set that waits, or nothing.
     pub fn sps_nalu(&self) -> &[u8] {
-        &self.0.sps.bytes[..self.0.sps.len]
+        &self.sps[..self.lens.sps_len]
     }
 
     /// The picture parameter set that waits, or nothing.
     pub fn pps_nalu(&self) -> &[u8] {
-        &self.0.pps.bytes[..self.0.pps.len]
+        &self.pps[..self.lens.pps_len]
     }
 
     /// The payloads of a frame, each of at most `mtu` bytes. They are written one behind the other to `out`, and their ends to `ends`.
@@ -51,10 +61,12 @@ impl H264Payloader {
         out: &'a mut [u8],
         ends: &'a mut [usize],
     ) -> Result<Sent<'a>> {
-        // SAFETY: the slices are lent for the call, and those that are written overlap nothing.
+        // SAFETY: the slices and the sets' buffers are lent for the call, and those that are written overlap nothing.
         let sent = unsafe {
-            sys::rtp_h264_payload(
-                self.0,
+            sys::rtp_h264_lent_payload(
+                self.lens,
+                &mut self.sps,
+                &mut self.pps,
                 mtu,
                 frame.as_ptr(),
                 frame.len(),
@@ -65,7 +77,7 @@ impl H264Payloader {
             )
         };
         sent.refused.check()?;
-        self.0 = sent.sender;
+        self.lens = sent.sender;
         Ok(Sent {
             payloads: Payloads::new(&out[..sent.bytes], &ends[..sent.packets]),
             units_dropped: sent.units_dropped,
