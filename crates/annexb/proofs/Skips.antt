@@ -71,8 +71,8 @@ short (b ∷ s) at z h =
     ap (λ (t : Bool). cond t (At (at - z) (z + 1)) rest) (few-zeros b z (lt-leb 2 z (omega arith)))
     ∙ short s (at + 1) (zerosBy (eqb b 0) z) (omega (arith, zeros-up (eqb b 0) z))
 
-pub few-left : (frame : List ℕ) (i : ℕ) → i ≤ length frame → length frame - i < 3 → ahead frame i 0 ≡ Nothing
-few-left frame i h few = short (drop i frame) i 0 (omega (arith, length-drop i frame))
+pub few-left : (frame : List ℕ) (i : ℕ) → length frame < i + 3 → ahead frame i 0 ≡ Nothing
+few-left frame i few = short (drop i frame) i 0 (omega (arith, length-drop i frame))
 
 -- how many zeros stand in a row up to the byte at i, where z stood before it
 abbrev upTo : List ℕ → ℕ → ℕ → ℕ

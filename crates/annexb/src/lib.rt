@@ -145,15 +145,17 @@ fn first_zero(frame: &[u8], i: usize) -> usize
 }
 
 // The first start code from start on. In each turn no zero before i counts: so none ends before the byte two ahead, which says how to go on.
+// Behind last, beyond the frame's end too, there is no such byte.
 fn find_code(frame: &[u8], start: usize) -> Code
     ensures { λ r. ⌜ r ≡ codeOf (nextCode (now (frame .entry)) start) ⌝ }
 {
-    if frame.len() < start {
+    if frame.len() < 3 {
         return Code { at: 0, len: 0 };
     }
+    let last = frame.len() - 3;
     let mut i = start;
     loop {
-        if frame.len() - i < 3 {
+        if last < i {
             break Code { at: 0, len: 0 };
         }
         let b = frame[i + 2];

@@ -2,7 +2,7 @@
 use mathlib.Core.Path.{_≡_, refl, sym, ap, _∙_}
 use mathlib.Core.Bool.{false}
 use mathlib.Core.Logic.{⊎-elim}
-use Prim.Native.Nat.{_+_, _-_, _≤_}
+use Prim.Native.Nat.{_+_, _-_}
 use native.Mathlib.Omega.{arith}
 use lib.ListN.{length, getD}
 use borrow.Author.Needs.{needs}
@@ -16,43 +16,39 @@ use Rattle.annexb.proofs.find_code.Statement.{statement}
 use Rattle.annexb.proofs.find_code.Tie as tie
 
 abbrev Inv-loop : tie.InvT-loop
-Inv-loop frame start i₀ i = (i ≤ length frame) × (ahead frame i 0 ≡ nextCode frame start)
+Inv-loop frame start last i₀ i = ahead frame i 0 ≡ nextCode frame start
 
 abbrev μ-loop : tie.MeasureT-loop
-μ-loop frame start i₀ i = length frame - i
+μ-loop frame start last i₀ i = length frame - i
 
--- beyond the frame's end
+-- fewer than three bytes
 returns : tie.Need-returns Inv-loop μ-loop
 unfolding nextCode
-returns c = sym (ap codeOf (scan-end (c .before .before .args .frame .now) (c .before .before .args .start) 0 (omega arith)))
+returns c = sym (ap codeOf (few-left (c .before .before .args .frame .now) (c .before .before .args .start) (omega arith)))
 
 loop-holds : tie.Need-loop-holds Inv-loop μ-loop
 unfolding nextCode
-loop-holds c = (search needs, refl)
+loop-holds c = refl
 
 -- no 0 and no 1 two ahead
 loop-again : tie.Need-loop-again Inv-loop μ-loop
 loop-again c =
     let head = c .before .before .before .before in
     let frame = head .before .before .before .args .frame .now in
-    let i = head .loop .i in (
-      search needs,
-      sym (past-three frame i (omega arith) (λ q. omega arith) (λ p q r. omega arith)
-          ∙ past-others frame (i + 3) (c .past-others .result) (c .past-others .ensures))
-          ∙ head .loop .inv .1,
-    )
+    let i = head .loop .i in
+    sym (past-three frame i (omega arith) (λ q. omega arith) (λ p q r. omega arith)
+    ∙ past-others frame (i + 3) (c .past-others .result) (c .past-others .ensures))
+    ∙ head .loop .inv
 
 -- a 1 two ahead, and not two zeros before it
 loop-again-2 : tie.Need-loop-again-2 Inv-loop μ-loop
 loop-again-2 c =
     let head = c .before .before .before .before .before .before in
     let frame = head .before .before .before .args .frame .now in
-    let i = head .loop .i in (
-      search needs,
-      sym (past-three frame i (omega arith) (λ q. omega arith)
-          (λ p q r. ⊎-elim (λ w. eqb-false (getD frame (i + 1) 0) 0 (w .2 .left) q) (λ w. w .left p) (c .if5 .came)))
-          ∙ head .loop .inv .1,
-    )
+    let i = head .loop .i in
+    sym (past-three frame i (omega arith) (λ q. omega arith)
+    (λ p q r. ⊎-elim (λ w. eqb-false (getD frame (i + 1) 0) 0 (w .2 .left) q) (λ w. w .left p) (c .if5 .came)))
+    ∙ head .loop .inv
 
 -- a 0 two ahead: the zeros before and behind it are one run
 zeros : (c : tie.After-past-zeros Inv-loop μ-loop) →
@@ -68,7 +64,7 @@ from-first c =
     let head = c .before .before .before .before .before .before in
     let found = c .before .first-zero in
     sym (to-zeros (head .before .before .before .args .frame .now) (head .loop .i) (omega arith) (found .result) (found .ensures))
-    ∙ head .loop .inv .1
+    ∙ head .loop .inv
 
 -- behind them no 1, or fewer than two of them
 loop-again-3 : tie.Need-loop-again-3 Inv-loop μ-loop
@@ -79,16 +75,14 @@ loop-again-3 c =
     let end = at-end .past-zeros .result in
     let b = getD frame end 0 in
     let none : endsCode b (end - first) ≡ false =
-    ⊎-elim (λ w. few-zeros b (end - first) (w .1 .left)) (λ w. no-one b (end - first) (w .left)) (c .if8 .came) in (
-      search needs,
-      sym (no-code frame first end (zeros at-end) (omega arith) (at-end .past-zeros .ensures .stop (omega arith)) none) ∙ from-first at-end,
-    )
+    ⊎-elim (λ w. few-zeros b (end - first) (w .1 .left)) (λ w. no-one b (end - first) (w .left)) (c .if8 .came) in
+    sym (no-code frame first end (zeros at-end) (omega arith) (at-end .past-zeros .ensures .stop (omega arith)) none) ∙ from-first at-end
 
 -- fewer than three bytes left
 returns-2 : tie.Need-returns-2 Inv-loop μ-loop
 returns-2 c =
     let head = c .before in
-    ap codeOf (sym (few-left (head .before .before .before .args .frame .now) (head .loop .i) (omega arith) (omega arith)) ∙ head .loop .inv .1)
+    ap codeOf (sym (few-left (head .before .before .before .args .frame .now) (head .loop .i) (omega arith)) ∙ head .loop .inv)
 
 -- two zeros and a 1
 returns-3 : tie.Need-returns-3 Inv-loop μ-loop
@@ -100,7 +94,7 @@ returns-3 c =
     (run-on {b = i + 1} (run-one (omega arith) (omega arith) (c .before .before .if5 .taken))
     (run-one (omega arith) (omega arith) (eqb-true (getD frame (i + 1) 0) 0 (c .if6 .taken))))
     (omega arith) (c .before .before .before .before .if4 .taken) (le-leb 2 (i + 2 - i) (omega arith))
-    ∙ ap codeOf (head .loop .inv .1)
+    ∙ ap codeOf (head .loop .inv)
 
 -- zeros to the frame's end
 returns-4 : tie.Need-returns-4 Inv-loop μ-loop
@@ -127,8 +121,8 @@ find-code-spec =
     Inv-loop
     μ-loop
     returns
-    loop-holds
     (λ c. search needs)
+    loop-holds
     (λ c. search needs)
     (λ c. search needs)
     (λ c. search needs)
