@@ -20,7 +20,7 @@ use Rattle.h264_put.specs.Outcomes.{outcomesOf, dropsIn}
 use Rattle.h264_put.specs.Step.{emptySink, tooLong, overLimit}
 use Rattle.h264.specs.Payload.{outsideBy, tooSmall, Counts, said, LeftIn, leftWith, refusedWith, sentAs, leftBy, callOf, sendingOf}
 use Rattle.h264.specs.Step.{stateBy}
-use Rattle.h264_measure.specs.Measured.{Lengths, measured, measuredAll, nothingYet}
+use Rattle.h264_measure.specs.Measured.{measured, measuredAll, nothingYet}
 use Rattle.wire.proofs.Bools.{or-false-left, or-false-right}
 use Rattle.h264_put.proofs.Sizes.{packets-append}
 
@@ -113,50 +113,52 @@ module _ (v : Saved) (mtu : ℕ) (frame out ends : List ℕ) where
       finished [] (ap (λ (b : Bool). cond b [] (units frame)) e) refl (record { bytes = omega arith; places = omega arith }) v (emptySink out ends)
       (record { units = 0; pairs = 0 }) refl refl refl
 
-  module _ (some : noUnits mtu (length frame) ≡ false) (n k : ℕ) (lengths : Lengths v n k) (m : Measure)
-      (e : (x : Saved) → Lengths x n k → m ≡ measuredAll (nothingYet n k) mtu x (units frame))
-    where
-      units-are : unitsAt mtu frame ≡ units frame
-      unfolding unitsAt
-      units-are = ap (λ (x : Bool). cond x [] (units frame)) some
+-- a frame some unit of which counts, and its measure
+pub record Judged (v : Saved) (mtu : ℕ) (frame : List ℕ) (m : Measure) : Type 0 where
+  pub some : noUnits mtu (length frame) ≡ false
+  pub sps : ℕ
+  pub pps : ℕ
+  pub measure : m ≡ measuredAll (nothingYet sps pps) mtu v (units frame)
 
-      m-is : m ≡ measuredAll (nothingYet n k) mtu v (units frame)
-      m-is = e v lengths
+module _ {v : Saved} {mtu : ℕ} {frame : List ℕ} {m : Measure} (j : Judged v mtu frame m) (out ends : List ℕ) where
+  units-are : unitsAt mtu frame ≡ units frame
+  unfolding unitsAt
+  units-are = ap (λ (x : Bool). cond x [] (units frame)) (j .some)
 
-      long-is : m .long ≡ overLimit (units frame)
-      long-is = ap (λ (x : Measure). x .long) m-is ∙ all-long mtu (nothingYet n k) v (units frame)
+  long-is : m .long ≡ overLimit (units frame)
+  long-is = ap (λ (x : Measure). x .long) (j .measure) ∙ all-long mtu (nothingYet (j .sps) (j .pps)) v (units frame)
 
-      bytes-are : m .bytes ≡ length (joined (packetsOf (groupsOf mtu v (units frame))))
-      bytes-are = ap (λ (x : Measure). x .bytes) m-is ∙ all-bytes mtu (nothingYet n k) v (units frame) ∙ zero-add _
+  bytes-are : m .bytes ≡ length (joined (packetsOf (groupsOf mtu v (units frame))))
+  bytes-are = ap (λ (x : Measure). x .bytes) (j .measure) ∙ all-bytes mtu (nothingYet (j .sps) (j .pps)) v (units frame) ∙ zero-add _
 
-      packets-are : m .packets ≡ length (packetsOf (groupsOf mtu v (units frame)))
-      packets-are = ap (λ (x : Measure). x .packets) m-is ∙ all-packets mtu (nothingYet n k) v (units frame) ∙ zero-add _
+  packets-are : m .packets ≡ length (packetsOf (groupsOf mtu v (units frame)))
+  packets-are = ap (λ (x : Measure). x .packets) (j .measure) ∙ all-packets mtu (nothingYet (j .sps) (j .pps)) v (units frame) ∙ zero-add _
 
-      small-is : (ltb (length out) (m .bytes) || ltb (length ends) (m .packets)) ≡ small (units frame)
-      unfolding small
-      small-is = ap₂ (λ (x y : ℕ). ltb (length out) x || ltb (length ends) y) bytes-are packets-are
+  small-is : (ltb (length out) (m .bytes) || ltb (length ends) (m .packets)) ≡ small v mtu frame out ends (units frame)
+  unfolding small
+  small-is = ap₂ (λ (x y : ℕ). ltb (length out) x || ltb (length ends) y) bytes-are packets-are
 
-      pub call-long : m .long ≡ true → refusedWith 7 v out ends ≡ sendingOf false v mtu frame out ends
-      call-long q = by-tests (units frame) true (small (units frame)) units-are (sym long-is ∙ q) refl
+  pub call-long : m .long ≡ true → refusedWith 7 v out ends ≡ sendingOf false v mtu frame out ends
+  call-long q = by-tests v mtu frame out ends (units frame) true (small v mtu frame out ends (units frame)) units-are (sym long-is ∙ q) refl
 
-      module _ (short : m .long ≡ false) where
-        pub call-small : (ltb (length out) (m .bytes) || ltb (length ends) (m .packets)) ≡ true → refusedWith 5 v out ends ≡ sendingOf false v mtu frame out ends
-        call-small q = by-tests (units frame) false true units-are (sym long-is ∙ short) (sym small-is ∙ q)
+  module _ (short : m .long ≡ false) where
+    pub call-small : (ltb (length out) (m .bytes) || ltb (length ends) (m .packets)) ≡ true → refusedWith 5 v out ends ≡ sendingOf false v mtu frame out ends
+    call-small q = by-tests v mtu frame out ends (units frame) false true units-are (sym long-is ∙ short) (sym small-is ∙ q)
 
-        pub call-limit : overLimit (units frame) ≡ false
-        call-limit = sym long-is ∙ short
+    pub call-limit : overLimit (units frame) ≡ false
+    call-limit = sym long-is ∙ short
 
-        module _ (fits : (ltb (length out) (m .bytes) || ltb (length ends) (m .packets)) ≡ false) where
-          pub call-room : Room (emptySink out ends) (packetsOf (groupsOf mtu v (units frame)))
-          call-room =
-              let x : m .bytes ≤ length out = ltb-false (length out) (m .bytes) (or-false-left (ltb (length out) (m .bytes)) _ fits) in
-              let y : m .packets ≤ length ends = ltb-false (length ends) (m .packets) (or-false-right (ltb (length out) (m .bytes)) _ fits) in
-              record { bytes = omega (arith, bytes-are); places = omega (arith, packets-are) }
+    module _ (fits : (ltb (length out) (m .bytes) || ltb (length ends) (m .packets)) ≡ false) where
+      pub call-room : Room (emptySink out ends) (packetsOf (groupsOf mtu v (units frame)))
+      call-room =
+          let x : m .bytes ≤ length out = ltb-false (length out) (m .bytes) (or-false-left (ltb (length out) (m .bytes)) _ fits) in
+          let y : m .packets ≤ length ends = ltb-false (length ends) (m .packets) (or-false-right (ltb (length out) (m .bytes)) _ fits) in
+          record { bytes = omega (arith, bytes-are); places = omega (arith, packets-are) }
 
-          pub call-sent : (v′ : Saved) (s : Sink) (d : Drops) → v′ ≡ keepAll v (units frame) →
-              s ≡ putAll (emptySink out ends) (packetsOf (groupsOf mtu v (units frame))) → d ≡ dropsIn (outcomesOf mtu v (units frame)) →
-              leftAt v′ s d ≡ sendingOf false v mtu frame out ends
-          call-sent v′ s d state put counts = finished (units frame) units-are call-limit call-room v′ s d state put counts
+      pub call-sent : (v′ : Saved) (s : Sink) (d : Drops) → v′ ≡ keepAll v (units frame) →
+          s ≡ putAll (emptySink out ends) (packetsOf (groupsOf mtu v (units frame))) → d ≡ dropsIn (outcomesOf mtu v (units frame)) →
+          leftAt v′ s d ≡ sendingOf false v mtu frame out ends
+      call-sent v′ s d state put counts = finished v mtu frame out ends (units frame) units-are call-limit call-room v′ s d state put counts
 
 -- ---- the domain, and the state
 

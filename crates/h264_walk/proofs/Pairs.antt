@@ -30,7 +30,7 @@ nothing-waits sps pps frame =
       of-pps = record { short = omega arith; within = omega arith };
     }
 
-module _ (sps pps frame : List ℕ) (w : Waiting) (t : Waits sps pps frame w) where
+module _ {sps pps frame : List ℕ} {w : Waiting} (t : Waits sps pps frame w) where
   pub sps-length : length (savedAt sps pps frame w .sps) ≡ w .sps .len
   sps-length = lying-length sps frame (w .sps) (t .of-sps)
 

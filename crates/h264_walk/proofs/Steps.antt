@@ -21,7 +21,12 @@ use Rattle.h264_walk.specs.Waiting.{bytesOf, savedAt, Lying, Waits}
 use Rattle.h264_walk.specs.Step.{unitIn, Ready, Done}
 use Rattle.h264_walk.proofs.Bytes.{lies-here}
 
-module _ (sps pps frame : List ℕ) (w : Waiting) (start end mtu : ℕ) (s : Sink) (r : Ready sps pps frame w start end mtu s) where
+-- what `emit` is to leave: the sets that wait in w′, and the sink s′
+abbrev Emits : (sps pps frame : List ℕ) (w : Waiting) (start end mtu : ℕ) (s : Sink) (w′ : Waiting) (s′ : Sink) → Type 0
+Emits sps pps frame w start end mtu s w′ s′ =
+    Done sps pps frame (keep (savedAt sps pps frame w) (unitIn frame start end)) (groupsFor mtu (savedAt sps pps frame w) (unitIn frame start end)) s w′ s′
+
+module _ {sps pps frame : List ℕ} {w : Waiting} {start end mtu : ℕ} {s : Sink} (r : Ready sps pps frame w start end mtu s) where
   u : List ℕ
   u = unitIn frame start end
 
@@ -30,7 +35,7 @@ module _ (sps pps frame : List ℕ) (w : Waiting) (start end mtu : ℕ) (s : Sin
 
   done-by : (k : Fate) → fateOf u ≡ k → (w′ : Waiting) (s′ : Sink) → Waits sps pps frame w′ → savedAt sps pps frame w′ ≡ keepBy k v u →
       s′ ≡ putAll s (packetsOf (groupsBy k mtu v u)) →
-      Done sps pps frame (keep (savedAt sps pps frame w) (unitIn frame start end)) (groupsFor mtu (savedAt sps pps frame w) (unitIn frame start end)) s w′ s′
+      Emits sps pps frame w start end mtu s w′ s′
   unfolding u v keep groupsFor
   done-by k e w′ s′ waits kept put =
       record {
@@ -47,18 +52,18 @@ module _ (sps pps frame : List ℕ) (w : Waiting) (start end mtu : ℕ) (s : Sin
 
   module _ (w′ : Waiting) (s′ : Sink) (b : s′ ≡ s) where
     done-still : (k : Fate) → fateOf u ≡ k → w′ ≡ w → v ≡ keepBy k v u → s ≡ putAll s (packetsOf (groupsBy k mtu v u)) →
-        Done sps pps frame (keep (savedAt sps pps frame w) (unitIn frame start end)) (groupsFor mtu (savedAt sps pps frame w) (unitIn frame start end)) s w′ s′
+        Emits sps pps frame w start end mtu s w′ s′
     unfolding v
     done-still k e a kept put =
         done-by k e w′ s′ (subst (Waits sps pps frame) (sym a) (r .waits)) (ap (savedAt sps pps frame) a ∙ kept) (b ∙ put)
 
     pub done-empty : fateOf (unitIn frame start end) ≡ Empty → w′ ≡ w →
-        Done sps pps frame (keep (savedAt sps pps frame w) (unitIn frame start end)) (groupsFor mtu (savedAt sps pps frame w) (unitIn frame start end)) s w′ s′
+        Emits sps pps frame w start end mtu s w′ s′
     unfolding u
     done-empty e a = done-still Empty e a refl refl
 
     pub done-dropped : fateOf (unitIn frame start end) ≡ Dropped → w′ ≡ w →
-        Done sps pps frame (keep (savedAt sps pps frame w) (unitIn frame start end)) (groupsFor mtu (savedAt sps pps frame w) (unitIn frame start end)) s w′ s′
+        Emits sps pps frame w start end mtu s w′ s′
     unfolding u
     done-dropped e a = done-still Dropped e a refl refl
 
@@ -76,7 +81,7 @@ module _ (sps pps frame : List ℕ) (w : Waiting) (start end mtu : ℕ) (s : Sin
     lies k e q held l a = lies-here held frame start end (r .from) (r .within) (short-by k e q) l a
 
     pub done-sps : fateOf (unitIn frame start end) ≡ Sps → (l : Lies) → l ≡ record { from = start + 1; len = end - start } → w′ ≡ record { sps = l; pps = w .pps } →
-        Done sps pps frame (keep (savedAt sps pps frame w) (unitIn frame start end)) (groupsFor mtu (savedAt sps pps frame w) (unitIn frame start end)) s w′ s′
+        Emits sps pps frame w start end mtu s w′ s′
     unfolding u v
     done-sps e l a q =
         let x = lies Sps e refl sps l a in
@@ -84,7 +89,7 @@ module _ (sps pps frame : List ℕ) (w : Waiting) (start end mtu : ℕ) (s : Sin
         (ap (savedAt sps pps frame) q ∙ ap (λ (y : List ℕ). record { sps = y; pps = bytesOf pps frame (w .pps) }) (x .1)) b
 
     pub done-pps : fateOf (unitIn frame start end) ≡ Pps → (l : Lies) → l ≡ record { from = start + 1; len = end - start } → w′ ≡ record { sps = w .sps; pps = l } →
-        Done sps pps frame (keep (savedAt sps pps frame w) (unitIn frame start end)) (groupsFor mtu (savedAt sps pps frame w) (unitIn frame start end)) s w′ s′
+        Emits sps pps frame w start end mtu s w′ s′
     unfolding u v
     done-pps e l a q =
         let x = lies Pps e refl pps l a in
@@ -113,7 +118,7 @@ module _ (sps pps frame : List ℕ) (w : Waiting) (start end mtu : ℕ) (s : Sin
     pub done-coded : (s′ s″ : Sink) (w′ : Waiting) → s′ ≡ putAll s (packetsOf (pairFor mtu (savedAt sps pps frame w))) →
         s″ ≡ putAll s′ (packetsOf (unitFor mtu (unitIn frame start end))) →
         Waits sps pps frame w′ × (savedAt sps pps frame w′ ≡ forgotten (savedAt sps pps frame w)) →
-        Done sps pps frame (keep (savedAt sps pps frame w) (unitIn frame start end)) (groupsFor mtu (savedAt sps pps frame w) (unitIn frame start end)) s w′ s″
+        Emits sps pps frame w start end mtu s w′ s″
     unfolding u v
     done-coded s′ s″ w′ p q k =
         done-by Coded e w′ s″ (k .0) (k .1)

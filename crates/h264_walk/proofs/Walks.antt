@@ -43,7 +43,7 @@ leads-first mtu ps us e v s limit room =
     (record { limit = limit; room = room; state = refl; same = refl; counts = none-first (dropsIn (outcomesOf mtu v us)) })
 
 module _
-    (mtu : ℕ) (kept : Saved) (goal : Sink) (total : Drops) (u : List ℕ) (us : List (List ℕ)) (v : Saved) (s : Sink) (d : Drops)
+    {mtu : ℕ} {kept : Saved} {goal : Sink} {total : Drops} {u : List ℕ} {us : List (List ℕ)} {v : Saved} {s : Sink} {d : Drops}
     (g : Leads mtu kept goal total (u ∷ us) v s d)
   where
     room-all : Room s (packetsOf (groupsFor mtu v u) ++ packetsOf (groupsOf mtu (keep v u) us))
@@ -77,8 +77,8 @@ module _
 -- ---- the same, piece by piece of a frame
 
 module _
-    (mtu : ℕ) (kept : Saved) (goal : Sink) (total : Drops) (sps pps frame : List ℕ) (start : ℕ) (w : Waiting) (s : Sink) (d : Drops)
-    (g : Leads mtu kept goal total (pieces (drop start frame)) (savedAt sps pps frame w) s d) (p : Piece) (q : Pieced frame start p)
+    {mtu : ℕ} {kept : Saved} {goal : Sink} {total : Drops} (sps pps frame : List ℕ) (start : ℕ) (w : Waiting) {s : Sink} {d : Drops}
+    (g : Leads mtu kept goal total (pieces (drop start frame)) (savedAt sps pps frame w) s d) {p : Piece} (q : Pieced frame start p)
   where
     at-unit : Leads mtu kept goal total (unitIn frame start (p .end) ∷ cond (p .more) (pieces (drop (p .next) frame)) []) (savedAt sps pps frame w) s d
     at-unit = subst (λ (us : List (List ℕ)). Leads mtu kept goal total us (savedAt sps pps frame w) s d) (q .same) g
@@ -90,8 +90,8 @@ module _
           from = q .from;
           within = omega (arith, q .to, q .within);
           few = few;
-          short = leads-short mtu kept goal total _ _ (savedAt sps pps frame w) s d at-unit;
-          room = leads-room mtu kept goal total _ _ (savedAt sps pps frame w) s d at-unit;
+          short = leads-short at-unit;
+          room = leads-room at-unit;
         }
 
     module _
@@ -106,7 +106,7 @@ module _
             subst (λ (x : Saved). Leads mtu kept goal total (cond more (pieces (drop (p .next) frame)) []) x s′ d′) (sym (done .state))
             (subst₂ (λ (x : Bool) (y : Drops). Leads mtu kept goal total (cond x (pieces (drop (p .next) frame)) []) (keep (savedAt sps pps frame w) (unitIn frame start (p .end))) s′ y) e
             (sym more-counted)
-            (leads-on mtu kept goal total _ _ (savedAt sps pps frame w) s d at-unit s′ o (done .put) told))
+            (leads-on at-unit s′ o (done .put) told))
 
         pub walk-on : p .more ≡ true → Leads mtu kept goal total (pieces (drop (p .next) frame)) (savedAt sps pps frame w′) s′ d′
         walk-on e = behind true e

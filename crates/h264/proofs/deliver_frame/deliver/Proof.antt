@@ -18,151 +18,167 @@ use Rattle.h264.specs.declared.send.Payloads.{Payloads}
 use Rattle.h264.specs.declared.send.Payloads.the-variants.{Written, Refused}
 use Rattle.h264.specs.Payload.{heldIn, outsideBy, said, leftWith, sendingOf}
 use Rattle.h264.specs.Step.{stateBy, NoneBeside}
-use Rattle.h264.proofs.State.{before}
-use Rattle.h264.proofs.Calls.{inside-sps, inside-pps, inside-mtu, inside-frame, call-outside, call-by, call-nothing, call-long, call-small, call-limit, call-room, call-sent}
+use Rattle.h264.proofs.State.{Before, before}
+use Rattle.h264.proofs.Calls.{Judged, inside-sps, inside-pps, inside-mtu, inside-frame, call-outside, call-by, call-nothing, call-long, call-small, call-limit, call-room, call-sent}
 use borrow.Author.Needs.{needs}
 use Rattle.h264.proofs.deliver_frame.deliver.Statement.{statement}
 use Rattle.h264.proofs.deliver_frame.deliver.Tie as tie
 
--- what `deliver` is to leave, of a result d
-abbrev Delivers : (sps pps frame out ends : List ℕ) → (o : Bool) → Saved → ℕ → Delivered → (out′ ends′ : List ℕ) → Type 0
-Delivers sps pps frame out ends o v mtu d out′ ends′ =
-    Waits sps pps frame (d .waiting)
+-- ---- what is to be shown, of a call with these arguments
+
+-- what is saved before, and whether the call is outside the domain
+held : tie.Start → Saved
+held start = let a = start .args in heldIn (a .sps .now) (a .sps-len) (a .pps .now) (a .pps-len)
+
+isOutside : tie.Start → Bool
+isOutside start = let a = start .args in outsideBy (a .sps-len) (a .pps-len) (a .mtu) (a .frame .now)
+
+-- d and the buffers are what the contract says
+abbrev Delivers : tie.Start → Delivered → (out ends : List ℕ) → Type 0
+Delivers start d out ends =
+    let a = start .args in
+    Waits (a .sps .now) (a .pps .now) (a .frame .now) (d .waiting)
     × (NoneBeside (said (d .answer)) (d .waiting)
-    × (leftWith (stateBy (said (d .answer)) v (savedAt sps pps frame (d .waiting))) (d .answer) out′ ends′ ≡ sendingOf o v mtu frame out ends))
+    × (leftWith (stateBy (said (d .answer)) (heldIn (a .sps .now) (a .sps-len) (a .pps .now) (a .pps-len)) (savedAt (a .sps .now) (a .pps .now) (a .frame .now) (d .waiting)))
+    (d .answer) out ends
+    ≡ sendingOf (outsideBy (a .sps-len) (a .pps-len) (a .mtu) (a .frame .now)) (heldIn (a .sps .now) (a .sps-len) (a .pps .now) (a .pps-len)) (a .mtu) (a .frame .now)
+    (a .out .now) (a .ends .now)))
 
 -- a refusal: no set is to be put back
-refusing : (sps pps frame out ends : List ℕ) (o : Bool) (v : Saved) (mtu : ℕ) (d : Delivered) (e : Error) → d ≡ record { waiting = nothingWaits; answer = Refused e } →
-    leftWith v (Refused e) out ends ≡ sendingOf o v mtu frame out ends → Delivers sps pps frame out ends o v mtu d out ends
-refusing sps pps frame out ends o v mtu d e is q =
-    subst (λ (x : Delivered). Delivers sps pps frame out ends o v mtu x out ends) (sym is) (nothing-waits sps pps frame, (refl, q))
-
-returns : tie.Need-returns
-returns c =
-    let test = c .before in
-    let a = test .before .before .before .before .before .before .before .args in
-    let v = heldIn (a .sps .now) (a .sps-len) (a .pps .now) (a .pps-len) in
-    refusing (a .sps .now) (a .pps .now) (a .frame .now) (a .out .now) (a .ends .now) (outsideBy (a .sps-len) (a .pps-len) (a .mtu) (a .frame .now)) v (a .mtu) (c .refused .result) OutsideDomain (c .refused .ensures)
-    (call-by (outsideBy (a .sps-len) (a .pps-len) (a .mtu) (a .frame .now)) true (sym (test .before .is-outside .ensures) ∙ test .if1 .taken) v (a .mtu) (a .frame .now) (a .out .now) (a .ends .now) _ (call-outside v (a .mtu) (a .frame .now) (a .out .now) (a .ends .now)))
+refusing : (start : tie.Start) (o : Bool) → isOutside start ≡ o → (d : Delivered) (e : Error) → d ≡ record { waiting = nothingWaits; answer = Refused e } →
+    leftWith (held start) (Refused e) (start .args .out .now) (start .args .ends .now)
+    ≡ sendingOf o (held start) (start .args .mtu) (start .args .frame .now) (start .args .out .now) (start .args .ends .now) →
+    Delivers start d (start .args .out .now) (start .args .ends .now)
+unfolding held isOutside
+refusing start o side d e is q =
+    let a = start .args in
+    subst (λ (x : Delivered). Delivers start x (a .out .now) (a .ends .now)) (sym is)
+    (nothing-waits (a .sps .now) (a .pps .now) (a .frame .now), (refl, call-by (isOutside start) o side (held start) (a .mtu) (a .frame .now) (a .out .now) (a .ends .now) _ q))
 
 -- an answer: what is saved then
-answering : (sps pps frame out ends : List ℕ) (o : Bool) → o ≡ false → (v : Saved) (mtu : ℕ) (d : Delivered) (packets bytes units pairs : ℕ) (out′ ends′ : List ℕ) →
-    d .answer ≡ Written packets bytes units pairs → Waits sps pps frame (d .waiting) →
-    leftWith (savedAt sps pps frame (d .waiting)) (Written packets bytes units pairs) out′ ends′ ≡ sendingOf false v mtu frame out ends →
-    Delivers sps pps frame out ends o v mtu d out′ ends′
-answering sps pps frame out ends o inside v mtu d packets bytes units pairs out′ ends′ e waits q =
-    let all : Delivers sps pps frame out ends o v mtu (record { waiting = d .waiting; answer = Written packets bytes units pairs }) out′ ends′ =
-    (waits, (tt, call-by o false inside v mtu frame out ends _ q)) in
-    subst (λ (x : Payloads). Delivers sps pps frame out ends o v mtu (record { waiting = d .waiting; answer = x }) out′ ends′) (sym e) all
+answering : (start : tie.Start) → isOutside start ≡ false → (d : Delivered) (packets bytes units pairs : ℕ) (out ends : List ℕ) →
+    d .answer ≡ Written packets bytes units pairs → Waits (start .args .sps .now) (start .args .pps .now) (start .args .frame .now) (d .waiting) →
+    leftWith (savedAt (start .args .sps .now) (start .args .pps .now) (start .args .frame .now) (d .waiting)) (Written packets bytes units pairs) out ends
+    ≡ sendingOf false (held start) (start .args .mtu) (start .args .frame .now) (start .args .out .now) (start .args .ends .now) →
+    Delivers start d out ends
+unfolding held isOutside
+answering start side d packets bytes units pairs out ends e waits q =
+    let a = start .args in
+    let all : Delivers start (record { waiting = d .waiting; answer = Written packets bytes units pairs }) out ends =
+    (waits, (tt, call-by (isOutside start) false side (held start) (a .mtu) (a .frame .now) (a .out .now) (a .ends .now) _ q)) in
+    subst (λ (x : Payloads). Delivers start (record { waiting = d .waiting; answer = x }) out ends) (sym e) all
+
+-- ---- what the code knows on its way
+
+inside : (c : tie.Else1) → isOutside (c .before .before .before .before .before .before .before) ≡ false
+unfolding isOutside
+inside c = sym (c .before .is-outside .ensures) ∙ c .if1 .left
+
+was : (c : tie.After-saved2) →
+    let a = c .before .before .before .before .before .before .before .before .before .args in
+    Before (a .sps .now) (a .pps .now) (a .frame .now) (a .sps-len) (a .pps-len) (record { sps = c .before .saved .result; pps = c .saved2 .result })
+unfolding isOutside
+was c =
+    let start = c .before .before .before .before .before .before .before .before .before in
+    let a = start .args in
+    let n = inside-sps (a .sps-len) (a .pps-len) (a .mtu) (a .frame .now) (inside (c .before .before)) in
+    let m = inside-pps (a .sps-len) (a .pps-len) (a .mtu) (a .frame .now) (inside (c .before .before)) in
+    before (a .sps .now) (a .pps .now) (a .frame .now) (a .sps-len) (a .pps-len) n m (le-trans n (start .pre .0)) (le-trans m (start .pre .1)) _ _
+    (c .before .saved .ensures) (c .saved2 .ensures)
+
+judged : (c : tie.After-measure-frame) → Judged (held (c .before .before .before .before .before .before .before .before .before .before .before .before .before)) (c .before .before .before .before .before .before .before .before .before .before .before .before .before .args .mtu) (c .before .before .before .before .before .before .before .before .before .before .before .before .before .args .frame .now) (c .measure-frame .result)
+unfolding held
+judged c =
+    let some = c .before .before in
+    let a = c .before .before .before .before .before .before .before .before .before .before .before .before .before .args in
+    record {
+      some = sym (some .before .is-nothing .ensures) ∙ some .if2 .left;
+      sps = a .sps-len;
+      pps = a .pps-len;
+      measure = c .measure-frame .ensures (held (c .before .before .before .before .before .before .before .before .before .before .before .before .before)) (was (some .before .before) .lengths);
+    }
+
+-- ---- the ways through the code
+
+returns : tie.Need-returns
+unfolding held isOutside
+returns c =
+    let test = c .before in
+    let start = test .before .before .before .before .before .before .before in
+    refusing start true (sym (test .before .is-outside .ensures) ∙ test .if1 .taken) (c .refused .result) OutsideDomain (c .refused .ensures)
+    (call-outside (held start) (start .args .mtu) (start .args .frame .now) (start .args .out .now) (start .args .ends .now))
 
 returns-2 : tie.Need-returns-2
+unfolding held isOutside
 returns-2 c =
     let none = c .before in
-    let within = c .before .before .before .before .before in
-    let start = within .before .before .before .before .before .before .before in
+    let start = c .before .before .before .before .before .before .before .before .before .before .before .before in
     let a = start .args in
-    let v = heldIn (a .sps .now) (a .sps-len) (a .pps .now) (a .pps-len) in
-    let inside : outsideBy (a .sps-len) (a .pps-len) (a .mtu) (a .frame .now) ≡ false = sym (within .before .is-outside .ensures) ∙ within .if1 .left in
-    let n = inside-sps (a .sps-len) (a .pps-len) (a .mtu) (a .frame .now) inside in
-    let m = inside-pps (a .sps-len) (a .pps-len) (a .mtu) (a .frame .now) inside in
-    let was = before (a .sps .now) (a .pps .now) (a .frame .now) (a .sps-len) (a .pps-len) n m (le-trans n (start .pre .0)) (le-trans m (start .pre .1)) _ _ (none .before .before .before .saved .ensures) (none .before .before .saved2 .ensures) in
-    answering (a .sps .now) (a .pps .now) (a .frame .now) (a .out .now) (a .ends .now) (outsideBy (a .sps-len) (a .pps-len) (a .mtu) (a .frame .now)) inside v (a .mtu) _ _ _ _ _ _ _ (c .written .ensures) (was .waits)
-    (ap (λ (x : Saved). leftWith x (Written 0 0 0 0) (a .out .now) (a .ends .now)) (was .saved)
-    ∙ call-nothing v (a .mtu) (a .frame .now) (a .out .now) (a .ends .now) (sym (none .before .is-nothing .ensures) ∙ none .if2 .taken))
+    let w = was (none .before .before) in
+    answering start (inside (c .before .before .before .before .before)) _ _ _ _ _ _ _ (c .written .ensures) (w .waits)
+    (ap (λ (x : Saved). leftWith x (Written 0 0 0 0) (a .out .now) (a .ends .now)) (w .saved)
+    ∙ call-nothing (held start) (a .mtu) (a .frame .now) (a .out .now) (a .ends .now) (sym (none .before .is-nothing .ensures) ∙ none .if2 .taken))
 
 measure-frame-requires : tie.Need-measure-frame-requires
+unfolding isOutside
 measure-frame-requires c κs =
-    let within = c .before .before .before .before .before in
-    let start = within .before .before .before .before .before .before .before in
-    let a = start .args in
-    let v = heldIn (a .sps .now) (a .sps-len) (a .pps .now) (a .pps-len) in
-    let inside : outsideBy (a .sps-len) (a .pps-len) (a .mtu) (a .frame .now) ≡ false = sym (within .before .is-outside .ensures) ∙ within .if1 .left in
-    let n = inside-sps (a .sps-len) (a .pps-len) (a .mtu) (a .frame .now) inside in
-    let m = inside-pps (a .sps-len) (a .pps-len) (a .mtu) (a .frame .now) inside in
-    ((inside-frame (a .sps-len) (a .pps-len) (a .mtu) (a .frame .now) inside, inside-mtu (a .sps-len) (a .pps-len) (a .mtu) (a .frame .now) inside, n, m), c .first-unit .ensures)
+    let a = c .before .before .before .before .before .before .before .before .before .before .before .before .args in
+    let i = inside (c .before .before .before .before .before) in (
+      (
+        inside-frame (a .sps-len) (a .pps-len) (a .mtu) (a .frame .now) i,
+        inside-mtu (a .sps-len) (a .pps-len) (a .mtu) (a .frame .now) i,
+        inside-sps (a .sps-len) (a .pps-len) (a .mtu) (a .frame .now) i,
+        inside-pps (a .sps-len) (a .pps-len) (a .mtu) (a .frame .now) i,
+      ),
+      c .first-unit .ensures,
+    )
 
 returns-3 : tie.Need-returns-3
+unfolding held isOutside
 returns-3 c =
-    let judged = c .before in
-    let some = judged .before .before .before in
-    let within = c .before .before .before .before .before .before .before .before in
-    let start = within .before .before .before .before .before .before .before in
-    let a = start .args in
-    let v = heldIn (a .sps .now) (a .sps-len) (a .pps .now) (a .pps-len) in
-    let inside : outsideBy (a .sps-len) (a .pps-len) (a .mtu) (a .frame .now) ≡ false = sym (within .before .is-outside .ensures) ∙ within .if1 .left in
-    let n = inside-sps (a .sps-len) (a .pps-len) (a .mtu) (a .frame .now) inside in
-    let m = inside-pps (a .sps-len) (a .pps-len) (a .mtu) (a .frame .now) inside in
-    let was = before (a .sps .now) (a .pps .now) (a .frame .now) (a .sps-len) (a .pps-len) n m (le-trans n (start .pre .0)) (le-trans m (start .pre .1)) _ _ (some .before .before .before .saved .ensures) (some .before .before .saved2 .ensures) in
-    let measured = judged .before .measure-frame in
-    refusing (a .sps .now) (a .pps .now) (a .frame .now) (a .out .now) (a .ends .now) (outsideBy (a .sps-len) (a .pps-len) (a .mtu) (a .frame .now)) v (a .mtu) (c .refused2 .result) OverLimits (c .refused2 .ensures)
-    (call-by (outsideBy (a .sps-len) (a .pps-len) (a .mtu) (a .frame .now)) false inside v (a .mtu) (a .frame .now) (a .out .now) (a .ends .now) _ (call-long v (a .mtu) (a .frame .now) (a .out .now) (a .ends .now) (sym (some .before .is-nothing .ensures) ∙ some .if2 .left) (a .sps-len) (a .pps-len) (was .lengths) (measured .result) (measured .ensures) (judged .if3 .taken)))
+    let start = c .before .before .before .before .before .before .before .before .before .before .before .before .before .before .before in
+    refusing start false (inside (c .before .before .before .before .before .before .before .before)) (c .refused2 .result) OverLimits (c .refused2 .ensures)
+    (call-long (judged (c .before .before)) (start .args .out .now) (start .args .ends .now) (c .before .if3 .taken))
 
 returns-4 : tie.Need-returns-4
+unfolding held isOutside
 returns-4 c =
     let small = c .before in
-    let judged = small .before .before in
-    let some = judged .before .before .before in
-    let within = c .before .before .before .before .before .before .before .before .before .before in
-    let start = within .before .before .before .before .before .before .before in
-    let a = start .args in
-    let v = heldIn (a .sps .now) (a .sps-len) (a .pps .now) (a .pps-len) in
-    let inside : outsideBy (a .sps-len) (a .pps-len) (a .mtu) (a .frame .now) ≡ false = sym (within .before .is-outside .ensures) ∙ within .if1 .left in
-    let n = inside-sps (a .sps-len) (a .pps-len) (a .mtu) (a .frame .now) inside in
-    let m = inside-pps (a .sps-len) (a .pps-len) (a .mtu) (a .frame .now) inside in
-    let was = before (a .sps .now) (a .pps .now) (a .frame .now) (a .sps-len) (a .pps-len) n m (le-trans n (start .pre .0)) (le-trans m (start .pre .1)) _ _ (some .before .before .before .saved .ensures) (some .before .before .saved2 .ensures) in
-    let measured = judged .before .measure-frame in
-    refusing (a .sps .now) (a .pps .now) (a .frame .now) (a .out .now) (a .ends .now) (outsideBy (a .sps-len) (a .pps-len) (a .mtu) (a .frame .now)) v (a .mtu) (c .refused3 .result) ErrBufferTooSmall (c .refused3 .ensures)
-    (call-by (outsideBy (a .sps-len) (a .pps-len) (a .mtu) (a .frame .now)) false inside v (a .mtu) (a .frame .now) (a .out .now) (a .ends .now) _ (call-small v (a .mtu) (a .frame .now) (a .out .now) (a .ends .now) (sym (some .before .is-nothing .ensures) ∙ some .if2 .left) (a .sps-len) (a .pps-len) (was .lengths) (measured .result) (measured .ensures) (judged .if3 .left)
-    (sym (small .before .is-too-small .ensures) ∙ small .if4 .taken)))
+    let start = c .before .before .before .before .before .before .before .before .before .before .before .before .before .before .before .before .before in
+    refusing start false (inside (c .before .before .before .before .before .before .before .before .before .before)) (c .refused3 .result) ErrBufferTooSmall (c .refused3 .ensures)
+    (call-small (judged (c .before .before .before .before)) (start .args .out .now) (start .args .ends .now) (c .before .before .before .if3 .left) (sym (small .before .is-too-small .ensures) ∙ small .if4 .taken))
 
 walk-requires : tie.Need-walk-requires
+unfolding held isOutside
 walk-requires c κs =
     let fits = c .before .before in
-    let judged = fits .before .before in
-    let some = judged .before .before .before in
-    let within = c .before .before .before .before .before .before .before .before .before .before .before in
-    let start = within .before .before .before .before .before .before .before in
-    let a = start .args in
-    let v = heldIn (a .sps .now) (a .sps-len) (a .pps .now) (a .pps-len) in
-    let inside : outsideBy (a .sps-len) (a .pps-len) (a .mtu) (a .frame .now) ≡ false = sym (within .before .is-outside .ensures) ∙ within .if1 .left in
-    let n = inside-sps (a .sps-len) (a .pps-len) (a .mtu) (a .frame .now) inside in
-    let m = inside-pps (a .sps-len) (a .pps-len) (a .mtu) (a .frame .now) inside in
-    let was = before (a .sps .now) (a .pps .now) (a .frame .now) (a .sps-len) (a .pps-len) n m (le-trans n (start .pre .0)) (le-trans m (start .pre .1)) _ _ (some .before .before .before .saved .ensures) (some .before .before .saved2 .ensures) in
-    let measured = judged .before .measure-frame in (
+    let short = fits .before .before .if3 .left in
+    let j = judged (c .before .before .before .before .before) in
+    let w = was (c .before .before .before .before .before .before .before .before .before) in
+    let a = c .before .before .before .before .before .before .before .before .before .before .before .before .before .before .before .before .before .before .args in (
+      (w .waits, call-limit j (a .out .now) (a .ends .now) short, inside-frame (a .sps-len) (a .pps-len) (a .mtu) (a .frame .now) (inside (c .before .before .before .before .before .before .before .before .before .before .before))),
       (
-        was .waits,
-        call-limit v (a .mtu) (a .frame .now) (a .out .now) (a .ends .now) (sym (some .before .is-nothing .ensures) ∙ some .if2 .left) (a .sps-len) (a .pps-len) (was .lengths) (measured .result) (measured .ensures) (judged .if3 .left),
-        inside-frame (a .sps-len) (a .pps-len) (a .mtu) (a .frame .now) inside,
-      ),
-      (
-        judged .before .before .first-unit .ensures,
-        subst (λ (x : Saved). Room (emptySink (a .out .now) (a .ends .now)) (packetsOf (groupsOf (a .mtu) x (units (a .frame .now))))) (sym (was .saved))
-            (call-room v (a .mtu) (a .frame .now) (a .out .now) (a .ends .now) (sym (some .before .is-nothing .ensures) ∙ some .if2 .left) (a .sps-len) (a .pps-len) (was .lengths) (measured .result) (measured .ensures) (judged .if3 .left) (sym (fits .before .is-too-small .ensures) ∙ fits .if4 .left)),
+        c .before .before .before .before .before .before .first-unit .ensures,
+        subst (λ (x : Saved). Room (emptySink (a .out .now) (a .ends .now)) (packetsOf (groupsOf (a .mtu) x (units (a .frame .now))))) (sym (w .saved))
+            (call-room j (a .out .now) (a .ends .now) short (sym (fits .before .is-too-small .ensures) ∙ fits .if4 .left)),
       ),
     )
 
 returns-5 : tie.Need-returns-5
+unfolding held isOutside
 returns-5 c =
     let fits = c .before .before .before .before .before .before .before .before .before .before .before in
-    let judged = fits .before .before in
-    let some = judged .before .before .before in
-    let within = c .before .before .before .before .before .before .before .before .before .before .before .before .before .before .before .before .before .before .before .before in
-    let start = within .before .before .before .before .before .before .before in
+    let start = c .before .before .before .before .before .before .before .before .before .before .before .before .before .before .before .before .before .before .before .before .before .before .before .before .before .before .before in
     let a = start .args in
-    let v = heldIn (a .sps .now) (a .sps-len) (a .pps .now) (a .pps-len) in
-    let inside : outsideBy (a .sps-len) (a .pps-len) (a .mtu) (a .frame .now) ≡ false = sym (within .before .is-outside .ensures) ∙ within .if1 .left in
-    let n = inside-sps (a .sps-len) (a .pps-len) (a .mtu) (a .frame .now) inside in
-    let m = inside-pps (a .sps-len) (a .pps-len) (a .mtu) (a .frame .now) inside in
-    let was = before (a .sps .now) (a .pps .now) (a .frame .now) (a .sps-len) (a .pps-len) n m (le-trans n (start .pre .0)) (le-trans m (start .pre .1)) _ _ (some .before .before .before .saved .ensures) (some .before .before .saved2 .ensures) in
     let us = units (a .frame .now) in
-    let measured = judged .before .measure-frame in
+    let saved = was (c .before .before .before .before .before .before .before .before .before .before .before .before .before .before .before .before .before .before) .saved in
     let walked = c .before .before .before .before .before .before .before .before .walk in
-    answering (a .sps .now) (a .pps .now) (a .frame .now) (a .out .now) (a .ends .now) (outsideBy (a .sps-len) (a .pps-len) (a .mtu) (a .frame .now)) inside v (a .mtu) _ _ _ _ _ _ _ (c .written2 .ensures) (walked .ensures .0 .waits)
-    (call-sent v (a .mtu) (a .frame .now) (a .out .now) (a .ends .now) (sym (some .before .is-nothing .ensures) ∙ some .if2 .left) (a .sps-len) (a .pps-len) (was .lengths) (measured .result) (measured .ensures) (judged .if3 .left) (sym (fits .before .is-too-small .ensures) ∙ fits .if4 .left)
+    answering start (inside (c .before .before .before .before .before .before .before .before .before .before .before .before .before .before .before .before .before .before .before .before)) _ _ _ _ _ _ _ (c .written2 .ensures) (walked .ensures .0 .waits)
+    (call-sent (judged (c .before .before .before .before .before .before .before .before .before .before .before .before .before .before)) (a .out .now) (a .ends .now) (fits .before .before .if3 .left) (sym (fits .before .is-too-small .ensures) ∙ fits .if4 .left)
     _ _ (walked .result .drops)
-    (walked .ensures .0 .state ∙ ap (λ (x : Saved). keepAll x us) (was .saved))
-    (walked .ensures .0 .put ∙ ap (λ (x : Saved). putAll (emptySink (a .out .now) (a .ends .now)) (packetsOf (groupsOf (a .mtu) x us))) (was .saved))
-    (walked .ensures .1 ∙ ap (λ (x : Saved). dropsIn (outcomesOf (a .mtu) x us)) (was .saved)))
+    (walked .ensures .0 .state ∙ ap (λ (x : Saved). keepAll x us) saved)
+    (walked .ensures .0 .put ∙ ap (λ (x : Saved). putAll (emptySink (a .out .now) (a .ends .now)) (packetsOf (groupsOf (a .mtu) x us))) saved)
+    (walked .ensures .1 ∙ ap (λ (x : Saved). dropsIn (outcomesOf (a .mtu) x us)) saved))
 
 pub deliver-spec : {M : Type 1} → statement M
 deliver-spec =

@@ -14,73 +14,66 @@ put-waiting-requires : tie.Need-put-waiting-requires
 put-waiting-requires c κs =
     let arm = c .before .before in
     let start = arm .before .before .before .before .before .before .before .before .before in
-    let s = sinkAt (start .args .out .now) (start .args .ends .now) (start .args .to) in
     let e = sym (arm .before .before .fate-of .ensures) ∙ arm .enum-told5 .given .1 in
-    (start .pre .waits, room-pair (start .args .sps .now) (start .args .pps .now) (start .args .frame .now) (start .args .waiting) (start .args .start) (start .args .end) (start .args .mtu) s (start .pre) e)
+    (start .pre .waits, room-pair (start .pre) e)
 
 put-unit-requires : tie.Need-put-unit-requires
 put-unit-requires c κs =
     let arm = c .before .before .before .before .before .before .before .before .before .before in
     let start = arm .before .before .before .before .before .before .before .before .before in
-    let s = sinkAt (start .args .out .now) (start .args .ends .now) (start .args .to) in
     let e = sym (arm .before .before .fate-of .ensures) ∙ arm .enum-told5 .given .1 in
-    room-unit (start .args .sps .now) (start .args .pps .now) (start .args .frame .now) (start .args .waiting) (start .args .start) (start .args .end) (start .args .mtu) s (start .pre) e _ (c .before .before .before .before .before .before .before .put-waiting .ensures .0)
+    room-unit (start .pre) e _ (c .before .before .before .before .before .before .before .put-waiting .ensures .0)
 
 returns : tie.Need-returns
 returns c =
     let arm = c .before in
     let start = arm .before .before .before .before .before .before .before .before .before in
-    let s = sinkAt (start .args .out .now) (start .args .ends .now) (start .args .to) in
     let e = sym (arm .before .before .fate-of .ensures) ∙ arm .enum-told .given .1 in
     let left = c .unsent in (
-      done-empty (start .args .sps .now) (start .args .pps .now) (start .args .frame .now) (start .args .waiting) (start .args .start) (start .args .end) (start .args .mtu) s (start .pre) (left .result .waiting) _ (ap (sinkAt (start .args .out .now) (start .args .ends .now)) (left .ensures .1)) e (left .ensures .0),
-      told-by (start .args .sps .now) (start .args .pps .now) (start .args .frame .now) (start .args .waiting) (start .args .start) (start .args .end) (start .args .mtu) s (start .pre) Empty e (left .result .outcome) (left .ensures .2),
+      done-empty (start .pre) (left .result .waiting) _ (ap (sinkAt (start .args .out .now) (start .args .ends .now)) (left .ensures .1)) e (left .ensures .0),
+      told-by (start .pre) Empty e (left .result .outcome) (left .ensures .2),
     )
 
 returns-2 : tie.Need-returns-2
 returns-2 c =
     let arm = c .before in
     let start = arm .before .before .before .before .before .before .before .before .before in
-    let s = sinkAt (start .args .out .now) (start .args .ends .now) (start .args .to) in
     let e = sym (arm .before .before .fate-of .ensures) ∙ arm .enum-told2 .given .1 in
     let left = c .unsent2 in (
-      done-dropped (start .args .sps .now) (start .args .pps .now) (start .args .frame .now) (start .args .waiting) (start .args .start) (start .args .end) (start .args .mtu) s (start .pre) (left .result .waiting) _ (ap (sinkAt (start .args .out .now) (start .args .ends .now)) (left .ensures .1)) e (left .ensures .0),
-      told-by (start .args .sps .now) (start .args .pps .now) (start .args .frame .now) (start .args .waiting) (start .args .start) (start .args .end) (start .args .mtu) s (start .pre) Dropped e (left .result .outcome) (left .ensures .2),
+      done-dropped (start .pre) (left .result .waiting) _ (ap (sinkAt (start .args .out .now) (start .args .ends .now)) (left .ensures .1)) e (left .ensures .0),
+      told-by (start .pre) Dropped e (left .result .outcome) (left .ensures .2),
     )
 
 returns-3 : tie.Need-returns-3
 returns-3 c =
     let arm = c .before .before .before in
     let start = arm .before .before .before .before .before .before .before .before .before in
-    let s = sinkAt (start .args .out .now) (start .args .ends .now) (start .args .to) in
     let e = sym (arm .before .before .fate-of .ensures) ∙ arm .enum-told3 .given .1 in
     let left = c .unsent3 in (
-      done-sps (start .args .sps .now) (start .args .pps .now) (start .args .frame .now) (start .args .waiting) (start .args .start) (start .args .end) (start .args .mtu) s (start .pre) (left .result .waiting) _ (ap (sinkAt (start .args .out .now) (start .args .ends .now)) (left .ensures .1)) e _ (c .before .before .unit2 .ensures) (left .ensures .0 ∙ c .before .with-sps .ensures),
-      told-by (start .args .sps .now) (start .args .pps .now) (start .args .frame .now) (start .args .waiting) (start .args .start) (start .args .end) (start .args .mtu) s (start .pre) Sps e (left .result .outcome) (left .ensures .2),
+      done-sps (start .pre) (left .result .waiting) _ (ap (sinkAt (start .args .out .now) (start .args .ends .now)) (left .ensures .1)) e _ (c .before .before .unit2 .ensures) (left .ensures .0 ∙ c .before .with-sps .ensures),
+      told-by (start .pre) Sps e (left .result .outcome) (left .ensures .2),
     )
 
 returns-4 : tie.Need-returns-4
 returns-4 c =
     let arm = c .before .before .before in
     let start = arm .before .before .before .before .before .before .before .before .before in
-    let s = sinkAt (start .args .out .now) (start .args .ends .now) (start .args .to) in
     let e = sym (arm .before .before .fate-of .ensures) ∙ arm .enum-told4 .given .1 in
     let left = c .unsent4 in (
-      done-pps (start .args .sps .now) (start .args .pps .now) (start .args .frame .now) (start .args .waiting) (start .args .start) (start .args .end) (start .args .mtu) s (start .pre) (left .result .waiting) _ (ap (sinkAt (start .args .out .now) (start .args .ends .now)) (left .ensures .1)) e _ (c .before .before .unit3 .ensures) (left .ensures .0 ∙ c .before .with-pps .ensures),
-      told-by (start .args .sps .now) (start .args .pps .now) (start .args .frame .now) (start .args .waiting) (start .args .start) (start .args .end) (start .args .mtu) s (start .pre) Pps e (left .result .outcome) (left .ensures .2),
+      done-pps (start .pre) (left .result .waiting) _ (ap (sinkAt (start .args .out .now) (start .args .ends .now)) (left .ensures .1)) e _ (c .before .before .unit3 .ensures) (left .ensures .0 ∙ c .before .with-pps .ensures),
+      told-by (start .pre) Pps e (left .result .outcome) (left .ensures .2),
     )
 
 returns-5 : tie.Need-returns-5
 returns-5 c =
     let arm = c .before .before .before .before .before .before .before .before .before .before .before .before .before .before .before .before .before in
     let start = arm .before .before .before .before .before .before .before .before .before in
-    let s = sinkAt (start .args .out .now) (start .args .ends .now) (start .args .to) in
     let e = sym (arm .before .before .fate-of .ensures) ∙ arm .enum-told5 .given .1 in
     let waiting = c .before .before .before .before .before .before .before .before .before .before .before .before .before .before .put-waiting in
     let put = c .before .before .before .before .before .before .put-unit in (
-      done-coded (start .args .sps .now) (start .args .pps .now) (start .args .frame .now) (start .args .waiting) (start .args .start) (start .args .end) (start .args .mtu) s (start .pre) e _ _ (c .forget .result) (waiting .ensures .0) (put .ensures .0)
-          (forget-waits (start .args .sps .now) (start .args .pps .now) (start .args .frame .now) (start .args .waiting) (start .pre .waits) (c .forget .result) (c .forget .ensures)),
-      told-by (start .args .sps .now) (start .args .pps .now) (start .args .frame .now) (start .args .waiting) (start .args .start) (start .args .end) (start .args .mtu) s (start .pre) Coded e _
+      done-coded (start .pre) e _ _ (c .forget .result) (waiting .ensures .0) (put .ensures .0)
+          (forget-waits (start .pre .waits) (c .forget .result) (c .forget .ensures)),
+      told-by (start .pre) Coded e _
           (ap₂ (λ (u : UnitOutcome) (p : PairOutcome). record { unit = u; pair = p }) (put .ensures .1) (waiting .ensures .1)),
     )
 

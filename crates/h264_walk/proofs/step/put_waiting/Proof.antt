@@ -14,8 +14,8 @@ returns c =
     let start = none .before .before .before .before .before .before .before .before .before in
     let s = sinkAt (start .args .out .now) (start .args .ends .now) (start .args .to) in
     let e = sym (none .before .both .ensures) ∙ not-true _ (none .if1 .taken) in (
-      waiting-none (start .args .sps .now) (start .args .pps .now) (start .args .frame .now) (start .args .waiting) (start .pre .0) (start .args .mtu) s e,
-      waiting-not-due (start .args .sps .now) (start .args .pps .now) (start .args .frame .now) (start .args .waiting) (start .pre .0) (start .args .mtu) s e,
+      waiting-none (start .pre .0) (start .args .mtu) s e,
+      waiting-not-due (start .pre .0) (start .args .mtu) s e,
     )
 
 add-if2 : tie.Need-add-if2
@@ -30,8 +30,8 @@ returns-2 c =
     let start = waits .before .before .before .before .before .before .before .before .before in
     let s = sinkAt (start .args .out .now) (start .args .ends .now) (start .args .to) in
     let e = sym (waits .before .both .ensures) ∙ not-false _ (waits .if1 .left) in (
-      waiting-over (start .args .sps .now) (start .args .pps .now) (start .args .frame .now) (start .args .waiting) (start .pre .0) (start .args .mtu) s e (c .if2 .taken),
-      waiting-dropped (start .args .sps .now) (start .args .pps .now) (start .args .frame .now) (start .args .waiting) (start .pre .0) (start .args .mtu) s e (c .if2 .taken),
+      waiting-over (start .pre .0) (start .args .mtu) s e (c .if2 .taken),
+      waiting-dropped (start .pre .0) (start .args .mtu) s e (c .if2 .taken),
     )
 
 put-pair-requires : tie.Need-put-pair-requires
@@ -40,7 +40,7 @@ put-pair-requires c κs =
     let waits = fits .before .before .before in
     let start = waits .before .before .before .before .before .before .before .before .before in
     let s = sinkAt (start .args .out .now) (start .args .ends .now) (start .args .to) in
-    waiting-room (start .args .sps .now) (start .args .pps .now) (start .args .frame .now) (start .args .waiting) (start .pre .0) (start .args .mtu) s
+    waiting-room (start .pre .0) (start .args .mtu) s
     (sym (waits .before .both .ensures) ∙ not-false _ (waits .if1 .left)) (fits .if2 .left)
     _ _ (c .before .before .before .bytes .ensures) (c .before .before .bytes2 .ensures) (start .pre .1)
 
@@ -52,9 +52,9 @@ returns-3 c =
     let s = sinkAt (start .args .out .now) (start .args .ends .now) (start .args .to) in
     let e = sym (waits .before .both .ensures) ∙ not-false _ (waits .if1 .left) in (
       c .before .before .before .before .put-pair .ensures
-          ∙ waiting-sent (start .args .sps .now) (start .args .pps .now) (start .args .frame .now) (start .args .waiting) (start .pre .0) (start .args .mtu) s e (fits .if2 .left)
+          ∙ waiting-sent (start .pre .0) (start .args .mtu) s e (fits .if2 .left)
           _ _ (c .before .before .before .before .before .before .before .before .bytes .ensures) (c .before .before .before .before .before .before .before .bytes2 .ensures),
-      waiting-told (start .args .sps .now) (start .args .pps .now) (start .args .frame .now) (start .args .waiting) (start .pre .0) (start .args .mtu) s e (fits .if2 .left),
+      waiting-told (start .pre .0) (start .args .mtu) s e (fits .if2 .left),
     )
 
 pub put-waiting-spec : {M : Type 1} → statement M

@@ -48,10 +48,9 @@ emit-requires : tie.Need-emit-requires Inv-loop μ-loop
 emit-requires c κs =
     let start = c .before .before .before .before .before .before .before .before .before in
     let at-head = c .before .before .before .loop in
-    let s = sinkAt (at-head .out) (at-head .ends) (at-head .place) in
     let piece = c .before .before .unit-at in
-    piece-ready _ _ _ _ (start .args .sps .now) (start .args .pps .now) (start .args .frame .now) (at-head .start) (at-head .waits) s (at-head .drops) (at-head .inv .2)
-    (piece .result) (piece .ensures) (at-head .inv .1) (start .pre .0 .2)
+    piece-ready (start .args .sps .now) (start .args .pps .now) (start .args .frame .now) (at-head .start) (at-head .waits) (at-head .inv .2)
+    (piece .ensures) (at-head .inv .1) (start .pre .0 .2)
 
 and-requires : tie.Need-and-requires Inv-loop μ-loop
 and-requires c κs =
@@ -74,14 +73,13 @@ loop-again c =
     let start = turn .before .before .before .before .before .before .before in
     let frame = start .args .frame .now in
     let at-head = turn .before .loop in
-    let s = sinkAt (at-head .out) (at-head .ends) (at-head .place) in
     let piece = turn .unit-at in
     let sent = emitted .emit in
     let counts = c .before .before .and in
     let onward = piece-onward frame (at-head .start) (piece .result) (piece .ensures) (not-false _ (c .if1 .left)) in (
       piece .ensures .within,
       sent .ensures .0 .waits,
-      walk-on _ _ _ _ (start .args .sps .now) (start .args .pps .now) frame (at-head .start) (at-head .waits) s (at-head .drops) (at-head .inv .2) (piece .result) (piece .ensures) _ _ _ _
+      walk-on (start .args .sps .now) (start .args .pps .now) frame (at-head .start) (at-head .waits) (at-head .inv .2) (piece .ensures) _ _ _ _
           (sent .ensures .0)
           (sent .ensures .1) (counts .ensures) (not-false _ (c .if1 .left)),
       sent .kept .1 .1 .1 .1 .1 .1 .1 .0 ∙ at-head .inv .3,
@@ -115,10 +113,9 @@ returns c =
     let start = turn .before .before .before .before .before .before .before in
     let frame = start .args .frame .now in
     let at-head = turn .before .loop in
-    let s = sinkAt (at-head .out) (at-head .ends) (at-head .place) in
     let piece = turn .unit-at in
     let sent = emitted .emit in
-    let ended = walk-end _ _ _ _ (start .args .sps .now) (start .args .pps .now) frame (at-head .start) (at-head .waits) s (at-head .drops) (at-head .inv .2) (piece .result) (piece .ensures) _ _ _ _
+    let ended = walk-end (start .args .sps .now) (start .args .pps .now) frame (at-head .start) (at-head .waits) (at-head .inv .2) (piece .ensures) _ _ _ _
     (sent .ensures .0) (sent .ensures .1) (c .before .before .and .ensures) (not-true _ (c .if1 .taken)) in
     (record { waits = sent .ensures .0 .waits; state = ended .0; put = ended .1 }, ended .2)
 
