@@ -20,14 +20,14 @@ use h264_walk::Waiting;
 use h264_walk::walk;
 
 // What sending a frame leaves.
-pub struct Delivered {
+pub(crate) struct Delivered {
     // the sets that wait then, by where they lie; none beside a refusal, where all stays as it came
     pub waiting: Waiting,
     pub answer: Payloads,
 }
 
 // Sends a frame, where the first sps_len bytes of sps and the first pps_len of pps are the sets that wait.
-pub fn deliver<'a>(
+pub(crate) fn deliver<'a>(
     sps: &'a [u8],
     sps_len: usize,
     pps: &'a [u8],
@@ -137,7 +137,7 @@ fn is_too_small(m: Measure, out: usize, ends: usize) -> bool
 }
 
 // Beside a refusal a length stays what it was.
-pub fn after(answer: Payloads, new: usize, old: usize) -> usize
+pub(crate) fn after(answer: Payloads, new: usize, old: usize) -> usize
     ensures { λ r. ⌜ r ≡ stateBy (said answer) old new ⌝ }
 {
     match answer {

@@ -19,15 +19,15 @@ use h264_put::put_pair;
 use h264_put::put_unit;
 
 // What the pair that waits leaves.
-pub struct PutPair {
+struct PutPair {
     // how far output and table are written
-    pub place: Place,
+    place: Place,
     // what became of it
-    pub outcome: PairOutcome,
+    outcome: PairOutcome,
 }
 
 // What the step that sends one unit leaves.
-pub struct Emitted {
+pub(crate) struct Emitted {
     // the sets that wait then
     pub waiting: Waiting,
     // how far output and table are written
@@ -95,7 +95,7 @@ fn unsent(waiting: Waiting, place: Place, unit: UnitOutcome) -> Emitted
 }
 
 // Sends the unit of the frame from start to end: drops or saves it, or writes it behind the pair that waits.
-pub fn emit<'a>(
+pub(crate) fn emit<'a>(
     waiting: Waiting,
     sps: &'a [u8],
     pps: &'a [u8],
