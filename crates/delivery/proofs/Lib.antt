@@ -3,6 +3,7 @@ pub mod Delivering
 pub mod Accepted
 pub mod Sending
 pub mod Calls
+pub mod LentCalls
 pub mod AnySender
 pub mod Example
 pub mod ExampleStream

@@ -28,12 +28,13 @@ use Rattle.delivery.specs.Show.{Show, payloads}
 use Rattle.delivery.specs.Play.{Machine, ourJoiner, annexB, played}
 use Rattle.delivery.specs.Demand.{Delivered}
 use Rattle.delivery.specs.Frames.{Sending, showOf, SendingPremises, Delivers}
-use Rattle.delivery.specs.Calls.{Lent, NoneRefused, callsFor, LentEnough, FromTheCalls}
+use Rattle.delivery.specs.Calls.{Lent, NoneRefused, callsFor, LentEnough, FromTheCalls, lentCallsFor, written}
 use Rattle.delivery.specs.AnySender.{Stream, streamShow, Ruled, StreamPremises}
 use Rattle.delivery.specs.Wrong.{Silent, Advancing, Inventing}
 use Rattle.delivery.proofs.Delivering.{all-delivered}
 use Rattle.delivery.proofs.Accepted.{accepted-exactly}
 use Rattle.delivery.proofs.Sending.{sent-show, same-packets}
+use Rattle.delivery.proofs.LentCalls as L
 use Rattle.delivery.proofs.Calls as calls
 use Rattle.delivery.proofs.AnySender.{stream-show, lawful-ruled, stream-payloads}
 use Rattle.delivery.proofs.Example.{show, premises, lentTo, lent-enough}
@@ -49,6 +50,11 @@ demand-3 x p = all-delivered annexB (showOf x) refl (p .received) (sent-show ann
 -- wrote, over the channel, the joiner hands out what demand 3 says.
 pub FROM-THE-CALLS : (x : Sending) → SendingPremises annexB x → (lent : ℕ → Lent) → NoneRefused (callsFor x lent) → FromTheCalls annexB x lent
 FROM-THE-CALLS x p lent none = calls.from-the-calls annexB x p lent none refl
+
+-- A sender whose parameter sets lie in lent buffers, whatever stands in them, writes the same, so that from its calls on it is as from those.
+pub FROM-LENT-CALLS : (x : Sending) → SendingPremises annexB x → (lent : ℕ → Lent) (sps pps : List ℕ) → NoneRefused (lentCallsFor x lent sps pps) →
+    (written (lentCallsFor x lent sps pps) ≡ written (callsFor x lent)) × FromTheCalls annexB x lent
+FROM-LENT-CALLS x p lent sps pps none = (L.lent-written x lent sps pps, FROM-THE-CALLS x p lent (L.lent-answers x lent sps pps none))
 
 -- None of its calls is refused where each is lent room for its frame's packets, and no parameter set is over 1,024 bytes.
 pub CALLS-ANSWER : (avc : Bool) (x : Sending) → SendingPremises avc x → (lent : ℕ → Lent) → LentEnough (x .mtu) nothingSaved lent (x .frames) → NoneRefused (callsFor x lent)

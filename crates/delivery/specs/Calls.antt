@@ -15,7 +15,8 @@ use Rattle.h264.specs.declared.send.H264Payloader.{H264Payloader}
 use Rattle.annexb.specs.Units.{unitsAt}
 use Rattle.h264_put.specs.Groups.{Saved, nothingSaved, keepAll, groupsOf, packetsOf}
 use Rattle.h264_put.specs.Step.{emptySink, tooLong}
-use Rattle.h264.specs.Payload.{Counts, Left, layOut, payloadOf}
+use Rattle.h264.specs.Payload.{Counts, LeftIn, Left, layOut, payloadOf, lentOf}
+use Rattle.h264.specs.Payload as sets
 use Rattle.sequence.specs.Number.{numberOf}
 use Rattle.sequence.specs.Joiner.{bytesOf}
 use Rattle.delivery.specs.Show.{payloads, count, packet}
@@ -37,13 +38,24 @@ sending h mtu lent (frame ∷ frames) =
     payloadOf h mtu frame (lent 0 .out) (lent 0 .ends)
     ∷ sending (payloadOf h mtu frame (lent 0 .out) (lent 0 .ends) .sender) mtu (λ i. lent (suc i)) frames
 
+-- the same of a sender whose parameter sets lie in lent buffers
+abbrev pub sendingLent : sets.Lent → ℕ → (ℕ → Lent) → List (List ℕ) → List (LeftIn sets.Lent)
+sendingLent l mtu lent [] = []
+sendingLent l mtu lent (frame ∷ frames) =
+    lentOf l mtu frame (lent 0 .out) (lent 0 .ends)
+    ∷ sendingLent (lentOf l mtu frame (lent 0 .out) (lent 0 .ends) .sender) mtu (λ i. lent (suc i)) frames
+
 -- none of them is refused
-abbrev pub NoneRefused : List Left → Type 0
-NoneRefused = Each (λ (l : Left). (c : Counts) × (l .answer ≡ says c))
+abbrev pub NoneRefused : {S : Type 0} → List (LeftIn S) → Type 0
+NoneRefused {S} = Each (λ (l : LeftIn S). (c : Counts) × (l .answer ≡ says c))
 
 -- "a fresh sender"
 abbrev pub callsFor : Sending → (ℕ → Lent) → List Left
 callsFor x lent = sending (layOut nothingSaved) (x .mtu) lent (x .frames)
+
+-- the same with two buffers, whatever stands in them
+abbrev pub lentCallsFor : Sending → (ℕ → Lent) → (sps pps : List ℕ) → List (LeftIn sets.Lent)
+lentCallsFor x lent sps pps = sendingLent (record { sender = record { «sps_len» = 0; «pps_len» = 0 }; sps = sps; pps = pps }) (x .mtu) lent (x .frames)
 
 -- ---- when they answer
 
@@ -62,7 +74,7 @@ abbrev pub cutBy : Said Counts → List ℕ → List ℕ → List (List ℕ)
 cutBy (says c) out ends = cut out 0 (take (c .packets) ends)
 cutBy (refused r) out ends = []
 
-abbrev pub written : List Left → List (List ℕ)
+abbrev pub written : {S : Type 0} → List (LeftIn S) → List (List ℕ)
 written [] = []
 written (l ∷ ls) = cutBy (l .answer) (l .out) (l .ends) ++ written ls
 
