@@ -94,9 +94,10 @@ padded held s full h =
     ∙ ap (λ (t : List ℕ). (s ++ zeros) ++ t) (drop-of-length-le held {i = 0 + length (s ++ zeros)} (omega (arith, l, full)))
     ∙ append-nil (s ++ zeros)
 
-pub tail-within : (a : Said Counts) (len : ℕ) → len ≤ 1024 → tailOf a len ≤ 1024
-tail-within (says c) len h = h
-tail-within (refused r) len h = omega arith
+-- either of two places within the array is within it
+pub either-within : (a : Said Counts) (old new : ℕ) → old ≤ 1024 → new ≤ 1024 → stateBy a old new ≤ 1024
+either-within (says c) old new h k = k
+either-within (refused r) old new h k = h
 
 -- what the code makes of a buffer from which a set of n bytes was taken
 abbrev pub putBack : (held frame : List ℕ) → Lies → ℕ → Said Counts → ParameterSet

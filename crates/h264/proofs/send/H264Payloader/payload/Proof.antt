@@ -9,7 +9,7 @@ use Rattle.wire.specs.Part.{splice}
 use Rattle.h264.specs.declared.send.Payloads.{Payloads}
 use Rattle.h264.specs.Payload.{layOut, savedIn, outside, Counts, said, Left, leftWith, payloadOf}
 use Rattle.h264.specs.Step.{tailOf}
-use Rattle.h264.proofs.State.{tail-within, put-back}
+use Rattle.h264.proofs.State.{either-within, put-back}
 use Rattle.h264.proofs.Calls.{call-stated}
 use borrow.Author.Needs.{needs}
 use Rattle.h264.proofs.send.H264Payloader.payload.Statement.{statement}
@@ -31,12 +31,12 @@ store-requires-2 c κs = c .before .before .before .before .before .before .befo
 clear-from-requires : tie.Need-clear-from-requires
 clear-from-requires c κs =
     let delivered = c .before .before .before .before .before .before .before .before .before .before .before .before .before .deliver in
-    rw (c .after .ensures) (tail-within (said (delivered .result .answer)) (delivered .result .waiting .sps .len) (delivered .ensures .0 .of-sps .short))
+    rw (c .after .ensures) (either-within (said (delivered .result .answer)) _ _ (omega (arith, delivered .ensures .0 .of-sps .short)) (delivered .ensures .0 .of-sps .short))
 
 clear-from-requires-2 : tie.Need-clear-from-requires-2
 clear-from-requires-2 c κs =
     let delivered = c .before .before .before .before .before .before .before .before .before .before .before .before .before .before .before .before .deliver in
-    rw (c .after2 .ensures) (tail-within (said (delivered .result .answer)) (delivered .result .waiting .pps .len) (delivered .ensures .0 .of-pps .short))
+    rw (c .after2 .ensures) (either-within (said (delivered .result .answer)) _ _ (omega (arith, delivered .ensures .0 .of-pps .short)) (delivered .ensures .0 .of-pps .short))
 
 -- a set put back, by the three calls that do it
 set-is : (b b′ b″ s : List ℕ) (at len : ℕ) (a : Said Counts) → b′ ≡ splice b 0 s → at ≡ tailOf a len → b″ ≡ splice b′ at (replicate (1024 - at) 0) →
