@@ -4,3 +4,4 @@ pub mod Size
 pub mod Write
 pub mod Extension
 pub mod Said
+pub mod Parts

@@ -23,6 +23,7 @@ pub use block::EXTENSION_ID_RESERVED;
 pub use block::EXTENSION_PROFILE_ONE_BYTE;
 pub use block::EXTENSION_PROFILE_TWO_BYTE;
 pub use elements::Extensions;
+pub use header_write::Fixed;
 pub use header_write::Length;
 
 #[repr(C)]
@@ -65,6 +66,27 @@ pub struct Unmarshalled {
     pub read: HeaderRead,
     // all zeros beside a refusal
     pub header: Header,
+}
+
+// A header's record without its arrays.
+#[repr(C)]
+pub struct Front {
+    pub fixed: Fixed,
+    // how many contributing sources there are: 0 to 15
+    pub csrc_count: usize,
+    // how many extension elements there are: 0 to 32
+    pub count: usize,
+    // zeros of the block: 0 to 262,140
+    pub extensions_padding: usize,
+    // 0xBEDE: one-byte elements; 0x1000: two-byte elements; any other: one element of whole words
+    pub extension_profile: u16,
+}
+
+// What reading answers beside the front.
+pub struct FrontRead {
+    pub read: HeaderRead,
+    // all zeros beside a refusal
+    pub front: Front,
 }
 
 // What setting and deleting answer beside the record.

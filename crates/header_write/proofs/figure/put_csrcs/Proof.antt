@@ -11,8 +11,8 @@ use Rattle.wire.proofs.Net.{length-be32}
 use Rattle.wire.proofs.Part.{splice-nothing, splice-behind}
 use Rattle.elements.proofs.Packed.{front-cons, front-done}
 use Rattle.header_write.specs.Fixed.{csrcOctets}
-use Rattle.header_write.proofs.fixed.put_csrcs.Statement.{statement}
-use Rattle.header_write.proofs.fixed.put_csrcs.Tie as tie
+use Rattle.header_write.proofs.figure.put_csrcs.Statement.{statement}
+use Rattle.header_write.proofs.figure.put_csrcs.Tie as tie
 
 abbrev Inv-loop : tie.InvT-loop
 Inv-loop buf₀ start count csrc at₀ i₀ buf at i =

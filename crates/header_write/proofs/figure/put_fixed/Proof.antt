@@ -9,8 +9,8 @@ use Rattle.wire.specs.Net.{be16, be32}
 use Rattle.wire.specs.Part.{splice}
 use Rattle.wire.proofs.Part.{splice-one, splice-push, splice-on}
 use Rattle.header_write.specs.Fixed.{fixedFor}
-use Rattle.header_write.proofs.fixed.put_fixed.Statement.{statement}
-use Rattle.header_write.proofs.fixed.put_fixed.Tie as tie
+use Rattle.header_write.proofs.figure.put_fixed.Statement.{statement}
+use Rattle.header_write.proofs.figure.put_fixed.Tie as tie
 
 figure : (buf : List ℕ) (a b number time ssrc : ℕ) → 12 ≤ length buf →
     splice (splice (splice (set (set buf 0 a) 1 b) 2 (be16 number)) 4 (be32 time)) 8 (be32 ssrc)
