@@ -15,11 +15,10 @@ use Rattle.error.specs.Said.{Said, says, refuse}
 use Rattle.wire.specs.Turns.{run, more, done}
 use Rattle.wire.proofs.Turns.{run-more, run-done}
 use Rattle.wire.proofs.Part.{drop-front}
-use Rattle.elements.specs.declared.Extensions.{Extensions}
-use Rattle.elements.specs.Elements.{Element, dataOf, elementsOf, layElements, pushed}
-use Rattle.elements.proofs.Elements.{elementsOf-layElements, pushed-layElements, dataOf-append, no-room, room}
+use Rattle.elements.specs.Elements.{Element, dataOf}
+use Rattle.elements.proofs.Elements.{dataOf-append, no-room, room}
 use Rattle.block_read.specs.Read.{Item, pad, stop, past, element, within, oneByte, twoByte, itemsBy, Block, skip, padded, with-element, turn, taken, items, wholeBlock, blockAt}
-use Rattle.block_read.specs.Said.{blockHeard}
+use Rattle.block_read.specs.Said.{blockSeen}
 
 -- `from` is where an element's data begin
 pub within-past : (s : List ℕ) (from head id len : ℕ) → length s - from < len → within head id len (drop from s) ≡ past
@@ -103,37 +102,34 @@ item-bound true (b ∷ n ∷ rest) head id len e =
     let two : (2 ≡ head) × (head + len ≤ 2 + length rest) = within-bound 2 b n rest head id len (unless-pad (eqb b 0) (within 2 b n rest) e) in
     omega arith
 
--- ---- a block while the code reads it: `at` is the place, `list` and `pads` what was read
+-- ---- a block while the code reads it: `at` is the place, `es` and `pads` what was read
 
-abbrev pub blockNow : List ℕ → ℕ → ℕ → Extensions → ℕ → Block
-blockNow s end at list pads = record { rest = drop at s; left = end - at; elements = elementsOf list; pads = pads }
+abbrev pub blockNow : List ℕ → ℕ → ℕ → List Element → ℕ → Block
+blockNow s end at es pads = record { rest = drop at s; left = end - at; elements = es; pads = pads }
 
 -- what is still to be read leads from here to the goal
-pub record Going (s : List ℕ) (two : Bool) (end : ℕ) (goal : Said Block) (at : ℕ) (list : Extensions) (used pads : ℕ) : Type 0 where
+pub record Going (s : List ℕ) (two : Bool) (end : ℕ) (goal : Said Block) (at : ℕ) (es : List Element) (used pads : ℕ) : Type 0 where
   pub inside : at ≤ length s
-  pub laid : list ≡ layElements (elementsOf list)
-  pub counted : used ≡ length (dataOf (elementsOf list))
+  pub counted : used ≡ length (dataOf es)
   pub fits : used ≤ 1024
-  pub few : list .count ≤ 32
+  pub few : length es ≤ 32
   pub fewer : pads ≤ at
   pub fuel : ℕ
   pub enough : end - at < fuel
-  pub same : run (turn (itemsBy two)) (refuse 3) fuel (blockNow s end at list pads) ≡ goal
+  pub same : run (turn (itemsBy two)) (refuse 3) fuel (blockNow s end at es pads) ≡ goal
 
 -- a block by its parts
 pub block-path : (a b : Block) → a .rest ≡ b .rest → a .left ≡ b .left → a .elements ≡ b .elements → a .pads ≡ b .pads → a ≡ b
 block-path a b r l e p i = record { rest = r i; left = l i; elements = e i; pads = p i }
 
 pub going-first : (s : List ℕ) (two : Bool) (start len : ℕ) → start + len ≤ length s →
-    Going s two (start + len) (items (itemsBy two) (blockAt s start len)) start (layElements []) 0 0
-unfolding layElements
+    Going s two (start + len) (items (itemsBy two) (blockAt s start len)) start [] 0 0
 going-first s two start len h =
-    let first : blockNow s (start + len) start (layElements []) 0 ≡ blockAt s start len =
-    block-path (blockNow s (start + len) start (layElements []) 0) (blockAt s start len) refl (omega arith) (elementsOf-layElements []) refl in
+    let first : blockNow s (start + len) start [] 0 ≡ blockAt s start len =
+    block-path (blockNow s (start + len) start [] 0) (blockAt s start len) refl (omega arith) refl refl in
     record {
       inside = omega arith;
-      laid = ap layElements (sym (elementsOf-layElements []));
-      counted = ap (λ (es : List Element). length (dataOf es)) (sym (elementsOf-layElements []));
+      counted = refl;
       fits = omega arith;
       few = omega arith;
       fewer = omega arith;
@@ -142,10 +138,14 @@ going-first s two start len h =
       same = ap (run (turn (itemsBy two)) (refuse 3) (len + 1)) first;
     }
 
-module _ (s : List ℕ) (two : Bool) (end : ℕ) (goal : Said Block) (at : ℕ) (list : Extensions) (used pads : ℕ)
-    (g : Going s two end goal at list used pads) where
+-- the element whose head stands at `at` and has `head` bytes
+abbrev pub elementAt : List ℕ → ℕ → ℕ → ℕ → ℕ → Element
+elementAt s at head id len = record { id = id; bytes = take len (drop (at + head) s) }
+
+module _ (s : List ℕ) (two : Bool) (end : ℕ) (goal : Said Block) (at : ℕ) (es : List Element) (used pads : ℕ)
+    (g : Going s two end goal at es used pads) where
   abbrev now : Block
-  now = blockNow s end at list pads
+  now = blockNow s end at es pads
 
   pub going-end : end ≤ at → goal ≡ says now
   unfolding turn
@@ -172,10 +172,10 @@ module _ (s : List ℕ) (two : Bool) (end : ℕ) (goal : Said Block) (at : ℕ) 
       ∙ g .same
 
   -- the block behind the next n bytes
-  skipped : (n : ℕ) → skip n now ≡ blockNow s end (at + n) list pads
-  skipped n = block-path (skip n now) (blockNow s end (at + n) list pads) (drop-drop n at s) (omega arith) refl refl
+  skipped : (n : ℕ) → skip n now ≡ blockNow s end (at + n) es pads
+  skipped n = block-path (skip n now) (blockNow s end (at + n) es pads) (drop-drop n at s) (omega arith) refl refl
 
-  pub going-stop : at < end → itemsBy two (drop at s) ≡ stop → goal ≡ says (blockNow s end (at + 1) list pads)
+  pub going-stop : at < end → itemsBy two (drop at s) ≡ stop → goal ≡ says (blockNow s end (at + 1) es pads)
   unfolding taken
   going-stop h e = going-done h stop e (says (skip 1 now)) refl ∙ ap says (skipped 1)
 
@@ -183,102 +183,73 @@ module _ (s : List ℕ) (two : Bool) (end : ℕ) (goal : Said Block) (at : ℕ) 
   unfolding taken
   going-past h e = going-done h past e (refuse 3) refl
 
-  -- as many elements as the record counts
-  counted : length (elementsOf list) ≡ list .count
-  unfolding layElements
-  counted = sym (ap (λ (x : Extensions). x .count) (g .laid))
-
   pub going-full : at < end → (head id len : ℕ) → itemsBy two (drop at s) ≡ element head id len →
-      (32 < list .count + 1) ⊎ (1024 < used + len) → goal ≡ refuse 7
+      (32 < length es + 1) ⊎ (1024 < used + len) → goal ≡ refuse 7
   unfolding taken
-  going-full h head id len e over =
-      going-done h (element head id len) e (refuse 7) (rw (no-room (elementsOf list) len (full over)))
+  going-full h head id len e over = going-done h (element head id len) e (refuse 7) (rw (no-room es len (full over)))
     where
-      full : (32 < list .count + 1) ⊎ (1024 < used + len) →
-          (32 < length (elementsOf list) + 1) ⊎ (1024 < length (dataOf (elementsOf list)) + len)
-      full (inl many) = inl (rw counted many)
+      full : (32 < length es + 1) ⊎ (1024 < used + len) → (32 < length es + 1) ⊎ (1024 < length (dataOf es) + len)
+      full (inl many) = inl many
       full (inr much) = inr (rw (g .counted) at much)
 
-  pub going-pad : at < end → itemsBy two (drop at s) ≡ pad → end ≤ length s → Going s two end goal (at + 1) list used (pads + 1)
+  pub going-pad : at < end → itemsBy two (drop at s) ≡ pad → end ≤ length s → Going s two end goal (at + 1) es used (pads + 1)
   unfolding taken
   going-pad h e inside =
       record {
         inside = omega arith;
-        laid = g .laid;
         counted = g .counted;
         fits = g .fits;
         few = g .few;
         fewer = omega (arith, g .fewer);
         fuel = g .fuel - 1;
         enough = omega (arith, g .enough);
-        same = going-on h pad e (blockNow s end (at + 1) list (pads + 1)) (ap (λ (b : Block). more (padded b)) (skipped 1));
+        same = going-on h pad e (blockNow s end (at + 1) es (pads + 1)) (ap (λ (b : Block). more (padded b)) (skipped 1));
       }
 
-  -- the elements of a record with one element more
-  one-more : (id : ℕ) (bytes : List ℕ) → list .count + 1 ≤ 32 → used + length bytes ≤ 1024 →
-      pushed list used id bytes ≡ layElements (elementsOf list ++ (record { id = id; bytes = bytes } ∷ []))
-  one-more id bytes few fits =
-      ap (λ (x : Extensions). pushed x used id bytes) (g .laid)
-      ∙ ap (λ (n : ℕ). pushed (layElements (elementsOf list)) n id bytes) (g .counted)
-      ∙ pushed-layElements (elementsOf list) (record { id = id; bytes = bytes }) (omega (arith, counted))
-      (omega (arith, g .counted))
+  pub length-element : (head id len : ℕ) → itemsBy two (drop at s) ≡ element head id len → length (elementAt s at head id len .bytes) ≡ len
+  length-element head id len e =
+      let bound : (1 ≤ head) × (head + len ≤ length (drop at s)) = item-bound two (drop at s) head id len e in
+      length-take-le len (drop (at + head) s) (rw (length-drop (at + head) s) (omega (arith, bound .1, length-drop at s)))
 
   pub going-element : at < end → (head id len : ℕ) → itemsBy two (drop at s) ≡ element head id len →
-      list .count + 1 ≤ 32 → used + len ≤ 1024 →
-      Going s two end goal (at + head + len) (pushed list used id (take len (drop (at + head) s))) (used + len) pads
-  unfolding taken pushed
+      length es + 1 ≤ 32 → used + len ≤ 1024 →
+      Going s two end goal (at + head + len) (es ++ (elementAt s at head id len ∷ [])) (used + len) pads
+  unfolding taken
   going-element h head id len e few fits =
       record {
         inside = omega (arith, bound .1, length-drop at s);
-        laid = laid-out ∙ ap layElements (sym elements);
-        counted = g-counted;
+        counted = more-counted;
         fits = fits;
-        few = few;
+        few = rw (length-append es (one ∷ [])) few;
         fewer = omega (arith, g .fewer);
         fuel = g .fuel - 1;
         enough = omega (arith, bound .0, g .enough);
-        same = going-on h (element head id len) e (blockNow s end (at + head + len) longer pads) (rw (room (elementsOf list) len (omega (arith, counted)) (omega (arith, g .counted))) (ap more next));
+        same = going-on h (element head id len) e (blockNow s end (at + head + len) (es ++ (one ∷ [])) pads) (rw (room es len few (omega (arith, g .counted))) (ap more next));
       }
     where
       bound : (1 ≤ head) × (head + len ≤ length (drop at s))
       bound = item-bound two (drop at s) head id len e
 
-      bytes : List ℕ
-      bytes = take len (drop (at + head) s)
+      one : Element
+      one = elementAt s at head id len
 
-      length-bytes : length bytes ≡ len
-      length-bytes =
-          length-take-le len (drop (at + head) s)
-          (rw (length-drop (at + head) s) (omega (arith, bound .1, length-drop at s)))
-
-      longer : Extensions
-      longer = pushed list used id bytes
-
-      laid-out : longer ≡ layElements (elementsOf list ++ (record { id = id; bytes = bytes } ∷ []))
-      laid-out = one-more id bytes few (omega (arith, length-bytes))
-
-      elements : elementsOf longer ≡ elementsOf list ++ (record { id = id; bytes = bytes } ∷ [])
-      elements = ap elementsOf laid-out ∙ elementsOf-layElements (elementsOf list ++ (record { id = id; bytes = bytes } ∷ []))
-
-      g-counted : used + len ≡ length (dataOf (elementsOf longer))
-      g-counted =
+      more-counted : used + len ≡ length (dataOf (es ++ (one ∷ [])))
+      more-counted =
           sym
-          (ap (λ (es : List Element). length (dataOf es)) elements
-          ∙ ap length (dataOf-append (elementsOf list) (record { id = id; bytes = bytes } ∷ []))
-          ∙ length-append (dataOf (elementsOf list)) (bytes ++ [])
-          ∙ ap (λ (b : List ℕ). length (dataOf (elementsOf list)) + length b) (append-nil bytes)
-          ∙ omega (arith, g .counted, length-bytes))
+          (ap length (dataOf-append es (one ∷ []))
+          ∙ length-append (dataOf es) (one .bytes ++ [])
+          ∙ ap (λ (b : List ℕ). length (dataOf es) + length b) (append-nil (one .bytes))
+          ∙ omega (arith, g .counted, length-element head id len e))
 
-      next : with-element (record { id = id; bytes = take len (drop head (drop at s)) }) (skip (head + len) now) ≡ blockNow s end (at + head + len) longer pads
+      next : with-element (record { id = id; bytes = take len (drop head (drop at s)) }) (skip (head + len) now) ≡ blockNow s end (at + head + len) (es ++ (one ∷ [])) pads
       next =
           let sum : at + (head + len) ≡ at + head + len = omega arith in
           block-path
           (with-element (record { id = id; bytes = take len (drop head (drop at s)) }) (skip (head + len) now))
-          (blockNow s end (at + head + len) longer pads)
+          (blockNow s end (at + head + len) (es ++ (one ∷ [])) pads)
           (drop-drop (head + len) at s ∙ ap (λ (k : ℕ). drop k s) sum)
           (omega arith)
-          (ap (λ (b : List ℕ). elementsOf list ++ (record { id = id; bytes = take len b } ∷ [])) (drop-drop head at s)
-          ∙ sym elements)
+          (ap (λ (b : List ℕ). es ++ (record { id = id; bytes = take len b } ∷ [])) (drop-drop head at s))
           refl
 
 -- ---- a block that is one element
@@ -287,41 +258,25 @@ pub whole-full : (s : List ℕ) (start len : ℕ) → 1024 < len → wholeBlock 
 unfolding wholeBlock
 whole-full s start len h = rw (no-room [] len (inr (omega arith)))
 
--- the record of the one element
-abbrev pub wholeList : List ℕ → ℕ → ℕ → Extensions
-wholeList s start len = pushed (layElements []) 0 0 (take len (drop start s))
-
-module _ (s : List ℕ) (start len : ℕ) (fits : len ≤ 1024) (inside : start + len ≤ length s) where
-  whole-length : length (take len (drop start s)) ≡ len
-  whole-length = length-take-le len (drop start s) (rw (length-drop start s) (omega arith))
-
-  laid-one : wholeList s start len ≡ layElements (record { id = 0; bytes = take len (drop start s) } ∷ [])
-  laid-one = pushed-layElements [] (record { id = 0; bytes = take len (drop start s) }) (omega arith) (omega (arith, whole-length))
-
-  whole-elements : elementsOf (wholeList s start len) ≡ record { id = 0; bytes = take len (drop start s) } ∷ []
-  whole-elements = ap elementsOf laid-one ∙ elementsOf-layElements (record { id = 0; bytes = take len (drop start s) } ∷ [])
-
-  pub whole-block : wholeBlock (blockAt s start len) ≡ says (blockNow s (start + len) (start + len) (wholeList s start len) 0)
-  unfolding wholeBlock
-  whole-block =
-      rw (room [] len (omega arith) (omega arith))
-      (ap says
-      (block-path
-      (with-element (record { id = 0; bytes = take len (drop start s) }) (skip len (blockAt s start len)))
-      (blockNow s (start + len) (start + len) (wholeList s start len) 0)
-      (drop-drop len start s)
-      (omega arith)
-      (sym whole-elements)
-      refl))
-
-  pub whole-laid : wholeList s start len ≡ layElements (elementsOf (wholeList s start len))
-  whole-laid = laid-one ∙ ap layElements (sym whole-elements)
+pub whole-block : (s : List ℕ) (start len : ℕ) → len ≤ 1024 →
+    wholeBlock (blockAt s start len) ≡ says (blockNow s (start + len) (start + len) (record { id = 0; bytes = take len (drop start s) } ∷ []) 0)
+unfolding wholeBlock
+whole-block s start len fits =
+    rw (room [] len (omega arith) (omega arith))
+    (ap says
+    (block-path
+    (with-element (record { id = 0; bytes = take len (drop start s) }) (skip len (blockAt s start len)))
+    (blockNow s (start + len) (start + len) (record { id = 0; bytes = take len (drop start s) } ∷ []) 0)
+    (drop-drop len start s)
+    (omega arith)
+    refl
+    refl))
 
 -- the answer at a place where the block ends
-pub heard-at : (s : List ℕ) (end at : ℕ) (list : Extensions) (pads : ℕ) → list ≡ layElements (elementsOf list) → at ≤ length s →
-    blockHeard (length s) (says (blockNow s end at list pads)) ≡ record { answer = says at; list = list; pads = pads }
-heard-at s end at list pads laid h i =
-    record { answer = says (place i); list = sym laid i; pads = pads }
+pub seen-at : (s : List ℕ) (end at : ℕ) (es : List Element) (pads : ℕ) → at ≤ length s →
+    blockSeen (length s) (says (blockNow s end at es pads)) ≡ record { answer = says at; count = length es; pads = pads }
+seen-at s end at es pads h i =
+    record { answer = says (place i); count = length es; pads = pads }
   where
     place : length s - length (drop at s) ≡ at
     place = rw (length-drop at s) (omega arith)

@@ -8,11 +8,10 @@ ghost use Rattle.error.specs.Refusal.{refusalOf};
 ghost use Rattle.error.specs.Said.{says, refused};
 ghost use Rattle.block.specs.Form.{formOf};
 ghost use Rattle.block_read.specs.Read.{oneByte, twoByte, itemsBy, items, wholeBlock, readBlock, blockAt};
-ghost use Rattle.block_read.specs.Said.{itemOf, heardBlock, blockHeard};
+ghost use Rattle.block_read.specs.Said.{itemOf, heardSeen, blockSeen};
 use block::EXTENSION_ID_RESERVED;
 use block::EXTENSION_PROFILE_ONE_BYTE;
 use block::EXTENSION_PROFILE_TWO_BYTE;
-use elements::Extensions;
 use error::Error;
 
 // Where the payload begins behind a block that was read.
@@ -21,11 +20,12 @@ pub enum Ending {
     Refused(Error),
 }
 
-pub struct BlockRead {
+// A block before anything of it is kept.
+pub struct Seen {
     pub ending: Ending,
-    // none beside a refusal
-    pub list: Extensions,
-    // how many zeros there were
+    // how many elements there are; 0 beside a refusal
+    pub count: usize,
+    // how many zeros there were; 0 beside a refusal
     pub padding: usize,
 }
 
@@ -99,35 +99,35 @@ fn next_at(packet: &[u8], at: usize, two: bool) -> Next
     }
 }
 
-fn refused_block(e: Error) -> BlockRead
-    ensures { λ r. ⌜ heardBlock r ≡ blockHeard 0 (refused (refusalOf e)) ⌝ }
+fn refused_block(e: Error) -> Seen
+    ensures { λ r. ⌜ heardSeen r ≡ blockSeen 0 (refused (refusalOf e)) ⌝ }
 {
-    BlockRead {
+    Seen {
         ending: Ending::Refused(e),
-        list: Extensions::new(),
+        count: 0,
         padding: 0,
     }
 }
 
 // The payload begins at `place`.
-fn ended(place: usize, list: Extensions, padding: usize) -> BlockRead
-    ensures { λ r. ⌜ heardBlock r ≡ record { answer = says place; list = list; pads = padding } ⌝ }
+fn ended(place: usize, count: usize, padding: usize) -> Seen
+    ensures { λ r. ⌜ heardSeen r ≡ record { answer = says place; count = count; pads = padding } ⌝ }
 {
-    BlockRead {
+    Seen {
         ending: Ending::Payload(place),
-        list,
+        count,
         padding,
     }
 }
 
 // The elements of a block of `len` bytes. An element may run past the block: `at` then lies behind its end.
-fn read_items(packet: &[u8], start: usize, len: usize, two: bool) -> BlockRead
+fn see_items(packet: &[u8], start: usize, len: usize, two: bool) -> Seen
     requires { ⌜ start + len ≤ length (now packet) ⌝ }
-    ensures { λ r. ⌜ heardBlock r ≡ blockHeard (length (now (packet .entry))) (items (itemsBy two) (blockAt (now (packet .entry)) start len)) ⌝ }
+    ensures { λ r. ⌜ heardSeen r ≡ blockSeen (length (now (packet .entry))) (items (itemsBy two) (blockAt (now (packet .entry)) start len)) ⌝ }
 {
     let end = start + len;
     let mut at = start;
-    let mut list = Extensions::new();
+    let mut count = 0;
     let mut used = 0;
     let mut padding = 0;
     while at < end {
@@ -138,53 +138,44 @@ fn read_items(packet: &[u8], start: usize, len: usize, two: bool) -> BlockRead
                 padding += 1;
             }
             Next::Stop => {
-                return ended(at + 1, list, padding);
+                return ended(at + 1, count, padding);
             }
             Next::Past => {
                 return refused_block(Error::ElementPastPacket);
             }
-            Next::Element { head, id, len: n } => {
-                let count = list.count;
+            Next::Element {
+                head,
+                id: _,
+                len: n,
+            } => {
                 if 32 < count + 1 {
                     return refused_block(Error::OverLimits);
                 }
                 if 1024 < used + n {
                     return refused_block(Error::OverLimits);
                 }
-                let from = at + head;
-                list = elements::push(list, used, id, &packet[from..from + n]);
+                count += 1;
                 used += n;
-                at = from + n;
+                at = at + head + n;
             }
         }
     }
-    ended(at, list, padding)
+    ended(at, count, padding)
 }
 
-// RFC 3550's own extension: one element that is the whole block.
-fn read_whole(packet: &[u8], start: usize, len: usize) -> BlockRead
+// What a block holds and where the payload begins behind it.
+pub fn see_block(packet: &[u8], start: usize, len: usize, profile: u16) -> Seen
     requires { ⌜ start + len ≤ length (now packet) ⌝ }
-    ensures { λ r. ⌜ heardBlock r ≡ blockHeard (length (now (packet .entry))) (wholeBlock (blockAt (now (packet .entry)) start len)) ⌝ }
+    ensures { λ r. ⌜ heardSeen r ≡ blockSeen (length (now (packet .entry))) (readBlock (formOf profile) (blockAt (now (packet .entry)) start len)) ⌝ }
 {
+    if profile == EXTENSION_PROFILE_ONE_BYTE {
+        return see_items(packet, start, len, false);
+    }
+    if profile == EXTENSION_PROFILE_TWO_BYTE {
+        return see_items(packet, start, len, true);
+    }
     if 1024 < len {
         return refused_block(Error::OverLimits);
     }
-    BlockRead {
-        ending: Ending::Payload(start + len),
-        list: elements::push(Extensions::new(), 0, 0, &packet[start..start + len]),
-        padding: 0,
-    }
-}
-
-pub fn read_block(packet: &[u8], start: usize, len: usize, profile: u16) -> BlockRead
-    requires { ⌜ start + len ≤ length (now packet) ⌝ }
-    ensures { λ r. ⌜ heardBlock r ≡ blockHeard (length (now (packet .entry))) (readBlock (formOf profile) (blockAt (now (packet .entry)) start len)) ⌝ }
-{
-    if profile == EXTENSION_PROFILE_ONE_BYTE {
-        return read_items(packet, start, len, false);
-    }
-    if profile == EXTENSION_PROFILE_TWO_BYTE {
-        return read_items(packet, start, len, true);
-    }
-    read_whole(packet, start, len)
+    ended(start + len, 1, 0)
 }

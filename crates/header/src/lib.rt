@@ -25,6 +25,8 @@ pub use block::EXTENSION_PROFILE_TWO_BYTE;
 pub use elements::Extensions;
 pub use header_write::Fixed;
 pub use header_write::Length;
+pub use read::unmarshal_front;
+pub use read::unmarshal_parts;
 
 #[repr(C)]
 pub struct Header {

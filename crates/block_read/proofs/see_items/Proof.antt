@@ -11,8 +11,8 @@ use Rattle.elements.specs.Elements.{pushed}
 use Rattle.block_read.specs.Read.{Item, pad, stop, past, element, itemsBy, items, blockAt}
 use Rattle.block_read.specs.Said.{itemOf, blockHeard}
 use Rattle.block_read.proofs.Reading.{Going, going-first, going-end, going-stop, going-past, going-full, going-pad, going-element, heard-at, item-bound}
-use Rattle.block_read.proofs.read_items.Statement.{statement}
-use Rattle.block_read.proofs.read_items.Tie as tie
+use Rattle.block_read.proofs.see_items.Statement.{statement}
+use Rattle.block_read.proofs.see_items.Tie as tie
 
 abbrev Inv-loop : tie.InvT-loop
 Inv-loop packet start len two end at₀ list₀ used₀ padding₀ at list used padding =
