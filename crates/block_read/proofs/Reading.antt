@@ -118,6 +118,12 @@ pub record Going (s : List ℕ) (two : Bool) (end : ℕ) (goal : Said Block) (at
   pub enough : end - at < fuel
   pub same : run (turn (itemsBy two)) (refuse 3) fuel (blockNow s end at es pads) ≡ goal
 
+-- .. for whoever keeps only how many elements there were
+pub record Seeing (s : List ℕ) (two : Bool) (end : ℕ) (goal : Said Block) (at count used pads : ℕ) : Type 0 where
+  pub es : List Element
+  pub counts : length es ≡ count
+  pub going : Going s two end goal at es used pads
+
 -- a block by its parts
 pub block-path : (a b : Block) → a .rest ≡ b .rest → a .left ≡ b .left → a .elements ≡ b .elements → a .pads ≡ b .pads → a ≡ b
 block-path a b r l e p i = record { rest = r i; left = l i; elements = e i; pads = p i }
@@ -258,15 +264,19 @@ pub whole-full : (s : List ℕ) (start len : ℕ) → 1024 < len → wholeBlock 
 unfolding wholeBlock
 whole-full s start len h = rw (no-room [] len (inr (omega arith)))
 
+-- the element of the block that begins at `start` and has `len` bytes
+abbrev pub wholeElement : List ℕ → ℕ → ℕ → Element
+wholeElement s start len = record { id = 0; bytes = take len (drop start s) }
+
 pub whole-block : (s : List ℕ) (start len : ℕ) → len ≤ 1024 →
-    wholeBlock (blockAt s start len) ≡ says (blockNow s (start + len) (start + len) (record { id = 0; bytes = take len (drop start s) } ∷ []) 0)
+    wholeBlock (blockAt s start len) ≡ says (blockNow s (start + len) (start + len) (wholeElement s start len ∷ []) 0)
 unfolding wholeBlock
 whole-block s start len fits =
     rw (room [] len (omega arith) (omega arith))
     (ap says
     (block-path
-    (with-element (record { id = 0; bytes = take len (drop start s) }) (skip len (blockAt s start len)))
-    (blockNow s (start + len) (start + len) (record { id = 0; bytes = take len (drop start s) } ∷ []) 0)
+    (with-element (wholeElement s start len) (skip len (blockAt s start len)))
+    (blockNow s (start + len) (start + len) (wholeElement s start len ∷ []) 0)
     (drop-drop len start s)
     (omega arith)
     refl
@@ -280,3 +290,13 @@ seen-at s end at es pads h i =
   where
     place : length s - length (drop at s) ≡ at
     place = rw (length-drop at s) (omega arith)
+
+-- the answer where the block ends at `at`, behind as many elements as were counted
+pub seen-here : (s : List ℕ) (two : Bool) (end : ℕ) (goal : Said Block) (at count used pads : ℕ) (i : Seeing s two end goal at count used pads)
+    (k : ℕ) → goal ≡ says (blockNow s end k (i .es) pads) → k ≤ length s →
+    record { answer = says k; count = count; pads = pads } ≡ blockSeen (length s) goal
+seen-here s two end goal at count used pads i k e inside =
+    sym
+    (ap (blockSeen (length s)) e
+    ∙ seen-at s end k (i .es) pads inside
+    ∙ ap (λ (n : ℕ). record { answer = says k; count = n; pads = pads }) (i .counts))
