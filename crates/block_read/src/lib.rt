@@ -2,13 +2,14 @@
 //
 // Only proved code calls this crate, so its function may ask that the block lies in the packet.
 ghost use mathlib.Core.Path.{_≡_};
+ghost use mathlib.Core.List.{[]};
 ghost use Prim.Native.Nat.{_+_, _<_, _≤_};
 ghost use lib.ListN.{length, drop};
 ghost use Rattle.error.specs.Refusal.{refusalOf};
 ghost use Rattle.error.specs.Said.{says, refused};
 ghost use Rattle.block.specs.Form.{formOf};
 ghost use Rattle.block_read.specs.Read.{oneByte, twoByte, itemsBy, items, wholeBlock, readBlock, blockAt};
-ghost use Rattle.block_read.specs.Said.{itemOf, heardSeen, blockSeen};
+ghost use Rattle.block_read.specs.Said.{itemOf, heardSeen, blockSeen, Answers, elementsRead, Laid};
 use block::EXTENSION_ID_RESERVED;
 use block::EXTENSION_PROFILE_ONE_BYTE;
 use block::EXTENSION_PROFILE_TWO_BYTE;
@@ -178,4 +179,75 @@ pub fn see_block(packet: &[u8], start: usize, len: usize, profile: u16) -> Seen
         return refused_block(Error::OverLimits);
     }
     ended(start + len, 1, 0)
+}
+
+// The elements of a block that was seen, into the arrays of a record, which are zeros before.
+fn fill_items(
+    packet: &[u8],
+    start: usize,
+    len: usize,
+    two: bool,
+    ids: &mut [u8; 32],
+    lens: &mut [u16; 32],
+    bytes: &mut [u8; 1024],
+)
+    requires { ⌜ start + len ≤ length (now packet) ⌝ }
+    requires { ⌜ Answers (items (itemsBy two) (blockAt (now packet) start len)) ⌝ }
+    requires { ⌜ Laid [] (now ids) (now lens) (now bytes) ⌝ }
+    ensures { λ _. ⌜ Laid (elementsRead (items (itemsBy two) (blockAt (now (packet .entry)) start len))) (now (ids .exit)) (now (lens .exit)) (now (bytes .exit)) ⌝ }
+{
+    let end = start + len;
+    let mut at = start;
+    let mut count = 0;
+    let mut used = 0;
+    while at < end {
+        let next = next_at(packet, at, two);
+        match next {
+            Next::Pad => {
+                at += 1;
+            }
+            Next::Stop => {
+                return;
+            }
+            Next::Past => {
+                return;
+            }
+            Next::Element { head, id, len: n } => {
+                let from = at + head;
+                ids[count] = id;
+                lens[count] = n as u16;
+                wire::copy_at(&packet[from..from + n], bytes, used);
+                count += 1;
+                used += n;
+                at = from + n;
+            }
+        }
+    }
+}
+
+pub fn fill_block(
+    packet: &[u8],
+    start: usize,
+    len: usize,
+    profile: u16,
+    ids: &mut [u8; 32],
+    lens: &mut [u16; 32],
+    bytes: &mut [u8; 1024],
+)
+    requires { ⌜ start + len ≤ length (now packet) ⌝ }
+    requires { ⌜ Answers (readBlock (formOf profile) (blockAt (now packet) start len)) ⌝ }
+    requires { ⌜ Laid [] (now ids) (now lens) (now bytes) ⌝ }
+    ensures { λ _. ⌜ Laid (elementsRead (readBlock (formOf profile) (blockAt (now (packet .entry)) start len))) (now (ids .exit)) (now (lens .exit)) (now (bytes .exit)) ⌝ }
+{
+    if profile == EXTENSION_PROFILE_ONE_BYTE {
+        fill_items(packet, start, len, false, ids, lens, bytes);
+        return;
+    }
+    if profile == EXTENSION_PROFILE_TWO_BYTE {
+        fill_items(packet, start, len, true, ids, lens, bytes);
+        return;
+    }
+    ids[0] = 0;
+    lens[0] = len as u16;
+    wire::copy_at(&packet[start..start + len], bytes, 0);
 }
