@@ -8,7 +8,7 @@ ghost use lib.ListN.{length, drop};
 ghost use Rattle.error.specs.Refusal.{refusalOf};
 ghost use Rattle.error.specs.Said.{says, refused};
 ghost use Rattle.block.specs.Form.{formOf};
-ghost use Rattle.block_read.specs.Read.{oneByte, twoByte, itemsBy, items, wholeBlock, readBlock, blockAt};
+ghost use Rattle.block_read.specs.Read.{oneByte, twoByte, itemsBy, items, readBlock, blockAt};
 ghost use Rattle.block_read.specs.Said.{itemOf, heardSeen, blockSeen, Answers, elementsRead, Laid};
 use block::EXTENSION_ID_RESERVED;
 use block::EXTENSION_PROFILE_ONE_BYTE;

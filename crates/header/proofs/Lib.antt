@@ -1,4 +1,5 @@
 pub mod Reading
+pub mod Fronts
 pub mod Sizes
 pub mod Octets
 pub mod Writing

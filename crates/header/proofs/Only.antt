@@ -1,5 +1,5 @@
--- "that no second answer satisfies it is proved": each public call's contract is met by one answer, and by no other. For the writer an
--- answer is the result with the buffer as it is left. Assumes nothing.
+-- "that no second answer satisfies it is proved": each public call's contract is met by one answer, and by no other. For a call that is
+-- lent a buffer or arrays an answer is the result with these as they are left. Assumes nothing.
 use mathlib.Core.Path.{_≡_, refl, ap, _∙_}
 use mathlib.Core.Bool.{Bool, true, false, cond, _&&_}
 use mathlib.Core.List.{List, [], map}
@@ -10,7 +10,7 @@ use Rattle.error.specs.Refusal.{Refusal}
 use Rattle.error.specs.Said.{Said, says, refused, refuse}
 use Rattle.error.specs.Only.{Determined}
 use Rattle.error.proofs.Inverse.{errorOf, errorOf-refusalOf}
-use Rattle.error.proofs.Only.{by-value, by-view, spoken, Sayable, either-sayable, known, passed}
+use Rattle.error.proofs.Only.{by-value, by-view, by-both, spoken, Sayable, either-sayable, known, passed}
 use Rattle.wire.specs.Net.{u16At, bit}
 use Rattle.wire.specs.Part.{padTo}
 use Rattle.wire.specs.Turns.{Turn, more, done, after, run}
@@ -24,6 +24,8 @@ use Rattle.header.specs.declared.Header.{Header}
 use Rattle.header.specs.declared.HeaderRead.{HeaderRead}
 use Rattle.header.specs.declared.HeaderRead.the-variants as read
 use Rattle.header.specs.declared.Unmarshalled.{Unmarshalled}
+use Rattle.header.specs.declared.Front.{Front}
+use Rattle.header.specs.declared.FrontRead.{FrontRead}
 use Rattle.header_write.specs.declared.Length.{Length}
 use Rattle.header_write.specs.declared.Length.the-variants as len
 use Rattle.header.specs.declared.Change.{Change}
@@ -36,12 +38,14 @@ use Rattle.header.specs.declared.IdCount.the-variants as ids
 use Rattle.header.specs.declared.Ids.{Ids}
 use Rattle.header.specs.Fields.{fieldsOf, blank, inDomain}
 use Rattle.header.specs.Read.{Reading, countOf, fixedLength, readingOf, readExtension, readFixed, readHeader}
+use Rattle.header.specs.Parts.{frontOf, FrontHeard, heardFront, frontHeard, Lent, lentRead}
 use Rattle.header.specs.Size.{payloadLength, headerSize, lengthAsked, sizeAsked}
 use Rattle.header_write.specs.Judge.{judged}
 use Rattle.header.specs.Write.{octetsOf, inWritingDomain, writeHeader}
 use Rattle.header.specs.Extension.{limited, idRefusal, setFound, setLater, setFirst, setExtension, delFound, delExtension, getExtension, getExtensionIds}
 use Rattle.header_write.specs.Said.{saidLength}
 use Rattle.header.specs.Said.{saidRead, Heard, heard, readingHeard, Written, heardWritten, written, saidChange, After, heardChange, changeHeard, saidGot, saidCount, Listed, heardIds, idsHeard}
+use Rattle.header.proofs.Fronts.{withArrays}
 
 -- ---- lengths
 
@@ -214,6 +218,35 @@ pub unmarshal-only : (s : List ℕ) → Determined (λ (r : Unmarshalled). heard
 unmarshal-only s =
     by-view heard unmarshalledOf unmarshalledOf-heard (unmarshalledOf (readingHeard (readHeader s))) (readingHeard (readHeader s))
     (heard-unmarshalledOf (readHeader s) (read-sayable s))
+
+-- .. without the arrays
+abbrev frontReadOf : FrontHeard → FrontRead
+frontReadOf h = record { read = readOf (h .answer); front = h .front }
+
+frontReadOf-heard : (a : FrontRead) → frontReadOf (heardFront a) ≡ a
+frontReadOf-heard a = ap (λ (r : HeaderRead). record { read = r; front = a .front }) (readOf-said (a .read))
+
+heard-frontReadOf : (x : Said Reading) → Sayable x → heardFront (frontReadOf (frontHeard (readingHeard x))) ≡ frontHeard (readingHeard x)
+heard-frontReadOf (says r) s = refl
+heard-frontReadOf (refused r) s = ap (λ (k : Refusal). record { answer = refused k; front = frontOf blank }) (known {A = Reading} {r = r} s)
+
+pub unmarshal-front-only : (s : List ℕ) → Determined (λ (r : FrontRead). heardFront r ≡ frontHeard (readingHeard (readHeader s)))
+unmarshal-front-only s =
+    let said : FrontHeard = frontHeard (readingHeard (readHeader s)) in
+    by-view heardFront frontReadOf frontReadOf-heard (frontReadOf said) said (heard-frontReadOf (readHeader s) (read-sayable s))
+
+pub unmarshal-parts-only : (s : List ℕ) (old : Lent) →
+    Determined
+    (λ (a : FrontRead × Lent).
+    (heardFront (a .0) ≡ frontHeard (readingHeard (readHeader s))) × (a .1 ≡ lentRead old (readHeader s)))
+unmarshal-parts-only s old = by-both (unmarshal-front-only s) (by-value (lentRead old (readHeader s)))
+
+-- of `Front`
+pub front-default-only : Determined (λ (r : Front). r ≡ frontOf blank)
+front-default-only = by-value (frontOf blank)
+
+pub front-with-only : (f : Front) (l : Lent) → Determined (λ (r : Header). r ≡ withArrays f l)
+front-with-only f l = by-value (withArrays f l)
 
 pub default-only : Determined (λ (r : Header). r ≡ blank)
 default-only = by-value blank

@@ -1,32 +1,33 @@
 -- How the reader's definitions go on, from the facts that the code tests. Assumes nothing.
-use mathlib.Core.Path.{_≡_, refl, sym, ap, ap₂, subst, _∙_}
+use mathlib.Core.Path.{_≡_, refl, sym, ap, subst, _∙_}
 use mathlib.Core.Bool.{Bool, true, false, cond}
 use mathlib.Core.List.{List, [], _∷_, _++_}
+use mathlib.Core.Logic.{_⊎_, inl, inr}
 use Prim.Native.Nat.{ℕ, zero, suc, _+_, _-_, _*_, _/_, _%_, _<_, _≤_}
 use native.Mathlib.Numerals.{add-one}
 use native.Mathlib.Omega.{arith}
 use lib.Dec.{ltb}
 use lib.ListN.{length, drop, getD, length-drop}
-use borrow.Author.Tests.{eq-eqb, ne-eqb, lt-ltb, le-ltb}
+use borrow.Author.Tests.{eq-eqb, ne-eqb, lt-ltb, le-ltb, ltb-false}
 use Rattle.error.specs.declared.Error.{Error}
 use Rattle.error.specs.Refusal.{refusalOf}
 use Rattle.error.specs.Said.{Said, says, refused, refuse}
+use Rattle.error.proofs.Refusing.{not-says}
 use Rattle.wire.specs.Net.{u16At, u32At, bit}
-use Rattle.wire.specs.Part.{padTo}
-use Rattle.elements.specs.declared.Extensions.{Extensions}
-use Rattle.elements.specs.Elements.{layElements}
+use Rattle.elements.specs.Elements.{Element, layElements}
 use Rattle.block_read.specs.declared.Ending.{Ending}
 use Rattle.block_read.specs.declared.Ending.the-variants as ending
-use Rattle.block_read.specs.Read.{Block, blockAt, readBlock}
-use Rattle.block.specs.Form.{formOf}
-use Rattle.block_read.specs.Said.{saidEnding, blockHeard}
+use Rattle.block_read.specs.Read.{Block, blockAt}
+use Rattle.block_read.specs.Said.{saidEnding, blockSeen}
 use Rattle.header.specs.declared.Header.{Header}
 use Rattle.header.specs.declared.HeaderRead.{HeaderRead}
 use Rattle.header.specs.declared.HeaderRead.the-variants as read
 use Rattle.header.specs.declared.Unmarshalled.{Unmarshalled}
+use Rattle.header.specs.declared.Front.{Front}
 use Rattle.header.specs.Fields.{Fields, layOut, blank}
-use Rattle.header.specs.Read.{csrcsAt, fieldsAt, readingOf, readExtension, fixedLength, countOf, readFixed, Reading, readHeader}
-use Rattle.header.specs.Said.{saidRead, Heard, heard, readingHeard, headerAt}
+use Rattle.header.specs.Parts.{fixedAt, frontAt, frontOf, FrontHeard, frontHeard}
+use Rattle.header.specs.Read.{csrcsAt, fieldsAt, readingOf, blockOf, readExtension, fixedLength, countOf, readFixed, Reading, readHeader}
+use Rattle.header.specs.Said.{saidRead, Heard, heard, readingHeard}
 
 -- ---- the CSRCs
 
@@ -46,43 +47,28 @@ csrcs-suc s at (suc n) =
 pub csrcsAt-more : (s : List ℕ) (at n : ℕ) → csrcsAt s at (n + 1) ≡ csrcsAt s at n ++ (u32At s (at + 4 * n) ∷ [])
 csrcsAt-more s at n = ap (csrcsAt s at) (add-one n) ∙ csrcs-suc s at n
 
--- ---- the header round a block
+-- ---- the front round a block
 
--- a header laid out is the one that the code puts together
-pub layOut-fieldsAt : (s : List ℕ) (cc profile : ℕ) (b : Block) →
-    layOut (fieldsAt s cc profile b) ≡ headerAt s cc profile (layElements (b .elements)) (b .pads)
-unfolding layOut fieldsAt headerAt
-layOut-fieldsAt s cc profile b =
-    ap (λ (n : ℕ). headerWith s n cc profile (layElements (b .elements)) (b .pads)) (length-csrcsAt s 12 cc)
-  where
-    headerWith : List ℕ → ℕ → ℕ → ℕ → Extensions → ℕ → Header
-    headerWith s n cc profile list pads =
-        record {
-          version = getD s 0 0 / 64;
-          padding = bit (getD s 0 0 / 32);
-          extension = bit (getD s 0 0 / 16);
-          marker = bit (getD s 1 0 / 128);
-          «payload_type» = getD s 1 0 % 128;
-          «sequence_number» = u16At s 2;
-          timestamp = u32At s 4;
-          ssrc = u32At s 8;
-          «csrc_count» = n;
-          csrc = padTo 15 (csrcsAt s 12 cc);
-          «extension_profile» = profile;
-          extensions = list;
-          «extensions_padding» = pads;
-        }
+-- a header laid out has the front that the code puts together
+pub front-fieldsAt : (s : List ℕ) (cc profile : ℕ) (b : Block) →
+    frontOf (layOut (fieldsAt s cc profile b)) ≡ frontAt s cc profile (length (b .elements)) (b .pads)
+unfolding layOut fieldsAt fixedAt layElements
+front-fieldsAt s cc profile b = ap (λ (n : ℕ). frontAt s n profile (length (b .elements)) (b .pads)) (length-csrcsAt s 12 cc)
+
+-- what reading answers, without the arrays
+abbrev pub saidFront : Said Reading → FrontHeard
+saidFront x = frontHeard (readingHeard x)
 
 -- what the header's reader makes of the block's answer
-abbrev pub around : List ℕ → ℕ → ℕ → Extensions → ℕ → Said ℕ → Heard
-around s cc profile list pads (says place) = record { answer = says place; header = headerAt s cc profile list pads }
-around s cc profile list pads (refused r) = record { answer = refused r; header = blank }
+abbrev pub around : List ℕ → ℕ → ℕ → ℕ → ℕ → Said ℕ → FrontHeard
+around s cc profile count pads (says place) = record { answer = says place; front = frontAt s cc profile count pads }
+around s cc profile count pads (refused r) = record { answer = refused r; front = frontOf blank }
 
 pub heard-around : (s : List ℕ) (cc profile : ℕ) (b : Said Block) →
-    readingHeard (readingOf s cc profile b)
-    ≡ around s cc profile (blockHeard (length s) b .list) (blockHeard (length s) b .pads) (blockHeard (length s) b .answer)
+    saidFront (readingOf s cc profile b)
+    ≡ around s cc profile (blockSeen (length s) b .count) (blockSeen (length s) b .pads) (blockSeen (length s) b .answer)
 heard-around s cc profile (says b) =
-    ap (λ (h : Header). record { answer = says (length s - length (b .rest)); header = h }) (layOut-fieldsAt s cc profile b)
+    ap (λ (f : Front). record { answer = says (length s - length (b .rest)); front = f }) (front-fieldsAt s cc profile b)
 heard-around s cc profile (refused r) = refl
 
 module _ (s : List ℕ) (cc at : ℕ) where
@@ -96,21 +82,19 @@ module _ (s : List ℕ) (cc at : ℕ) where
 
   pub block-whole : at + 4 ≤ length s → at + 4 + 4 * u16At s (at + 2) ≤ length s →
       readExtension s cc at
-      ≡ readingOf s cc (u16At s at) (readBlock (formOf (u16At s at)) (blockAt s (at + 4) (4 * u16At s (at + 2))))
+      ≡ readingOf s cc (u16At s at) (blockOf s at)
   unfolding readExtension
   block-whole h g = rw (le-ltb (length s) (at + 4) h, le-ltb (length s) (at + 4 + 4 * u16At s (at + 2)) g)
 
 -- the header's answer, by the block's
-module _ (s : List ℕ) (cc profile : ℕ) (list : Extensions) (pads : ℕ) (q : Ending) where
-  pub heard-payload : (place : ℕ) (h : Header) → q ≡ ending.Payload place → h ≡ headerAt s cc profile list pads →
-      heard (record { read = read.Payload place; header = h }) ≡ around s cc profile list pads (saidEnding q)
-  heard-payload place h eq eh =
-      ap (λ (y : Header). heard (record { read = read.Payload place; header = y })) eh
-      ∙ sym (ap (λ (x : Ending). around s cc profile list pads (saidEnding x)) eq)
+module _ (s : List ℕ) (cc profile count pads : ℕ) (q : Ending) where
+  pub heard-payload : (place : ℕ) → q ≡ ending.Payload place →
+      record { answer = says place; front = frontAt s cc profile count pads } ≡ around s cc profile count pads (saidEnding q)
+  heard-payload place eq = sym (ap (λ (x : Ending). around s cc profile count pads (saidEnding x)) eq)
 
   pub heard-refused : (e : Error) → q ≡ ending.Refused e →
-      readingHeard (refused (refusalOf e)) ≡ around s cc profile list pads (saidEnding q)
-  heard-refused e eq = sym (ap (λ (x : Ending). around s cc profile list pads (saidEnding x)) eq)
+      saidFront (refused (refusalOf e)) ≡ around s cc profile count pads (saidEnding q)
+  heard-refused e eq = sym (ap (λ (x : Ending). around s cc profile count pads (saidEnding x)) eq)
 
 -- ---- the whole header
 
@@ -147,14 +131,34 @@ module _ (s : List ℕ) where
 
 -- a header without extensions
 pub plain-heard : (s : List ℕ) (cc : ℕ) → fixedLength cc ≤ length s →
-    readingHeard (readingOf s cc 0 (says (blockAt s (fixedLength cc) 0)))
-    ≡ record { answer = says (fixedLength cc); header = headerAt s cc 0 (layElements []) 0 }
+    saidFront (readingOf s cc 0 (says (blockAt s (fixedLength cc) 0)))
+    ≡ record { answer = says (fixedLength cc); front = frontAt s cc 0 0 0 }
 plain-heard s cc h =
     let place : length s - length (drop (fixedLength cc) s) ≡ fixedLength cc = rw (length-drop (fixedLength cc) s) (omega arith) in
     heard-around s cc 0 (says (blockAt s (fixedLength cc) 0))
-    ∙ ap (λ (n : ℕ). record { answer = says n; header = headerAt s cc 0 (layElements []) 0 }) place
+    ∙ ap (λ (n : ℕ). record { answer = says n; front = frontAt s cc 0 0 0 }) place
 
 -- ---- for callers
+
+-- an answer with a place is the answer of a header that was read
+pub record Says (x : Said Reading) (place : ℕ) : Type 0 where
+  pub fields : Fields
+  pub reads : x ≡ says (record { fields = fields; place = place })
+
+pub says-place : (x : Said Reading) (a : HeaderRead) (place : ℕ) → saidRead a ≡ readingHeard x .answer → a ≡ read.Payload place → Says x place
+says-place (says r) a place e p =
+    let at : says place ≡ says (r .place) = ap saidRead (sym p) ∙ e in
+    let same : r .place ≡ place = cc in
+    record { fields = r .fields; reads = ap (λ (n : ℕ). says (record { fields = r .fields; place = n })) same }
+says-place (refused r) a place e p = absurd (not-says (sym (ap saidRead (sym p) ∙ e)))
+
+-- .. and a refusal is its refusal
+pub says-refusal : (x : Said Reading) (a : HeaderRead) (r : Error) → saidRead a ≡ readingHeard x .answer → a ≡ read.Refused r → x ≡ refused (refusalOf r)
+says-refusal (says q) a r e p = absurd (not-says (ap saidRead (sym p) ∙ e))
+says-refusal (refused q) a r e p =
+    let at : refused (refusalOf r) ≡ refused q = ap saidRead (sym p) ∙ e in
+    let same : q ≡ refusalOf r = cc in
+    ap refused same
 
 -- what a call answered is what the definition says: an answer with a place
 pub record Answered (s : List ℕ) (h : Header) (place : ℕ) : Type 0 where
@@ -164,72 +168,91 @@ pub record Answered (s : List ℕ) (h : Header) (place : ℕ) : Type 0 where
 
 pub answered : (u : Unmarshalled) (s : List ℕ) (place : ℕ) → heard u ≡ readingHeard (readHeader s) → u .read ≡ read.Payload place →
     Answered s (u .header) place
-answered u s place e p = go (readHeader s) refl
-  where
-    go : (x : Said Reading) → readHeader s ≡ x → Answered s (u .header) place
-    go (says r) is =
-        let h : heard u ≡ readingHeard (says r) = e ∙ ap readingHeard is in
-        let at : says place ≡ says (r .place) = ap saidRead (sym p) ∙ ap (λ (k : Heard). k .answer) h in
-        let same : r .place ≡ place = cc in
-        record {
-          fields = r .fields;
-          reads = is ∙ ap (λ (n : ℕ). says (record { fields = r .fields; place = n })) same;
-          laid = ap (λ (k : Heard). k .header) h;
-        }
-    go (refused r) is =
-        let at : says place ≡ refused r = ap saidRead (sym p) ∙ ap (λ (k : Heard). k .answer) (e ∙ ap readingHeard is) in
-        let z : _≡_ {A = ℕ} 0 1 = cc in
-        absurd (omega arith)
+answered u s place e p =
+    let a : Says (readHeader s) place = says-place (readHeader s) (u .read) place (ap (λ (k : Heard). k .answer) e) p in
+    record {
+      fields = a .fields;
+      reads = a .reads;
+      laid = ap (λ (k : Heard). k .header) (e ∙ ap readingHeard (a .reads));
+    }
 
 -- .. or a refusal
 pub answered-refusal : (u : Unmarshalled) (s : List ℕ) (r : Error) → heard u ≡ readingHeard (readHeader s) → u .read ≡ read.Refused r →
     (readHeader s ≡ refused (refusalOf r)) × (u .header ≡ blank)
-answered-refusal u s r e p = go (readHeader s) refl
-  where
-    go : (x : Said Reading) → readHeader s ≡ x → (readHeader s ≡ refused (refusalOf r)) × (u .header ≡ blank)
-    go (says a) is =
-        let at : refused (refusalOf r) ≡ says (a .place) = ap saidRead (sym p) ∙ ap (λ (k : Heard). k .answer) (e ∙ ap readingHeard is) in
-        let z : _≡_ {A = ℕ} 0 1 = cc in
-        absurd (omega arith)
-    go (refused a) is =
-        let h : heard u ≡ readingHeard (refused a) = e ∙ ap readingHeard is in
-        let at : refused (refusalOf r) ≡ refused a = ap saidRead (sym p) ∙ ap (λ (k : Heard). k .answer) h in
-        let same : a ≡ refusalOf r = cc in
-        (is ∙ ap refused same, ap (λ (k : Heard). k .header) h)
+answered-refusal u s r e p =
+    let is : readHeader s ≡ refused (refusalOf r) = says-refusal (readHeader s) (u .read) r (ap (λ (k : Heard). k .answer) e) p in
+    (is, ap (λ (k : Heard). k .header) (e ∙ ap readingHeard is))
+
+-- ---- what a header that was read shows of its packet
+
+-- the block that begins behind the extension's head, at `at`
+pub record Extended (s : List ℕ) (at : ℕ) (es : List Element) : Type 0 where
+  pub inside : at + 4 + 4 * u16At s (at + 2) ≤ length s
+  pub block : Block
+  pub reads : blockOf s at ≡ says block
+  pub elements : es ≡ block .elements
+
+pub record Shown (s : List ℕ) (r : Reading) : Type 0 where
+  pub place : r .place ≤ length s
+  pub fixed : fixedLength (countOf s) ≤ length s
+  pub sources : r .fields .csrcs ≡ csrcsAt s 12 (countOf s)
+  pub extended : (r .fields .elements ≡ []) ⊎ Extended s (fixedLength (countOf s)) (r .fields .elements)
+
+abbrev Shows : List ℕ → Said Reading → Type 0
+Shows s (says r) = Shown s r
+Shows s (refused r) = Unit
+
+by-test : (s : List ℕ) (t : Bool) (x y : Said Reading) → (t ≡ true → Shows s x) → (t ≡ false → Shows s y) → Shows s (cond t x y)
+by-test s true x y a b = a refl
+by-test s false x y a b = b refl
+
+module _ (s : List ℕ) (fixed : fixedLength (countOf s) ≤ length s) where
+  abbrev from : ℕ
+  from = fixedLength (countOf s)
+
+  shows-plain : Shows s (readingOf s (countOf s) 0 (says (blockAt s from 0)))
+  unfolding fieldsAt
+  shows-plain = record { place = omega arith; fixed = fixed; sources = refl; extended = inl refl }
+
+  shows-block : from + 4 + 4 * u16At s (from + 2) ≤ length s → (b : Said Block) → blockOf s from ≡ b →
+      Shows s (readingOf s (countOf s) (u16At s from) b)
+  unfolding fieldsAt
+  shows-block inside (says b) is =
+      record {
+        place = omega arith;
+        fixed = fixed;
+        sources = refl;
+        extended = inr (record { inside = inside; block = b; reads = is; elements = refl });
+      }
+  shows-block inside (refused r) is = tt
+
+  shows-extension : Shows s (readExtension s (countOf s) from)
+  unfolding readExtension
+  shows-extension =
+      let past : ℕ = from + 4 + 4 * u16At s (from + 2) in
+      let whole : Said Reading = readingOf s (countOf s) (u16At s from) (blockOf s from) in
+      by-test s (ltb (length s) (from + 4)) (refuse 2) (cond (ltb (length s) past) (refuse 2) whole) (λ _. tt)
+      (λ _. by-test s (ltb (length s) past) (refuse 2) whole (λ _. tt)
+      (λ e. shows-block (ltb-false (length s) past e) (blockOf s from) refl))
+
+shows-header : (s : List ℕ) → Shows s (readHeader s)
+unfolding readHeader readFixed
+shows-header s =
+    let n : ℕ = length s in
+    let at : ℕ = fixedLength (countOf s) in
+    let extended : Said Reading = readExtension s (countOf s) at in
+    let plain : Said Reading = readingOf s (countOf s) 0 (says (blockAt s at 0)) in
+    let behind : Said Reading = cond (bit (getD s 0 0 / 16)) extended plain in
+    by-test s (ltb 65535 n) (refuse 8) (cond (ltb n 4) (refuse 1) (readFixed s (countOf s))) (λ _. tt)
+    (λ _. by-test s (ltb n 4) (refuse 1) (readFixed s (countOf s)) (λ _. tt)
+    (λ _. by-test s (ltb n at) (refuse 1) behind (λ _. tt)
+    (λ e. by-test s (bit (getD s 0 0 / 16)) extended plain
+    (λ _. shows-extension s (ltb-false n at e))
+    (λ _. shows-plain s (ltb-false n at e)))))
+
+pub shown : (s : List ℕ) (r : Reading) → readHeader s ≡ says r → Shown s r
+shown s r e = subst (Shows s) e (shows-header s)
 
 -- a payload begins within the packet
-abbrev Inside : ℕ → Said Reading → Type 0
-Inside n (says r) = r .place ≤ n
-Inside n (refused r) = Unit
-
-inside-test : (n : ℕ) (t : Bool) (x y : Said Reading) → Inside n x → Inside n y → Inside n (cond t x y)
-inside-test n true x y a b = a
-inside-test n false x y a b = b
-
-inside-block : (s : List ℕ) (cc profile : ℕ) (b : Said Block) → Inside (length s) (readingOf s cc profile b)
-inside-block s cc profile (says b) = omega arith
-inside-block s cc profile (refused r) = tt
-
-inside-extension : (s : List ℕ) (cc at : ℕ) → Inside (length s) (readExtension s cc at)
-unfolding readExtension
-inside-extension s cc at =
-    let b : Said Block = readBlock (formOf (u16At s at)) (blockAt s (at + 4) (4 * u16At s (at + 2))) in
-    let whole : Said Reading = readingOf s cc (u16At s at) b in
-    inside-test (length s) (ltb (length s) (at + 4)) (refuse 2) (cond (ltb (length s) (at + 4 + 4 * u16At s (at + 2))) (refuse 2) whole) tt
-    (inside-test (length s) (ltb (length s) (at + 4 + 4 * u16At s (at + 2))) (refuse 2) whole tt (inside-block s cc (u16At s at) b))
-
-inside-header : (s : List ℕ) → Inside (length s) (readHeader s)
-unfolding readHeader readFixed
-inside-header s =
-    let n : ℕ = length s in
-    let cc : ℕ = countOf s in
-    let at : ℕ = fixedLength cc in
-    inside-test n (ltb 65535 n) (refuse 8) (cond (ltb n 4) (refuse 1) (readFixed s cc)) tt
-    (inside-test n (ltb n 4) (refuse 1) (readFixed s cc) tt
-    (inside-test n (ltb n at) (refuse 1) (cond (bit (getD s 0 0 / 16)) (readExtension s cc at) (readingOf s cc 0 (says (blockAt s at 0)))) tt
-    (inside-test n (bit (getD s 0 0 / 16)) (readExtension s cc at) (readingOf s cc 0 (says (blockAt s at 0)))
-    (inside-extension s cc at)
-    (inside-block s cc 0 (says (blockAt s at 0))))))
-
 pub place-inside : (s : List ℕ) (r : Reading) → readHeader s ≡ says r → r .place ≤ length s
-place-inside s r e = subst (Inside (length s)) e (inside-header s)
+place-inside s r e = shown s r e .place

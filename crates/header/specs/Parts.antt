@@ -1,7 +1,9 @@
 -- A header in its parts: the fixed fields, the numbers, the arrays. Assumes nothing.
 use mathlib.Core.List.{List, []}
-use Prim.Native.Nat.{ℕ}
+use Prim.Native.Nat.{ℕ, _/_, _%_}
+use lib.ListN.{getD}
 use Rattle.error.specs.Said.{Said, says, refused}
+use Rattle.wire.specs.Net.{u16At, u32At, bit}
 use Rattle.wire.specs.Part.{padTo}
 use Rattle.elements.specs.declared.Extensions.{Extensions}
 use Rattle.elements.specs.Elements.{layElements}
@@ -60,6 +62,31 @@ frontOf h =
       count = h .extensions .count;
       «extensions_padding» = h .«extensions_padding»;
       «extension_profile» = h .«extension_profile»;
+    }
+
+-- the fixed fields in front of a packet's bytes
+unfoldable pub fixedAt : List ℕ → Fixed
+fixedAt s =
+    record {
+      version = getD s 0 0 / 64;
+      padding = bit (getD s 0 0 / 32);
+      extension = bit (getD s 0 0 / 16);
+      marker = bit (getD s 1 0 / 128);
+      «payload_type» = getD s 1 0 % 128;
+      «sequence_number» = u16At s 2;
+      timestamp = u32At s 4;
+      ssrc = u32At s 8;
+    }
+
+-- the front of a record in front of a packet's bytes, with the numbers of a block
+abbrev pub frontAt : List ℕ → ℕ → ℕ → ℕ → ℕ → Front
+frontAt s cc profile count pads =
+    record {
+      fixed = fixedAt s;
+      «csrc_count» = cc;
+      count = count;
+      «extensions_padding» = pads;
+      «extension_profile» = profile;
     }
 
 -- the answer, and the front of the record beside it

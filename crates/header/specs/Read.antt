@@ -53,12 +53,16 @@ readingOf s cc profile (refused r) = refused r
 readingOf s cc profile (says b) =
     says (record { fields = fieldsAt s cc profile b; place = length s - length (b .rest) })
 
+-- the block of the extension that begins at `at`
+abbrev pub blockOf : List ℕ → ℕ → Said Block
+blockOf s at = readBlock (formOf (u16At s at)) (blockAt s (at + 4) (4 * u16At s (at + 2)))
+
 -- "2: extension header or block longer than the packet"; `at` is where the extension begins
 unfoldable pub readExtension : List ℕ → ℕ → ℕ → Said Reading
 readExtension s cc at =
     cond (ltb (length s) (at + 4)) (refuse 2)
     (cond (ltb (length s) (at + 4 + 4 * u16At s (at + 2))) (refuse 2)
-    (readingOf s cc (u16At s at) (readBlock (formOf (u16At s at)) (blockAt s (at + 4) (4 * u16At s (at + 2))))))
+    (readingOf s cc (u16At s at) (blockOf s at)))
 
 -- "1: under 4 bytes, or under 12 + 4 x CC"
 unfoldable pub readFixed : List ℕ → ℕ → Said Reading

@@ -1,12 +1,10 @@
 -- What each answer says, in the paper's numbers and values, and the answer that each definition asks for. Assumes nothing.
 use mathlib.Core.List.{List, []}
-use Prim.Native.Nat.{ℕ, _/_, _%_}
-use lib.ListN.{length, getD}
+use Prim.Native.Nat.{ℕ}
+use lib.ListN.{length}
 use Rattle.error.specs.Said.{Said, says, refused}
 use Rattle.error.specs.Refusal.{refusalOf}
-use Rattle.wire.specs.Net.{u16At, u32At, bit}
 use Rattle.wire.specs.Part.{padTo, splice}
-use Rattle.elements.specs.declared.Extensions.{Extensions}
 use Rattle.elements.specs.Named.{Found, absent, at}
 use Rattle.header_write.specs.declared.Length.{Length}
 use Rattle.header_write.specs.Said.{saidLength}
@@ -23,7 +21,7 @@ use Rattle.header.specs.declared.IdCount.{IdCount}
 use Rattle.header.specs.declared.IdCount.the-variants as ids
 use Rattle.header.specs.declared.Ids.{Ids}
 use Rattle.header.specs.Fields.{layOut, blank}
-use Rattle.header.specs.Read.{Reading, csrcsAt}
+use Rattle.header.specs.Read.{Reading}
 
 -- ---- reading
 
@@ -43,25 +41,6 @@ heard u = record { answer = saidRead (u .read); header = u .header }
 abbrev pub readingHeard : Said Reading → Heard
 readingHeard (says r) = record { answer = says (r .place); header = layOut (r .fields) }
 readingHeard (refused r) = record { answer = refused r; header = blank }
-
--- the header in front of a packet's bytes, with extensions that were read already
-unfoldable pub headerAt : List ℕ → ℕ → ℕ → Extensions → ℕ → Header
-headerAt s cc profile list pads =
-    record {
-      version = getD s 0 0 / 64;
-      padding = bit (getD s 0 0 / 32);
-      extension = bit (getD s 0 0 / 16);
-      marker = bit (getD s 1 0 / 128);
-      «payload_type» = getD s 1 0 % 128;
-      «sequence_number» = u16At s 2;
-      timestamp = u32At s 4;
-      ssrc = u32At s 8;
-      «csrc_count» = cc;
-      csrc = padTo 15 (csrcsAt s 12 cc);
-      «extension_profile» = profile;
-      extensions = list;
-      «extensions_padding» = pads;
-    }
 
 -- ---- sizes and writing
 

@@ -1,13 +1,16 @@
 // Reading a header: judged first, without its arrays; then these are filled.
 ghost use mathlib.Core.Path.{_≡_};
-ghost use Prim.Native.Nat.{_+_, _*_, _<_, _≤_};
+ghost use mathlib.Core.List.{[]};
+ghost use Prim.Native.Nat.{_+_, _*_, _≤_};
 ghost use lib.ListN.{length};
 ghost use Rattle.error.specs.Refusal.{refusalOf};
-ghost use Rattle.error.specs.Said.{refused};
+ghost use Rattle.error.specs.Said.{says, refused};
+ghost use Rattle.wire.specs.Net.{u16At};
 ghost use Rattle.wire.specs.Part.{padTo};
+ghost use Rattle.block_read.specs.Said.{Answers, elementsRead, Laid};
 ghost use Rattle.header.specs.Fields.{blank};
-ghost use Rattle.header.specs.Parts.{heardFront, frontHeard, lentRead};
-ghost use Rattle.header.specs.Read.{csrcsAt, readExtension, fixedLength, readHeader};
+ghost use Rattle.header.specs.Parts.{together, fixedAt, frontAt, frontOf, heardFront, frontHeard, lentRead};
+ghost use Rattle.header.specs.Read.{csrcsAt, blockOf, readExtension, fixedLength, readHeader};
 ghost use Rattle.header.specs.Said.{heard, readingHeard};
 use crate::Fixed;
 use crate::Front;
@@ -47,7 +50,10 @@ fn front_at(
     profile: u16,
     count: usize,
     zeros: usize,
-) -> FrontRead {
+) -> FrontRead
+    requires { ⌜ 12 ≤ length (now packet) ⌝ }
+    ensures { λ r. ⌜ heardFront r ≡ record { answer = says place; front = frontAt (now (packet .entry)) cc profile count zeros } ⌝ }
+{
     FrontRead {
         read: HeaderRead::Payload(place),
         front: Front {
@@ -65,22 +71,7 @@ fn refused_front(e: Error) -> FrontRead
 {
     FrontRead {
         read: HeaderRead::Refused(e),
-        front: Front {
-            fixed: Fixed {
-                version: 0,
-                padding: false,
-                extension: false,
-                marker: false,
-                payload_type: 0,
-                sequence_number: 0,
-                timestamp: 0,
-                ssrc: 0,
-            },
-            csrc_count: 0,
-            count: 0,
-            extensions_padding: 0,
-            extension_profile: 0,
-        },
+        front: Front::default(),
     }
 }
 
@@ -140,12 +131,34 @@ pub fn unmarshal_front(packet: &[u8]) -> FrontRead
     front_at(packet, at, cc, 0, 0, 0)
 }
 
-fn fill_csrcs(packet: &[u8], cc: usize, csrc: &mut [u32; 15]) {
+fn fill_csrcs(packet: &[u8], cc: usize, csrc: &mut [u32; 15])
+    requires { ⌜ (cc ≤ 15) × (fixedLength cc ≤ length (now packet)) ⌝ }
+    ensures { λ _. ⌜ now (csrc .exit) ≡ padTo 15 (csrcsAt (now (packet .entry)) 12 cc) ⌝ }
+{
+    *csrc = [0; 15];
     let mut i = 0;
     while i < cc {
         csrc[i] = wire::get_u32(packet, 12 + 4 * i);
         i += 1;
     }
+}
+
+// The elements of an extension that was seen at `at`, into arrays of zeros.
+fn fill_extended(
+    packet: &[u8],
+    at: usize,
+    ids: &mut [u8; 32],
+    lens: &mut [u16; 32],
+    bytes: &mut [u8; 1024],
+)
+    requires { ⌜ at + 4 + 4 * u16At (now packet) (at + 2) ≤ length (now packet) ⌝ }
+    requires { ⌜ Answers (blockOf (now packet) at) ⌝ }
+    requires { ⌜ Laid [] (now ids) (now lens) (now bytes) ⌝ }
+    ensures { λ _. ⌜ Laid (elementsRead (blockOf (now (packet .entry)) at)) (now (ids .exit)) (now (lens .exit)) (now (bytes .exit)) ⌝ }
+{
+    let profile = wire::get_u16(packet, at);
+    let len = 4 * wire::wide16(wire::get_u16(packet, at + 2));
+    fill_block(packet, at + 4, len, profile, ids, lens, bytes);
 }
 
 // The front, and the record's arrays, which are lent.
@@ -166,7 +179,6 @@ pub fn unmarshal_parts(
         return seen;
     };
     let cc = seen.front.csrc_count;
-    *csrc = [0; 15];
     fill_csrcs(packet, cc, csrc);
     *ids = [0; 32];
     *lens = [0; 32];
@@ -175,6 +187,57 @@ pub fn unmarshal_parts(
         fill_extended(packet, 12 + 4 * cc, ids, lens, bytes);
     }
     seen
+}
+
+impl Front {
+    // All zeros.
+    pub fn default() -> Self
+        ensures { λ r. ⌜ r ≡ frontOf blank ⌝ }
+    {
+        Front {
+            fixed: Fixed {
+                version: 0,
+                padding: false,
+                extension: false,
+                marker: false,
+                payload_type: 0,
+                sequence_number: 0,
+                timestamp: 0,
+                ssrc: 0,
+            },
+            csrc_count: 0,
+            count: 0,
+            extensions_padding: 0,
+            extension_profile: 0,
+        }
+    }
+
+    // The record with these arrays.
+    pub fn with(self, csrc: [u32; 15], ids: [u8; 32], lens: [u16; 32], bytes: [u8; 1024]) -> Header
+        ensures { λ r. ⌜ r ≡ together (self .fixed) (self .«csrc_count») csrc (self .«extension_profile») (record { count = self .count; ids = ids; lens = lens; bytes = bytes }) (self .«extensions_padding») ⌝ }
+    {
+        let fixed = self.fixed;
+        Header {
+            version: fixed.version,
+            padding: fixed.padding,
+            extension: fixed.extension,
+            marker: fixed.marker,
+            payload_type: fixed.payload_type,
+            sequence_number: fixed.sequence_number,
+            timestamp: fixed.timestamp,
+            ssrc: fixed.ssrc,
+            csrc_count: self.csrc_count,
+            csrc,
+            extension_profile: self.extension_profile,
+            extensions: Extensions {
+                count: self.count,
+                ids,
+                lens,
+                bytes,
+            },
+            extensions_padding: self.extensions_padding,
+        }
+    }
 }
 
 impl Header {
@@ -207,30 +270,11 @@ impl Header {
         let mut lens = [0u16; 32];
         let mut bytes = [0u8; 1024];
         let seen = unmarshal_parts(packet, &mut csrc, &mut ids, &mut lens, &mut bytes);
+        let read = seen.read;
         let front = seen.front;
-        let fixed = front.fixed;
         Unmarshalled {
-            read: seen.read,
-            header: Header {
-                version: fixed.version,
-                padding: fixed.padding,
-                extension: fixed.extension,
-                marker: fixed.marker,
-                payload_type: fixed.payload_type,
-                sequence_number: fixed.sequence_number,
-                timestamp: fixed.timestamp,
-                ssrc: fixed.ssrc,
-                csrc_count: front.csrc_count,
-                csrc,
-                extension_profile: front.extension_profile,
-                extensions: Extensions {
-                    count: front.count,
-                    ids,
-                    lens,
-                    bytes,
-                },
-                extensions_padding: front.extensions_padding,
-            },
+            read,
+            header: front.with(csrc, ids, lens, bytes),
         }
     }
 }

@@ -1,5 +1,5 @@
 -- The tests of the profile are those of `formOf`, and a block of another profile is one element.
-use mathlib.Core.Path.{_≡_, sym, ap, _∙_}
+use mathlib.Core.Path.{sym, ap, _∙_}
 use mathlib.Core.List.{[], _∷_}
 use Prim.Native.Nat.{_+_}
 use lib.ListN.{length}
