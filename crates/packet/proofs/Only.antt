@@ -1,5 +1,5 @@
--- "that no second answer satisfies it is proved": each public call's contract is met by one answer, and by no other. For the writer an
--- answer is the result with the buffer as it is left. Assumes nothing.
+-- "that no second answer satisfies it is proved": each public call's contract is met by one answer, and by no other. For a call that is
+-- lent a buffer or arrays an answer is the result with these as they are left. Assumes nothing.
 use mathlib.Core.Path.{_≡_, refl, ap}
 use mathlib.Core.Bool.{cond, _&&_}
 use mathlib.Core.List.{List}
@@ -10,11 +10,12 @@ use Rattle.error.specs.Refusal.{Refusal}
 use Rattle.error.specs.Said.{Said, says, refused, refuse}
 use Rattle.error.specs.Only.{Determined}
 use Rattle.error.proofs.Inverse.{errorOf, errorOf-refusalOf}
-use Rattle.error.proofs.Only.{by-view, Sayable, either-sayable, known, passed}
+use Rattle.error.proofs.Only.{by-value, by-view, by-both, Sayable, either-sayable, known, passed}
 use Rattle.block.specs.Form.{Form, formOf}
 use Rattle.header.specs.declared.Header.{Header}
 use Rattle.header_write.specs.declared.Length.{Length}
 use Rattle.header.specs.Fields.{Fields, fieldsOf, blank, inDomain}
+use Rattle.header.specs.Parts.{frontOf, Lent}
 use Rattle.header.specs.Read.{Reading, readHeader}
 use Rattle.header.specs.Size.{payloadLength}
 use Rattle.header_write.specs.Judge.{judged}
@@ -25,9 +26,12 @@ use Rattle.header.proofs.Only.{length-only, Left, heardLeft, written-only, judg
 use Rattle.packet.specs.declared.PacketRead.{PacketRead}
 use Rattle.packet.specs.declared.PacketRead.the-variants as read
 use Rattle.packet.specs.declared.Unmarshalled.{Unmarshalled}
+use Rattle.packet.specs.declared.FrontRead.{FrontRead}
+use Rattle.packet.specs.Fronts.{FrontHeard, heardFront, frontHeard, lentRead}
 use Rattle.packet.specs.Read.{Payload, stripped, payloadAt, PacketReading, with-fields, behind, readPacket}
 use Rattle.packet.specs.Write.{packetOctets, packetSize, shortEnough, packetSizeAsked, writePacket}
 use Rattle.packet.specs.Said.{saidRead, Heard, heard, readingHeard}
+use Rattle.packet.proofs.Reading.{saidFront}
 
 -- ---- size and writing
 
@@ -105,3 +109,26 @@ pub unmarshal-only : (s : List ℕ) → Determined (λ (r : Unmarshalled). heard
 unmarshal-only s =
     by-view heard unmarshalledOf unmarshalledOf-heard (unmarshalledOf (readingHeard (readPacket s))) (readingHeard (readPacket s))
     (heard-unmarshalledOf (readPacket s) (packet-sayable s))
+
+-- .. without the arrays
+abbrev frontReadOf : FrontHeard → FrontRead
+frontReadOf h = record { read = readOf (h .answer); front = h .front }
+
+frontReadOf-heard : (a : FrontRead) → frontReadOf (heardFront a) ≡ a
+frontReadOf-heard a = ap (λ (r : PacketRead). record { read = r; front = a .front }) (readOf-said (a .read))
+
+heard-frontReadOf : (x : Said PacketReading) → Sayable x → heardFront (frontReadOf (saidFront x)) ≡ saidFront x
+heard-frontReadOf (says r) s = refl
+heard-frontReadOf (refused r) s =
+    ap (λ (k : Refusal). record { answer = refused k; front = frontOf blank }) (known {A = PacketReading} {r = r} s)
+
+pub unmarshal-front-only : (s : List ℕ) → Determined (λ (r : FrontRead). heardFront r ≡ frontHeard (readingHeard (readPacket s)))
+unmarshal-front-only s =
+    let said : FrontHeard = saidFront (readPacket s) in
+    by-view heardFront frontReadOf frontReadOf-heard (frontReadOf said) said (heard-frontReadOf (readPacket s) (packet-sayable s))
+
+pub unmarshal-parts-only : (s : List ℕ) (old : Lent) →
+    Determined
+    (λ (a : FrontRead × Lent).
+    (heardFront (a .0) ≡ frontHeard (readingHeard (readPacket s))) × (a .1 ≡ lentRead old (readPacket s)))
+unmarshal-parts-only s old = by-both (unmarshal-front-only s) (by-value (lentRead old (readPacket s)))

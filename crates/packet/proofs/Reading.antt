@@ -7,14 +7,21 @@ use native.Mathlib.Omega.{arith}
 use lib.Dec.{ltb, eqb}
 use lib.ListN.{length, getD}
 use Rattle.error.specs.declared.Error.{Error}
-use Rattle.error.specs.Refusal.{Refusal, refusalOf}
+use Rattle.error.specs.Refusal.{refusalOf}
 use Rattle.error.specs.Said.{Said, says, refused, refuse}
+use Rattle.error.proofs.Refusing.{not-says}
 use Rattle.header.specs.declared.Header.{Header}
+use Rattle.header.specs.declared.Front.{Front}
 use Rattle.header.specs.Fields.{Fields, layOut, blank}
+use Rattle.header.specs.Parts as header
+use Rattle.header.specs.Parts.{frontOf, Lent, lentOf}
 use Rattle.header.specs.Read.{Reading, readHeader}
-use Rattle.header.proofs.Reading.{Answered, place-inside}
+use Rattle.header.proofs.Reading.{place-inside}
+use Rattle.header.proofs.Fronts.{FrontAnswered, withArrays, front-whole, zeros, blank-whole}
 use Rattle.packet.specs.declared.PacketRead.{PacketRead}
 use Rattle.packet.specs.declared.PacketRead.the-variants as read
+use Rattle.packet.specs.declared.FrontRead.{FrontRead}
+use Rattle.packet.specs.Fronts.{FrontHeard, heardFront, frontHeard, lentRead}
 use Rattle.packet.specs.Read.{Payload, stripped, payloadAt, PacketReading, with-fields, behind, readPacket}
 use Rattle.packet.specs.Said.{saidRead, Heard, heard, readingHeard}
 
@@ -23,37 +30,92 @@ pub packet-refused : (s : List ℕ) (e : Error) → readHeader s ≡ refused (re
 unfolding readPacket
 packet-refused s e h = ap (behind s) h
 
-module _ (s : List ℕ) (h : Header) (at : ℕ) (a : Answered s h at) where
-  padding-is : h .padding ≡ a .fields .padding
+module _ (s : List ℕ) (f : Front) (at : ℕ) (a : FrontAnswered s f at) where
+  padding-is : f .fixed .padding ≡ a .fields .padding
   unfolding layOut
-  padding-is = ap (λ (x : Header). x .padding) (a .laid)
+  padding-is = ap (λ (x : Front). x .fixed .padding) (a .laid)
 
-  pub packet-plain : h .padding ≡ false →
+  pub packet-plain : f .fixed .padding ≡ false →
       readPacket s ≡ says (record { fields = a .fields; payload = record { place = at; len = length s - at } })
   unfolding readPacket
   packet-plain e = ap (behind s) (a .reads) ∙ rw (sym padding-is ∙ e)
 
-  pub packet-padded : h .padding ≡ true → readPacket s ≡ with-fields (a .fields) (stripped s at)
+  pub packet-padded : f .fixed .padding ≡ true → readPacket s ≡ with-fields (a .fields) (stripped s at)
   unfolding readPacket
   packet-padded e = ap (behind s) (a .reads) ∙ rw (sym padding-is ∙ e)
 
--- the record beside the payload's answer
-module _ (f : Fields) (r : PacketRead) (h : Header) where
-  beside : (r′ : PacketRead) (h′ : Header) → r ≡ r′ → h ≡ h′ →
-      heard (record { read = r′; header = h′ }) ≡ readingHeard (with-fields f (saidRead r′)) →
-      heard (record { read = r; header = h }) ≡ readingHeard (with-fields f (saidRead r))
+-- what reading answers, without the arrays
+abbrev pub saidFront : Said PacketReading → FrontHeard
+saidFront x = frontHeard (readingHeard x)
+
+-- the front beside the payload's answer
+module _ (f : Fields) (r : PacketRead) (h : Front) where
+  beside : (r′ : PacketRead) (h′ : Front) → r ≡ r′ → h ≡ h′ →
+      heardFront (record { read = r′; front = h′ }) ≡ saidFront (with-fields f (saidRead r′)) →
+      heardFront (record { read = r; front = h }) ≡ saidFront (with-fields f (saidRead r))
   beside r′ h′ er eh e =
-      ap₂ (λ (x : PacketRead) (y : Header). heard (record { read = x; header = y })) er eh
+      ap₂ (λ (x : PacketRead) (y : Front). heardFront (record { read = x; front = y })) er eh
       ∙ e
-      ∙ sym (ap (λ (x : PacketRead). readingHeard (with-fields f (saidRead x))) er)
+      ∙ sym (ap (λ (x : PacketRead). saidFront (with-fields f (saidRead x))) er)
 
-  pub beside-payload : (place len : ℕ) → r ≡ read.Payload place len → h ≡ layOut f →
-      heard (record { read = r; header = h }) ≡ readingHeard (with-fields f (saidRead r))
-  beside-payload place len er eh = beside (read.Payload place len) (layOut f) er eh refl
+  pub beside-payload : (place len : ℕ) → r ≡ read.Payload place len → h ≡ frontOf (layOut f) →
+      heardFront (record { read = r; front = h }) ≡ saidFront (with-fields f (saidRead r))
+  beside-payload place len er eh = beside (read.Payload place len) (frontOf (layOut f)) er eh refl
 
-  pub beside-refusal : (e : Error) → r ≡ read.Refused e → h ≡ blank →
-      heard (record { read = r; header = h }) ≡ readingHeard (with-fields f (saidRead r))
-  beside-refusal e er eh = beside (read.Refused e) blank er eh refl
+  pub beside-refusal : (e : Error) → r ≡ read.Refused e → h ≡ frontOf blank →
+      heardFront (record { read = r; front = h }) ≡ saidFront (with-fields f (saidRead r))
+  beside-refusal e er eh = beside (read.Refused e) (frontOf blank) er eh refl
+
+-- ---- the arrays
+
+-- an answer with a payload is that of a packet that was read
+module _ (q : FrontRead) (x : Said PacketReading) (e : heardFront q ≡ saidFront x) where
+  answers : saidRead (q .read) ≡ saidFront x .answer
+  answers = ap (λ (k : FrontHeard). k .answer) e
+
+  pub front-says : (place len : ℕ) → q .read ≡ read.Payload place len → (r : PacketReading) × (x ≡ says r)
+  front-says place len p = go x answers
+    where
+      go : (y : Said PacketReading) → saidRead (q .read) ≡ saidFront y .answer → (r : PacketReading) × (y ≡ says r)
+      go (says r) a = (r, refl)
+      go (refused r) a = absurd (not-says (sym (ap saidRead (sym p) ∙ a)))
+
+  -- .. and a refusal leaves them
+  pub front-refusal : (old : Lent) (r : Error) → q .read ≡ read.Refused r → old ≡ lentRead old x
+  front-refusal old r p = go x answers
+    where
+      go : (y : Said PacketReading) → saidRead (q .read) ≡ saidFront y .answer → old ≡ lentRead old y
+      go (says y) a = absurd (not-says (ap saidRead (sym p) ∙ a))
+      go (refused n) a = refl
+
+-- the arrays of a packet that was read are those of its header
+pub arrays-alike : (old : Lent) (s : List ℕ) (r : PacketReading) → readPacket s ≡ says r →
+    header.lentRead old (readHeader s) ≡ lentRead old (readPacket s)
+unfolding readPacket
+arrays-alike old s r e = go (readHeader s) e
+  where
+    paid : (f : Fields) (p : Said Payload) → with-fields f p ≡ says r → lentOf (layOut f) ≡ lentRead old (with-fields f p)
+    paid f (says p) is = refl
+    paid f (refused n) is = absurd (not-says is)
+
+    go : (x : Said Reading) → behind s x ≡ says r → header.lentRead old x ≡ lentRead old (behind s x)
+    go (says h) is = paid (h .fields) (payloadAt s h) is
+    go (refused n) is = refl
+
+-- the front with the arrays, which were zeros before, is the record beside the answer
+pub whole-heard : (q : FrontRead) (l : Lent) (x : Said PacketReading) → heardFront q ≡ saidFront x → l ≡ lentRead zeros x →
+    heard (record { read = q .read; header = withArrays (q .front) l }) ≡ readingHeard x
+whole-heard q l x e a = parts ∙ go x
+  where
+    rejoined : FrontHeard → Lent → Heard
+    rejoined h l = record { answer = h .answer; header = withArrays (h .front) l }
+
+    parts : heard (record { read = q .read; header = withArrays (q .front) l }) ≡ rejoined (saidFront x) (lentRead zeros x)
+    parts i = rejoined (e i) (a i)
+
+    go : (x : Said PacketReading) → rejoined (saidFront x) (lentRead zeros x) ≡ readingHeard x
+    go (says r) = ap (λ (h : Header). record { answer = says (r .payload); header = h }) (front-whole (layOut (r .fields)))
+    go (refused r) = ap (λ (h : Header). record { answer = refused r; header = h }) blank-whole
 
 -- ---- a payload lies within the packet
 
@@ -88,14 +150,8 @@ payload-inside s r e = go (readHeader s) refl
         let same : record { fields = f; payload = p } ≡ r = cc in
         let fits : p .place + p .len ≤ length s = inside in
         subst (λ (x : PacketReading). x .payload .place + x .payload .len ≤ length s) same fits
-    taken f (refused n) q inside = absurd (no-reading q)
-      where
-        no-reading : {n : Refusal} → refused n ≡ says r → ⊥
-        no-reading z = let o : _≡_ {A = ℕ} 0 1 = cc in omega arith
+    taken f (refused n) q inside = absurd (not-says q)
 
     go : (x : Said Reading) → readHeader s ≡ x → r .payload .place + r .payload .len ≤ length s
     go (says h) is = taken (h .fields) (payloadAt s h) (sym (ap (behind s) is) ∙ e) (inside-payload s h (place-inside s h is))
-    go (refused n) is = absurd (no-packet (sym (ap (behind s) is) ∙ e))
-      where
-        no-packet : {n : Refusal} → refused n ≡ says r → ⊥
-        no-packet z = let o : _≡_ {A = ℕ} 0 1 = cc in omega arith
+    go (refused n) is = absurd (not-says (sym (ap (behind s) is) ∙ e))

@@ -1,4 +1,5 @@
 pub mod Read
 pub mod Write
 pub mod Said
+pub mod Fronts
 pub mod Plain

@@ -1,13 +1,15 @@
-// Reading a packet.
+// Reading a packet: judged first, without the arrays of its record; then these are filled.
 ghost use mathlib.Core.Path.{_≡_};
-ghost use Prim.Native.Nat.{_<_, _≤_};
+ghost use Prim.Native.Nat.{_≤_};
 ghost use lib.ListN.{length};
 ghost use Rattle.packet.specs.Read.{stripped, readPacket};
+ghost use Rattle.packet.specs.Fronts.{heardFront, frontHeard, lentRead};
 ghost use Rattle.packet.specs.Said.{saidRead, heard, readingHeard, Begins, unpadded};
+use crate::FrontRead;
 use crate::PacketRead;
 use crate::Unmarshalled;
 use error::Error;
-use header::Header;
+use header::Front;
 use header::HeaderRead;
 
 // The header's answer as that of a packet without padding: its refusal, or all from the payload's place on.
@@ -38,30 +40,68 @@ fn strip(packet: &[u8], at: usize) -> PacketRead
     PacketRead::Payload { at, len: left - n }
 }
 
-pub fn unmarshal(packet: &[u8]) -> Unmarshalled
-    ensures { λ r. ⌜ heard r ≡ readingHeard (readPacket (now (packet .entry))) ⌝ }
+// The record's front: all but its arrays.
+pub fn unmarshal_front(packet: &[u8]) -> FrontRead
+    ensures { λ r. ⌜ heardFront r ≡ frontHeard (readingHeard (readPacket (now (packet .entry)))) ⌝ }
 {
-    let answer = Header::unmarshal(packet);
-    let read = answer.read;
+    let seen = header::unmarshal_front(packet);
+    let read = seen.read;
     let HeaderRead::Payload(at) = read else {
-        return Unmarshalled {
+        return FrontRead {
             read: unpadded(read, packet.len()),
-            header: Header::default(),
+            front: Front::default(),
         };
     };
-    let header = answer.header;
-    if !header.padding {
-        return Unmarshalled {
+    let front = seen.front;
+    if !front.fixed.padding {
+        return FrontRead {
             read: unpadded(read, packet.len()),
-            header,
+            front,
         };
     }
     let read = strip(packet, at);
     let PacketRead::Payload { at: _, len: _ } = read else {
-        return Unmarshalled {
+        return FrontRead {
             read,
-            header: Header::default(),
+            front: Front::default(),
         };
     };
-    Unmarshalled { read, header }
+    FrontRead { read, front }
+}
+
+// The front, and the record's arrays, which are lent.
+pub fn unmarshal_parts(
+    packet: &[u8],
+    csrc: &mut [u32; 15],
+    ids: &mut [u8; 32],
+    lens: &mut [u16; 32],
+    bytes: &mut [u8; 1024],
+) -> FrontRead
+    ensures { λ r. ⌜ heardFront r ≡ frontHeard (readingHeard (readPacket (now (packet .entry)))) ⌝ }
+    ensures { λ _. ⌜ record { csrc = now (csrc .exit); ids = now (ids .exit); lens = now (lens .exit); bytes = now (bytes .exit) }
+        ≡ lentRead (record { csrc = now (csrc .entry); ids = now (ids .entry); lens = now (lens .entry); bytes = now (bytes .entry) }) (readPacket (now (packet .entry))) ⌝ }
+{
+    let seen = unmarshal_front(packet);
+    let read = seen.read;
+    let PacketRead::Payload { at: _, len: _ } = read else {
+        return seen;
+    };
+    header::unmarshal_parts(packet, csrc, ids, lens, bytes);
+    seen
+}
+
+pub fn unmarshal(packet: &[u8]) -> Unmarshalled
+    ensures { λ r. ⌜ heard r ≡ readingHeard (readPacket (now (packet .entry))) ⌝ }
+{
+    let mut csrc = [0u32; 15];
+    let mut ids = [0u8; 32];
+    let mut lens = [0u16; 32];
+    let mut bytes = [0u8; 1024];
+    let seen = unmarshal_parts(packet, &mut csrc, &mut ids, &mut lens, &mut bytes);
+    let read = seen.read;
+    let front = seen.front;
+    Unmarshalled {
+        read,
+        header: front.with(csrc, ids, lens, bytes),
+    }
 }

@@ -1,84 +1,23 @@
--- The header's answer is taken apart first; what follows is `stripped` with the padding bit, and the rest of the packet without.
-use mathlib.Core.Path.{sym, ap, ap₂, subst, _∙_}
-use lib.ListN.{length}
+-- The arrays were zeros, so that the front with them is the record beside the answer, also beside a refusal.
+use mathlib.Core.Path.{ap, _∙_}
 use borrow.Author.Needs.{needs}
-use borrow.Author.Tests.{not-true, not-false}
-use Rattle.error.specs.Said.{Said}
 use Rattle.header.specs.declared.Header.{Header}
-use Rattle.header.proofs.Reading.{Answered, answered, answered-refusal, place-inside}
-use Rattle.packet.specs.Read.{Payload, with-fields}
-use Rattle.packet.specs.Said.{readingHeard, Begins, unpadded}
-use Rattle.packet.proofs.Reading.{packet-refused, packet-plain, packet-padded, beside-payload, beside-refusal}
+use Rattle.packet.specs.Read.{readPacket}
+use Rattle.packet.specs.Said.{heard}
+use Rattle.packet.proofs.Reading.{whole-heard}
 use Rattle.packet.proofs.read.unmarshal.Statement.{statement}
 use Rattle.packet.proofs.read.unmarshal.Tie as tie
 
-unpadded-requires : tie.Need-unpadded-requires
-unpadded-requires c κs =
-    let s = c .before .before .before .before .args .packet .now in
-    subst (Begins (length s)) (sym (c .enum-told .given .1)) tt
-
 returns : tie.Need-returns
 returns c =
-    let s = c .before .before .before .before .before .before .args .packet .now in
-    let u = c .before .before .before .before .unmarshal in
-    let e = c .before .before .enum-told .given .0 .0 in
-    let told = c .before .before .enum-told .given .1 in
-    ap₂ (λ (x : Said Payload) (h : Header). record { answer = x; header = h })
-    (c .before .unpadded .ensures ∙ ap (unpadded (length s)) told)
-    (c .default .ensures)
-    ∙ sym (ap readingHeard (packet-refused s e (answered-refusal (u .result) s e (u .ensures) told .0)))
-
--- the header was read
-header : (c : tie.After-header) →
-    Answered (c .before .before .before .before .before .before .args .packet .now)
-    (c .before .before .before .before .unmarshal .result .header)
-    (c .before .before .read .given .0 .0)
-header c = answered (c .before .before .before .before .unmarshal .result) _ _ (c .before .before .before .before .unmarshal .ensures) (c .before .before .read .given .1)
-
-unpadded-requires-2 : tie.Need-unpadded-requires-2
-unpadded-requires-2 c κs = place-inside _ _ (header (c .before .before) .reads)
-
-returns-2 : tie.Need-returns-2
-returns-2 c =
-    let s = c .before .before .before .before .before .before .before .before .before .args .packet .now in
-    let a = header (c .before .before .before) in
-    ap₂ (λ (x : Said Payload) (h : Header). record { answer = x; header = h }) (c .unpadded2 .ensures) (a .laid)
-    ∙ sym (ap readingHeard (packet-plain s _ _ a (not-true _ (c .before .if1 .taken))))
-
-strip-requires : tie.Need-strip-requires
-strip-requires c κs = place-inside _ _ (header (c .before .before) .reads)
-
-returns-3 : tie.Need-returns-3
-returns-3 c =
-    let s = c .before .before .before .before .before .before .before .before .before .before .before .before .args .packet .now in
-    let a = header (c .before .before .before .before .before .before) in
-    beside-refusal (a .fields) (c .before .before .before .strip .result) (c .default2 .result) _ (c .before .enum-told3 .given .1) (c .default2 .ensures)
-    ∙ ap (λ (x : Said Payload). readingHeard (with-fields (a .fields) x)) (c .before .before .before .strip .ensures)
-    ∙ sym (ap readingHeard (packet-padded s _ _ a (not-false _ (c .before .before .before .before .if1 .left))))
-
-returns-4 : tie.Need-returns-4
-returns-4 c =
-    let s = c .before .before .before .before .before .before .before .before .before .before .before .args .packet .now in
-    let a = header (c .before .before .before .before .before) in
-    beside-payload (a .fields) (c .before .before .strip .result) _ _ _ (c .enum-told2 .given .1) (a .laid)
-    ∙ ap (λ (x : Said Payload). readingHeard (with-fields (a .fields) x)) (c .before .before .strip .ensures)
-    ∙ sym (ap readingHeard (packet-padded s _ _ a (not-false _ (c .before .before .before .if1 .left))))
+    let q = c .before .before .unmarshal-parts in
+    ap (λ (h : Header). heard (record { read = q .result .read; header = h })) (c .with .ensures)
+    ∙ whole-heard (q .result) _ (readPacket (c .before .before .before .before .before .before .before .before .args .packet .now)) (q .ensures .0) (q .ensures .1)
 
 pub unmarshal-spec : {M : Type 1} → statement M
 unmarshal-spec =
     tie.close
     (tie.spec
     (λ c κs. search needs)
-    (λ c. search needs)
-    (λ c. search needs)
-    unpadded-requires
     (λ c κs. search needs)
-    returns
-    unpadded-requires-2
-    returns-2
-    strip-requires
-    (λ c. search needs)
-    (λ c. search needs)
-    (λ c κs. search needs)
-    returns-3
-    returns-4)
+    returns)
