@@ -11,24 +11,25 @@ use Rattle.error.specs.Refusal.{Refusal}
 use Rattle.error.specs.Said.{Said, says, refused}
 use Rattle.error.proofs.Refusing.{not-says}
 use Rattle.wire.specs.Net.{u16At, u32At}
-use Rattle.header.specs.declared.Header.{Header}
+use Rattle.header_write.specs.declared.Fixed.{Fixed}
 use Rattle.header.specs.Fields.{layOut}
 use Rattle.header.specs.Read.{Reading, fieldsAt, countOf, fixedLength}
 use Rattle.header.proofs.Reading.{header-plain, header-long}
+use Rattle.packet.specs.Fronts.{FrontHeard, frontHeard}
 use Rattle.packet.specs.Read.{Payload, PacketReading, behind, readPacket}
-use Rattle.packet.specs.Said.{Heard, readingHeard}
+use Rattle.packet.specs.Said.{readingHeard}
 use Rattle.packet.proofs.Reading.{payload-inside}
 use Rattle.joiner_read.specs.Arrive.{Arrived, arrivalOf}
 
 -- the reader's answer, shrunk to what the joiner needs
-abbrev pub shrunk : Heard → Said Arrived
-shrunk h = shrink (h .answer) (h .header)
+abbrev pub shrunk : FrontHeard → Said Arrived
+shrunk h = shrink (h .answer) (h .front .fixed)
   where
-    shrink : Said Payload → Header → Said Arrived
-    shrink (says p) r = says (record { source = r .ssrc; number = r .«sequence_number»; place = p .place; len = p .len })
-    shrink (refused e) r = refused e
+    shrink : Said Payload → Fixed → Said Arrived
+    shrink (says p) f = says (record { source = f .ssrc; number = f .«sequence_number»; place = p .place; len = p .len })
+    shrink (refused e) f = refused e
 
-pub shrunk-is : (x : Said PacketReading) → shrunk (readingHeard x) ≡ arrivalOf x
+pub shrunk-is : (x : Said PacketReading) → shrunk (frontHeard (readingHeard x)) ≡ arrivalOf x
 unfolding layOut
 shrunk-is (says r) = refl
 shrunk-is (refused r) = refl

@@ -20,12 +20,12 @@ pub enum Arrival {
 fn read(packet: &[u8]) -> Arrival
     ensures { λ r. ⌜ arrivalSaid r ≡ arrivalOf (readPacket (now (packet .entry))) ⌝ }
 {
-    let answer = packet::unmarshal(packet);
+    let answer = packet::unmarshal_front(packet);
     let read = answer.read;
     match read {
         PacketRead::Payload { at, len } => Arrival::Packet {
-            source: answer.header.ssrc,
-            number: answer.header.sequence_number,
+            source: answer.front.fixed.ssrc,
+            number: answer.front.fixed.sequence_number,
             at,
             len,
         },

@@ -10,15 +10,15 @@ use Rattle.joiner_read.proofs.read.Tie as tie
 
 returns : tie.Need-returns
 returns c =
-    let u = c .before .before .before .unmarshal in
-    sym (ap (λ (r : PacketRead). shrunk (record { answer = saidRead r; header = u .result .header })) (c .before .read .given .1))
+    let u = c .before .before .before .unmarshal-front in
+    sym (ap (λ (r : PacketRead). shrunk (record { answer = saidRead r; front = u .result .front })) (c .before .read .given .1))
     ∙ ap shrunk (u .ensures)
     ∙ shrunk-is (readPacket (c .before .before .before .before .before .args .packet .now))
 
 returns-2 : tie.Need-returns-2
 returns-2 c =
-    let u = c .before .before .before .unmarshal in
-    sym (ap (λ (r : PacketRead). shrunk (record { answer = saidRead r; header = u .result .header })) (c .before .read2 .given .1))
+    let u = c .before .before .before .unmarshal-front in
+    sym (ap (λ (r : PacketRead). shrunk (record { answer = saidRead r; front = u .result .front })) (c .before .read2 .given .1))
     ∙ ap shrunk (u .ensures)
     ∙ shrunk-is (readPacket (c .before .before .before .before .before .args .packet .now))
 
