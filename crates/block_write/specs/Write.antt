@@ -1,11 +1,11 @@
 -- The octets of a block of elements, and which elements can be written. Assumes nothing.
-use mathlib.Core.Bool.{Bool, true, _&&_}
+use mathlib.Core.Bool.{Bool, true, cond, _&&_}
 use mathlib.Core.List.{List, [], _∷_, _++_}
 use Prim.Native.Nat.{ℕ, _+_, _-_, _*_}
 use lib.Dec.{leb}
 use lib.ListN.{length, replicate}
 use Rattle.wire.specs.Net.{be16}
-use Rattle.elements.specs.Elements.{Element}
+use Rattle.elements.specs.Elements.{Element, sum}
 use Rattle.block.specs.Form.{Form, one-byte, two-byte, other, formOf, wordsFor}
 
 -- ---- the octets
@@ -46,3 +46,7 @@ abbrev pub allFit : Form → List ℕ → List ℕ → Bool
 allFit form [] lens = true
 allFit form (i ∷ ids) [] = true
 allFit form (i ∷ ids) (l ∷ lens) = fits form i l && allFit form ids lens
+
+-- the sum of the lengths where all can be written, else one more than the 1,024 data bytes of a record: both are 8
+unfoldable pub weight : Form → List ℕ → List ℕ → ℕ
+weight form ids lens = cond (allFit form ids lens) (sum lens) 1025

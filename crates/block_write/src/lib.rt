@@ -8,7 +8,7 @@ ghost use lib.ListN.{length, take};
 ghost use Rattle.elements.specs.Elements.{Packed, elementsIn, sum};
 ghost use Rattle.block.specs.Form.{formOf, lengthFor};
 ghost use Rattle.wire.specs.Part.{Put};
-ghost use Rattle.block_write.specs.Write.{elementOctets, blockOctets, extensionFor, fits, allFit, allWritable};
+ghost use Rattle.block_write.specs.Write.{elementOctets, blockOctets, extensionFor, fits, weight, allWritable};
 use block::EXTENSION_PROFILE_ONE_BYTE;
 use block::EXTENSION_PROFILE_TWO_BYTE;
 use wire::wide16;
@@ -24,20 +24,25 @@ fn fits(profile: u16, id: u8, len: u16) -> bool
     }
 }
 
-// Whether each of the first `count` elements can.
-pub fn all_fit<'a>(profile: u16, count: usize, ids: &'a [u8], lens: &'a [u16]) -> bool
-    requires { ⌜ count ≤ length (now ids) ⌝ }
-    requires { ⌜ count ≤ length (now lens) ⌝ }
-    ensures { λ r. ⌜ r ≡ allFit (formOf profile) (take count (now (ids .entry))) (take count (now (lens .entry))) ⌝ }
+// How many data bytes the first `count` elements have; one more than a record holds where one of them cannot be written.
+pub fn weigh<'a>(profile: u16, count: usize, ids: &'a [u8; 32], lens: &'a [u16; 32]) -> usize
+    requires { ⌜ count ≤ 32 ⌝ }
+    ensures { λ r. ⌜ r ≡ weight (formOf profile) (take count (now (ids .entry))) (take count (now (lens .entry))) ⌝ }
 {
+    // a slice tells its length
+    let ids: &[u8] = ids;
+    let lens: &[u16] = lens;
+    let mut bytes = 0;
     let mut i = 0;
     while i < count {
-        if !fits(profile, ids[i], lens[i]) {
-            return false;
+        let len = lens[i];
+        if !fits(profile, ids[i], len) {
+            return 1025;
         }
+        bytes += wide16(len);
         i += 1;
     }
-    true
+    bytes
 }
 
 // RFC 8285, 4.2 and 4.3: the head of a one-byte and of a two-byte element, before its data.
