@@ -1,6 +1,6 @@
 -- How many octets a block has, and that the tests on a record's arrays are those on its elements. Assumes nothing.
-use mathlib.Core.Path.{_≡_, ap₂, _∙_, refl}
-use mathlib.Core.Bool.{Bool, true, false, _&&_, false≢true}
+use mathlib.Core.Path.{_≡_, refl, ap, ap₂, _∙_}
+use mathlib.Core.Bool.{Bool, true, false, cond, _&&_, false≢true}
 use mathlib.Core.List.{List, [], _∷_, _++_}
 use Prim.Native.Nat.{ℕ, suc, _+_, _-_, _*_, _≤_}
 use native.Mathlib.Nat.{zero-mul, suc-mul}
@@ -12,7 +12,7 @@ use Rattle.wire.proofs.Net.{length-be16}
 use Rattle.elements.specs.Elements.{Element, dataOf, sum, Packed, elementsIn, unpack}
 use Rattle.elements.proofs.Packed.{length-elementsIn, length-dataIn, as-many}
 use Rattle.block.specs.Form.{Form, one-byte, two-byte, other, formOf, perElement, lengthFor, wordsFor}
-use Rattle.block_write.specs.Write.{elementOctets, blockOctets, extensionFor, fits, allFit, allWritable}
+use Rattle.block_write.specs.Write.{elementOctets, blockOctets, extensionFor, fits, allFit, allWritable, weight}
 
 pub length-elementOctets : (form : Form) (e : Element) → length (elementOctets form e) ≡ length (e .bytes) + perElement form
 length-elementOctets one-byte e = omega arith
@@ -66,3 +66,19 @@ pub allWritable-fit : (form : Form) (count : ℕ) (ids lens bytes : List ℕ) �
     allWritable form (elementsIn count ids lens bytes) ≡ allFit form (take count ids) (take count lens)
 allWritable-fit form count ids lens bytes p =
     fit-unpack form (take count ids) (take count lens) bytes (as-many count ids lens bytes p) (p .packed)
+
+-- ---- the weight of the elements
+
+pub weight-fit : (form : Form) (ids lens : List ℕ) → allFit form ids lens ≡ true → weight form ids lens ≡ sum lens
+unfolding weight
+weight-fit form ids lens e = ap (λ (b : Bool). cond b (sum lens) 1025) e
+
+-- what a record could hold is the sum, and all fit
+pub weight-within : (form : Form) (ids lens : List ℕ) → weight form ids lens ≤ 1024 →
+    (allFit form ids lens ≡ true) × (weight form ids lens ≡ sum lens)
+unfolding weight
+weight-within form ids lens h = go (allFit form ids lens) refl
+  where
+    go : (b : Bool) → allFit form ids lens ≡ b → (allFit form ids lens ≡ true) × (weight form ids lens ≡ sum lens)
+    go true e = (e, weight-fit form ids lens e)
+    go false e = absurd (omega (arith, ap (λ (b : Bool). cond b (sum lens) 1025) e))

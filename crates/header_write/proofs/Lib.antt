@@ -1,1 +1,3 @@
+pub mod Domain
+pub mod Octets
 pub mod Never

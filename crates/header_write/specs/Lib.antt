@@ -3,3 +3,4 @@ pub mod Size
 pub mod Fixed
 pub mod Judge
 pub mod Said
+pub mod Parts

@@ -12,7 +12,7 @@ fn flag(on: bool, n: u8) -> u8
     if on { n } else { 0 }
 }
 
-pub fn first_octet(version: u8, padding: bool, extension: bool, csrc_count: usize) -> u8
+pub(crate) fn first_octet(version: u8, padding: bool, extension: bool, csrc_count: usize) -> u8
     requires { ⌜ version ≤ 3 ⌝ }
     requires { ⌜ «csrc_count» ≤ 15 ⌝ }
     ensures { λ r. ⌜ r ≡ firstFor version padding extension «csrc_count» ⌝ }
@@ -20,7 +20,7 @@ pub fn first_octet(version: u8, padding: bool, extension: bool, csrc_count: usiz
     version * 64 + flag(padding, 32) + flag(extension, 16) + csrc_count as u8
 }
 
-pub fn second_octet(marker: bool, payload_type: u8) -> u8
+pub(crate) fn second_octet(marker: bool, payload_type: u8) -> u8
     requires { ⌜ «payload_type» ≤ 127 ⌝ }
     ensures { λ r. ⌜ r ≡ secondFor marker «payload_type» ⌝ }
 {
@@ -28,7 +28,7 @@ pub fn second_octet(marker: bool, payload_type: u8) -> u8
 }
 
 // The fixed part, whose first two bytes are these.
-pub fn put_fixed(buf: &mut [u8], b0: u8, b1: u8, number: u16, time: u32, ssrc: u32)
+pub(crate) fn put_fixed(buf: &mut [u8], b0: u8, b1: u8, number: u16, time: u32, ssrc: u32)
     requires { ⌜ 12 ≤ length (now buf) ⌝ }
     ensures { λ _. ⌜ now (buf .exit) ≡ splice (now (buf .entry)) 0 (fixedFor b0 b1 number time ssrc []) ⌝ }
 {
@@ -39,7 +39,7 @@ pub fn put_fixed(buf: &mut [u8], b0: u8, b1: u8, number: u16, time: u32, ssrc: u
     wire::put_u32(buf, 8, ssrc);
 }
 
-pub fn put_csrcs(buf: &mut [u8], start: usize, count: usize, csrc: &[u32]) -> usize
+pub(crate) fn put_csrcs(buf: &mut [u8], start: usize, count: usize, csrc: &[u32]) -> usize
     requires { ⌜ count ≤ length (now csrc) ⌝ }
     requires { ⌜ start + length (csrcOctets (take count (now csrc))) ≤ length (now buf) ⌝ }
     ensures { λ r. ⌜ Put (now (buf .entry)) start (csrcOctets (take count (now (csrc .entry)))) r (now (buf .exit)) ⌝ }

@@ -6,14 +6,14 @@ use error::Error;
 mod figure;
 mod judging;
 mod limits;
+mod parts;
 mod size;
 
-pub use figure::first_octet;
-pub use figure::put_csrcs;
-pub use figure::put_fixed;
-pub use figure::second_octet;
 pub use judging::judge;
 pub use limits::in_limits;
+pub use parts::measure;
+pub use parts::put_bare;
+pub use parts::put_header;
 pub use size::size_of;
 
 // RFC 3550's fixed header fields but CC: the first 16 bytes of a header's record, in its order.
