@@ -26,6 +26,7 @@ use Rattle.header.specs.declared.HeaderRead.the-variants as read
 use Rattle.header.specs.declared.Unmarshalled.{Unmarshalled}
 use Rattle.header.specs.declared.Front.{Front}
 use Rattle.header.specs.declared.FrontRead.{FrontRead}
+use Rattle.header_write.specs.declared.Fixed.{Fixed}
 use Rattle.header_write.specs.declared.Length.{Length}
 use Rattle.header_write.specs.declared.Length.the-variants as len
 use Rattle.header.specs.declared.Change.{Change}
@@ -38,7 +39,7 @@ use Rattle.header.specs.declared.IdCount.the-variants as ids
 use Rattle.header.specs.declared.Ids.{Ids}
 use Rattle.header.specs.Fields.{fieldsOf, blank, inDomain}
 use Rattle.header.specs.Read.{Reading, countOf, fixedLength, readingOf, readExtension, readFixed, readHeader}
-use Rattle.header.specs.Parts.{frontOf, FrontHeard, heardFront, frontHeard, Lent, lentRead}
+use Rattle.header.specs.Parts.{fixedOf, together, bare, frontOf, FrontHeard, heardFront, frontHeard, Lent, lentRead}
 use Rattle.header.specs.Size.{payloadLength, headerSize, lengthAsked, sizeAsked}
 use Rattle.header_write.specs.Judge.{judged}
 use Rattle.header.specs.Write.{octetsOf, inWritingDomain, writeHeader}
@@ -121,6 +122,18 @@ write-sayable h room =
 
 pub marshal-to-only : (h : Header) (buf : List ℕ) → Determined (λ (a : Left). heardLeft a ≡ written buf (writeHeader h (length buf)))
 marshal-to-only h buf = written-only buf (writeHeader h (length buf)) (write-sayable h (length buf))
+
+-- of the record put together, and of the bare one
+pub marshal-parts-only : (f : Fixed) (count : ℕ) (csrc : List ℕ) (profile : ℕ) (x : Extensions) (pads : ℕ) (buf : List ℕ) →
+    Determined (λ (a : Left). heardLeft a ≡ written buf (writeHeader (together f count csrc profile x pads) (length buf)))
+marshal-parts-only f count csrc profile x pads buf = marshal-to-only (together f count csrc profile x pads) buf
+
+pub marshal-bare-only : (f : Fixed) (profile pads : ℕ) (buf : List ℕ) →
+    Determined (λ (a : Left). heardLeft a ≡ written buf (writeHeader (bare f profile pads) (length buf)))
+marshal-bare-only f profile pads buf = marshal-to-only (bare f profile pads) buf
+
+pub fixed-only : (h : Header) → Determined (λ (r : Fixed). r ≡ fixedOf h)
+fixed-only h = by-value (fixedOf h)
 
 pub is-writable-only : (h : Header) → Determined (λ (r : Bool). r ≡ inWritingDomain h)
 is-writable-only h = by-value (inWritingDomain h)

@@ -2,47 +2,24 @@
 -- header's size is, counted from the record. Assumes nothing.
 use mathlib.Core.Path.{_≡_, refl, sym, ap, ap₂, _∙_}
 use mathlib.Core.Bool.{Bool, true, false, cond}
-use mathlib.Core.List.{List}
 use Prim.Native.Nat.{ℕ, _≤_}
 use native.Mathlib.Omega.{arith}
-use lib.Dec.{leb}
 use lib.ListN.{length, take}
 use lib.Seq.{length-take-le}
-use borrow.Author.Tests.{leb-true}
 use Rattle.error.specs.declared.Error.{Error}
-use Rattle.error.specs.Refusal.{Refusal}
-use Rattle.error.specs.Said.{says, refused, refuse}
+use Rattle.error.specs.Said.{says, refuse}
 use Rattle.elements.specs.Elements.{sum}
 use Rattle.elements.proofs.Packed.{PackedIn, length-elementsOf, length-dataOf}
 use Rattle.block.specs.Form.{lengthFor}
-use Rattle.block_write.proofs.Octets.{both}
-use Rattle.block.proofs.Form.{heads-few}
 use Rattle.header.specs.declared.Header.{Header}
 use Rattle.header_write.specs.declared.Length.{Length}
 use Rattle.header_write.specs.declared.Length.the-variants as len
-use Rattle.header_write.specs.Limits.{inLimits}
 use Rattle.header.specs.Fields.{fieldsOf, inDomain}
 use Rattle.header_write.specs.Size.{sizeFor}
 use Rattle.header.specs.Size.{payloadLength, headerSize, lengthAsked, sizeAsked}
 use Rattle.header_write.specs.Said.{saidLength}
-
-pub record Limits (n count : ℕ) (lens : List ℕ) (pads : ℕ) : Type 0 where
-  pub sources : n ≤ 15
-  pub elements : count ≤ 32
-  pub bytes : sum (take count lens) ≤ 1024
-  pub zeros : pads ≤ 262140
-
-pub limits : (n count : ℕ) (lens : List ℕ) (pads : ℕ) → inLimits n count lens pads ≡ true → Limits n count lens pads
-limits n count lens pads e =
-    let some = both (leb n 15) _ e in
-    let more = both (leb count 32) _ (some .1) in
-    let last = both (leb (sum (take count lens)) 1024) _ (more .1) in
-    record {
-      sources = leb-true n 15 (some .0);
-      elements = leb-true count 32 (more .0);
-      bytes = leb-true (sum (take count lens)) 1024 (last .0);
-      zeros = leb-true pads 262140 (last .1);
-    }
+use Rattle.header_write.proofs.Domain.{Limits, limits, taken-few}
+pub use Rattle.header_write.proofs.Domain.{never}
 
 abbrev pub lengthIn : Header → ℕ
 lengthIn h =
@@ -79,6 +56,10 @@ pub limits-of : (h : Header) → inDomain h ≡ true → LimitsOf h
 unfolding inDomain
 limits-of h e = limits (h .«csrc_count») (h .extensions .count) (h .extensions .lens) (h .«extensions_padding») e
 
+pub length-few : (h : Header) → LimitsOf h → lengthIn h ≤ 1088
+length-few h l =
+    taken-few (h .«csrc_count») (h .«extension_profile») (h .extensions .count) (h .extensions .lens) (h .«extensions_padding») l
+
 pub length-asked : (h : Header) {b : Bool} → inDomain h ≡ b → lengthAsked h ≡ cond b (says (payloadLength (fieldsOf h))) (refuse 8)
 unfolding lengthAsked
 length-asked h e = ap (λ (b : Bool). cond b (says (payloadLength (fieldsOf h))) (refuse 8)) e
@@ -88,9 +69,6 @@ unfolding sizeAsked
 size-asked h e = ap (λ (b : Bool). cond b (says (headerSize (fieldsOf h))) (refuse 8)) e
 
 -- ---- for callers
-
-pub never : {A : Type 0} {x : A} {r : Refusal} → says x ≡ refused r → ⊥
-never e = let z : _≡_ {A = ℕ} 0 1 = cc in omega arith
 
 -- what a size's answer says of the record
 module _ (h : Header) (r : Length) (e : saidLength r ≡ sizeAsked h) where
@@ -117,6 +95,5 @@ size-most false n len pads p q r = omega arith
 pub size-small : (h : Header) → Arrays h → inDomain h ≡ true → headerSize (fieldsOf h) ≤ 263308
 size-small h a e =
     let l = limits-of h e in
-    let heads = heads-few (h .«extension_profile») (h .extensions .count) (l .elements) in
     rw (header-size h (packed h a l) (omega (arith, l .sources, a .csrc)))
-    (size-most (h .extension) (h .«csrc_count») (lengthIn h) (h .«extensions_padding») (l .sources) (omega (arith, l .bytes, heads)) (l .zeros))
+    (size-most (h .extension) (h .«csrc_count») (lengthIn h) (h .«extensions_padding») (l .sources) (length-few h l) (l .zeros))

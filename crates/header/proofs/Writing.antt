@@ -1,35 +1,36 @@
--- `writeHeader` counted from the record: its tests one after the other, and its octets part by part. Assumes nothing.
+-- `writeHeader` counted from the record: its tests one after the other, and its octets by its parts. Assumes nothing.
 use mathlib.Core.Path.{_≡_, refl, sym, ap, ap₂, _∙_}
 use mathlib.Core.Bool.{Bool, true, false, cond, _&&_}
-use mathlib.Core.List.{List, [], _++_, append-nil}
-use Prim.Native.Nat.{ℕ, _+_, _%_, _<_, _≤_}
+use mathlib.Core.List.{List}
+use Prim.Native.Nat.{ℕ, _%_, _<_, _≤_}
 use native.Mathlib.Omega.{arith}
 use lib.Dec.{leb, eqb}
-use lib.ListN.{length, take, length-append}
-use lib.Seq.{length-take-le}
-use borrow.Author.Tests.{lt-ltb, le-ltb, leb-true}
+use lib.ListN.{length, take}
+use borrow.Author.Tests.{lt-ltb, le-ltb, leb-true, le-leb}
 use Rattle.error.specs.declared.Error.{Error}
 use Rattle.error.specs.Refusal.{Refusal, refusalOf}
 use Rattle.error.specs.Said.{Said, says, refused, refuse}
-use Rattle.wire.specs.Net.{be16, be32}
-use Rattle.wire.specs.Part.{splice}
-use Rattle.wire.proofs.Part.{splice-behind}
+use Rattle.wire.specs.Part.{splice, Put}
 use Rattle.elements.specs.Elements.{elementsOf, elementsIn}
-use Rattle.elements.proofs.Packed.{PackedIn}
+use Rattle.elements.proofs.Packed.{PackedIn, length-elementsOf}
 use Rattle.block.specs.Form.{Form, one-byte, two-byte, other, formOf}
-use Rattle.block_write.specs.Write.{allFit, allWritable, extensionFor}
+use Rattle.block_write.specs.Write.{allFit, allWritable}
 use Rattle.block_write.proofs.Octets.{both, allWritable-fit}
 use Rattle.header.specs.declared.Header.{Header}
 use Rattle.header_write.specs.declared.Length.{Length}
 use Rattle.header_write.specs.declared.Length.the-variants as len
 use Rattle.header.specs.Fields.{fieldsOf, inDomain}
 use Rattle.header.specs.Size.{payloadLength, headerSize}
-use Rattle.header_write.specs.Fixed.{csrcOctets, firstFor, secondFor, fixedFor}
+use Rattle.header_write.specs.Size.{sizeFor}
+use Rattle.header_write.specs.Parts.{octetsFor}
+use Rattle.header_write.specs.Said.{saidLength}
+use Rattle.header_write.proofs.Domain.{Fine, in-limits}
 use Rattle.header_write.specs.Judge.{judged}
 use Rattle.header.specs.Write.{octetsOf, inWritingDomain, writeHeader}
 use Rattle.header.specs.Said.{Written, heardWritten, written}
-use Rattle.header.proofs.Sizes.{never, lengthIn, payload-length, Arrays, LimitsOf, limits-of, packed}
-use Rattle.header.proofs.Octets.{length-fixed, octets-fit}
+use Rattle.header.specs.Parts.{fixedOf}
+use Rattle.header.proofs.Sizes.{never, lengthIn, payload-length, header-size, length-few, Arrays, LimitsOf, limits-of, packed}
+use Rattle.header.proofs.Octets.{octets-parts, octets-fit}
 
 abbrev pub fitIn : Header → Bool
 fitIn h =
@@ -122,59 +123,111 @@ module _ {A B : Type 0} (x : A) (y : B) where
   blockAsked-says true two-byte len count e = refl
   blockAsked-says false form len count e = refl
 
--- ---- the octets
+-- ---- a record whose elements were measured
 
-abbrev pub fixedIn : Header → List ℕ
-fixedIn h =
-    fixedFor (firstFor (h .version) (h .padding) (h .extension) (h .«csrc_count»)) (secondFor (h .marker) (h .«payload_type»))
-    (h .«sequence_number») (h .timestamp) (h .ssrc) (take (h .«csrc_count») (h .csrc))
+abbrev pub FineOf : Header → Type 0
+FineOf h =
+    Fine (fixedOf h) (h .«csrc_count») (h .«extension_profile») (h .extensions .count) (h .extensions .ids) (h .extensions .lens)
+    (h .«extensions_padding»)
 
-abbrev pub extensionIn : Header → List ℕ
-extensionIn h =
-    extensionFor (h .«extension_profile») (lengthIn h)
+-- all that is written
+abbrev pub octetsBy : Header → ℕ → List ℕ
+octetsBy h n =
+    octetsFor (fixedOf h) (take (h .«csrc_count») (h .csrc)) (h .«extension_profile») n
     (elementsIn (h .extensions .count) (h .extensions .ids) (h .extensions .lens) (h .extensions .bytes))
 
-module _ (h : Header) (p : PackedIn (h .extensions)) (cs : h .«csrc_count» ≤ length (h .csrc)) where
-  sources : length (take (h .«csrc_count») (h .csrc)) ≡ h .«csrc_count»
-  sources = length-take-le (h .«csrc_count») (h .csrc) cs
+-- its tests are those of the parts, and the elements take n bytes with their heads
+pub record Measured (h : Header) (n : ℕ) : Type 0 where
+  pub domain : inWritingDomain h ≡ true
+  pub can : Writable h
+  pub taken : n ≡ lengthIn h
 
-  octets-in : octetsOf (fieldsOf h) ≡ fixedIn h ++ cond (h .extension) (extensionIn h) []
-  unfolding octetsOf fieldsOf elementsOf
-  octets-in =
-      ap₂
-      (λ (n l : ℕ).
-      fixedFor (firstFor (h .version) (h .padding) (h .extension) n) (secondFor (h .marker) (h .«payload_type»)) (h .«sequence_number»)
-      (h .timestamp) (h .ssrc) (take (h .«csrc_count») (h .csrc))
-      ++ cond (h .extension) (extensionFor (h .«extension_profile») l (elementsOf (h .extensions))) [])
-      sources (payload-length h p)
+module _ (h : Header) (a : Arrays h) where
+  pub fine-domain : FineOf h → inWritingDomain h ≡ true
+  unfolding inDomain
+  fine-domain w =
+      writing-domain h
+      (in-limits (h .«csrc_count») (h .extensions .count) (h .extensions .lens) (h .«extensions_padding») (w .limits))
+      (le-leb (h .version) 3 (w .version)) (le-leb (h .«payload_type») 127 (w .type))
+      (fitting h (packed h a (w .limits)) ∙ w .fit)
 
-  pub octets-on : h .extension ≡ true → octetsOf (fieldsOf h) ≡ fixedIn h ++ extensionIn h
-  octets-on e = octets-in ∙ ap (λ (b : Bool). fixedIn h ++ cond b (extensionIn h) []) e
+  pub measured : (n : ℕ) → FineOf h → n ≡ lengthIn h → Measured h n
+  measured n w e = record { domain = fine-domain w; can = writable h a (fine-domain w); taken = e }
 
-  pub octets-off : h .extension ≡ false → octetsOf (fieldsOf h) ≡ fixedIn h
-  octets-off e = octets-in ∙ ap (λ (b : Bool). fixedIn h ++ cond b (extensionIn h) []) e ∙ append-nil (fixedIn h)
+  pub not-fine : (FineOf h → ⊥) → inWritingDomain h ≡ false
+  not-fine out = go (inWritingDomain h) refl
+    where
+      go : (b : Bool) → inWritingDomain h ≡ b → inWritingDomain h ≡ false
+      go true e =
+          let w = writable h a e in
+          absurd (out (record { limits = w .limits; version = w .version; type = w .type; fit = w .fit }))
+      go false e = e
 
-  -- the size has room for each part
-  pub fixed-fits : length (fixedIn h) ≤ headerSize (fieldsOf h)
-  fixed-fits =
-      omega (arith, octets-fit (fieldsOf h), ap length octets-in ∙ length-append (fixedIn h) (cond (h .extension) (extensionIn h) []))
+module _ (h : Header) (n : ℕ) (m : Measured h n) where
+  pub few : n ≤ 1088
+  few = omega (arith, m .taken, length-few h (m .can .limits))
 
-  pub extension-fits : h .extension ≡ true → length (fixedIn h) + length (extensionIn h) ≤ headerSize (fieldsOf h)
-  extension-fits on =
-      omega (arith, octets-fit (fieldsOf h), ap length (octets-on on) ∙ length-append (fixedIn h) (extensionIn h))
+  pub sized : headerSize (fieldsOf h) ≡ sizeFor (h .«csrc_count») (h .extension) n (h .«extensions_padding»)
+  sized =
+      header-size h (m .can .packing) (m .can .sources)
+      ∙ ap (λ (k : ℕ). sizeFor (h .«csrc_count») (h .extension) k (h .«extensions_padding»)) (sym (m .taken))
 
--- the sources stand behind 12 bytes
-pub length-fixedIn : (h : Header) → length (fixedIn h) ≡ 12 + length (csrcOctets (take (h .«csrc_count») (h .csrc)))
-length-fixedIn h =
-    length-fixed (firstFor (h .version) (h .padding) (h .extension) (h .«csrc_count»)) (secondFor (h .marker) (h .«payload_type»))
-    (h .«sequence_number») (h .timestamp) (h .ssrc) (take (h .«csrc_count») (h .csrc))
+  pub octets-by : octetsOf (fieldsOf h) ≡ octetsBy h n
+  unfolding fieldsOf elementsOf
+  octets-by = octets-parts (fieldsOf h) ∙ ap (octetsBy h) (payload-length h (m .can .packing) ∙ sym (m .taken))
 
--- the sources behind the fixed part
-pub fixed-on : (buf : List ℕ) (a b number time ssrc : ℕ) (cs : List ℕ) →
-    splice (splice buf 0 (fixedFor a b number time ssrc [])) 12 (csrcOctets cs) ≡ splice buf 0 (fixedFor a b number time ssrc cs)
-unfolding fixedFor be16 be32
-fixed-on buf a b number time ssrc cs =
-    splice-behind buf 0 (fixedFor a b number time ssrc []) 12 (csrcOctets cs) (omega arith) refl
+  -- a place with room for the size has room for them
+  pub octets-room : (room : ℕ) → headerSize (fieldsOf h) ≤ room → length (octetsBy h n) ≤ room
+  octets-room room fits = omega (arith, octets-fit (fieldsOf h), ap length octets-by)
+
+  pub all-writable : allWritable (formOf (h .«extension_profile»))
+      (elementsIn (h .extensions .count) (h .extensions .ids) (h .extensions .lens) (h .extensions .bytes)) ≡ true
+  all-writable =
+      allWritable-fit (formOf (h .«extension_profile»)) (h .extensions .count) (h .extensions .ids) (h .extensions .lens) (h .extensions .bytes)
+      (m .can .packing)
+      ∙ m .can .fit
+
+  -- what was judged of the elements as they were measured is judged whatever is asked for
+  module _ {A : Type 0} (x : A) (r : Length)
+      (e : saidLength r ≡ blockAsked (h .extension) (formOf (h .«extension_profile»)) n (h .extensions .count) n) where
+    abbrev asked : Said A
+    asked = blockAsked (h .extension) (formOf (h .«extension_profile»)) (payloadLength (fieldsOf h)) (length (fieldsOf h .elements)) x
+
+    as-measured : asked ≡ blockAsked (h .extension) (formOf (h .«extension_profile»)) n (h .extensions .count) x
+    unfolding fieldsOf
+    as-measured =
+        ap₂ (λ (k l : ℕ). blockAsked (h .extension) (formOf (h .«extension_profile»)) k l x)
+        (payload-length h (m .can .packing) ∙ sym (m .taken)) (length-elementsOf (h .extensions) (m .can .packing))
+
+    pub judge-refuses : (k : Error) → r ≡ len.Refused k → asked ≡ refused (refusalOf k)
+    judge-refuses k p =
+        as-measured
+        ∙ blockAsked-refused n x (h .extension) (formOf (h .«extension_profile»)) n (h .extensions .count) (sym e ∙ ap saidLength p)
+
+    pub judge-says : (k : ℕ) → r ≡ len.Bytes k → asked ≡ says x
+    judge-says k p =
+        as-measured
+        ∙ blockAsked-says n x (h .extension) (formOf (h .«extension_profile»)) n (h .extensions .count) (sym e ∙ ap saidLength p)
+
+  -- the answer and the buffer, where there is no room, where 9 or 10 was judged, and where the octets were put
+  module _ (buf : List ℕ) where
+    pub short-written : length buf < sizeFor (h .«csrc_count») (h .extension) n (h .«extensions_padding») →
+        record { answer = refuse 5; buffer = buf } ≡ written buf (writeHeader h (length buf))
+    short-written l = sym (ap (written buf) (write-short h (length buf) (m .domain) (omega (arith, sized))))
+
+    module _ (fits : headerSize (fieldsOf h) ≤ length buf) (r : Length)
+        (e : saidLength r ≡ blockAsked (h .extension) (formOf (h .«extension_profile»)) n (h .extensions .count) n) where
+      pub judge-written : (k : Error) → r ≡ len.Refused k → heardWritten r buf ≡ written buf (writeHeader h (length buf))
+      judge-written k p =
+          ap (λ (q : Length). heardWritten q buf) p
+          ∙ sym (ap (written buf) (write-asked h (length buf) (m .domain) fits ∙ judge-refuses (octetsOf (fieldsOf h)) r e k p))
+
+      pub put-written : (k : ℕ) → r ≡ len.Bytes k → (exit : List ℕ) (at : ℕ) → Put buf 0 (octetsBy h n) at exit →
+          record { answer = says at; buffer = exit } ≡ written buf (writeHeader h (length buf))
+      put-written k p exit at q =
+          ap₂ (λ (l : ℕ) (b : List ℕ). record { answer = says l; buffer = b }) (omega (arith, q .next, ap length octets-by))
+          (q .buffer ∙ sym (ap (splice buf 0) octets-by))
+          ∙ sym (ap (written buf) (write-asked h (length buf) (m .domain) fits ∙ judge-says (octetsOf (fieldsOf h)) r e k p))
 
 -- ---- for callers
 

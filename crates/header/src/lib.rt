@@ -27,6 +27,8 @@ pub use header_write::Fixed;
 pub use header_write::Length;
 pub use read::unmarshal_front;
 pub use read::unmarshal_parts;
+pub use write::marshal_bare;
+pub use write::marshal_parts;
 
 #[repr(C)]
 pub struct Header {

@@ -1,5 +1,5 @@
 -- Every test that refuses is one of `measured`, and where none does, all hold.
-use mathlib.Core.Path.{_≡_, sym, ap, ap₂, _∙_}
+use mathlib.Core.Path.{_≡_, sym, ap₂, _∙_}
 use mathlib.Core.Logic.{⊎-elim}
 use Prim.Native.Nat.{ℕ, _+_, _*_, _≤_}
 use native.Mathlib.Omega.{arith}
@@ -7,7 +7,7 @@ use lib.ListN.{take}
 use borrow.Author.Needs.{needs}
 use borrow.Author.Tests.{ltb-true, ltb-false}
 use Rattle.error.specs.Said.{Said, says, refuse}
-use Rattle.block.specs.Form.{formOf, perElement}
+use Rattle.block.specs.Form.{formOf}
 use Rattle.block.proofs.Form.{heads-few}
 use Rattle.block_write.proofs.Octets.{weight-fit, weight-within}
 use Rattle.header_write.specs.Parts.{measured}
