@@ -83,7 +83,7 @@ returns-4 c =
     c .refused-block3 .ensures
     ∙ sym
     (ap (blockSeen (length (c .before .before .before .before .before .before .before .before .before .before .args .packet .now)))
-    (going-full _ _ _ _ _ _ _ _ (c .before .before .before .before .before .before .before .before .loop .inv .going) (c .before .before .before .before .before .before .before .loop-test .taken) _ _ _ (found (c .before .before .before)) (inr (c .before .if2 .taken))))
+    (going-full _ _ _ _ _ _ _ _ (c .before .before .before .before .before .before .before .before .loop .inv .going) (c .before .before .before .before .before .before .before .loop-test .taken) _ _ _ (found (c .before .before .before)) (inr (omega (arith, c .before .if2 .taken)))))
 
 loop-again-2 : tie.Need-loop-again-2 Inv-loop μ-loop
 loop-again-2 c =
