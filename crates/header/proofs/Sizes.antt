@@ -88,7 +88,7 @@ module _ (h : Header) (r : Length) (e : saidLength r ≡ sizeAsked h) where
       go true is = absurd (never (sym (size-asked h is) ∙ sym e ∙ ap saidLength p))
       go false is = is
 
-size-most : (on : Bool) (n len pads : ℕ) → n ≤ 15 → len ≤ 1088 → pads ≤ 262140 → sizeFor n on len pads ≤ 263308
+pub size-most : (on : Bool) (n len pads : ℕ) → n ≤ 15 → len ≤ 1088 → pads ≤ 262140 → sizeFor n on len pads ≤ 263308
 size-most true n len pads p q r = omega arith
 size-most false n len pads p q r = omega arith
 

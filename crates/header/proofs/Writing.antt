@@ -29,7 +29,7 @@ use Rattle.header_write.specs.Judge.{judged}
 use Rattle.header.specs.Write.{octetsOf, inWritingDomain, writeHeader}
 use Rattle.header.specs.Said.{Written, heardWritten, written}
 use Rattle.header.specs.Parts.{fixedOf}
-use Rattle.header.proofs.Sizes.{never, lengthIn, payload-length, header-size, length-few, Arrays, LimitsOf, limits-of, packed}
+use Rattle.header.proofs.Sizes.{never, lengthIn, payload-length, header-size, length-few, size-most, Arrays, LimitsOf, limits-of, packed}
 use Rattle.header.proofs.Octets.{octets-parts, octets-fit}
 
 abbrev pub fitIn : Header → Bool
@@ -171,6 +171,10 @@ module _ (h : Header) (n : ℕ) (m : Measured h n) where
   sized =
       header-size h (m .can .packing) (m .can .sources)
       ∙ ap (λ (k : ℕ). sizeFor (h .«csrc_count») (h .extension) k (h .«extensions_padding»)) (sym (m .taken))
+
+  pub size-few : sizeFor (h .«csrc_count») (h .extension) n (h .«extensions_padding») ≤ 263308
+  size-few =
+      size-most (h .extension) (h .«csrc_count») n (h .«extensions_padding») (m .can .limits .sources) few (m .can .limits .zeros)
 
   pub octets-by : octetsOf (fieldsOf h) ≡ octetsBy h n
   unfolding fieldsOf elementsOf

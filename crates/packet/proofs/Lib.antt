@@ -1,4 +1,5 @@
 pub mod Reading
 pub mod Writing
+pub mod Parts
 pub mod Only
 pub mod Plain

@@ -11,11 +11,13 @@ use Rattle.error.specs.Said.{Said, says, refused, refuse}
 use Rattle.error.specs.Only.{Determined}
 use Rattle.error.proofs.Inverse.{errorOf, errorOf-refusalOf}
 use Rattle.error.proofs.Only.{by-value, by-view, by-both, Sayable, either-sayable, known, passed}
+use Rattle.elements.specs.declared.Extensions.{Extensions}
 use Rattle.block.specs.Form.{Form, formOf}
 use Rattle.header.specs.declared.Header.{Header}
+use Rattle.header_write.specs.declared.Fixed.{Fixed}
 use Rattle.header_write.specs.declared.Length.{Length}
 use Rattle.header.specs.Fields.{Fields, fieldsOf, blank, inDomain}
-use Rattle.header.specs.Parts.{frontOf, Lent}
+use Rattle.header.specs.Parts.{together, bare, frontOf, Lent}
 use Rattle.header.specs.Read.{Reading, readHeader}
 use Rattle.header.specs.Size.{payloadLength}
 use Rattle.header_write.specs.Judge.{judged}
@@ -57,6 +59,15 @@ pub marshal-to-only : (h : Header) (payload buf : List ℕ) →
     Determined (λ (a : Left). heardLeft a ≡ written buf (writePacket h payload (length buf)))
 marshal-to-only h payload buf =
     written-only buf (writePacket h payload (length buf)) (write-sayable h payload (length buf))
+
+-- of the header's record put together, and of the bare one
+pub marshal-parts-only : (f : Fixed) (count : ℕ) (csrc : List ℕ) (profile : ℕ) (x : Extensions) (pads : ℕ) (payload buf : List ℕ) →
+    Determined (λ (a : Left). heardLeft a ≡ written buf (writePacket (together f count csrc profile x pads) payload (length buf)))
+marshal-parts-only f count csrc profile x pads payload buf = marshal-to-only (together f count csrc profile x pads) payload buf
+
+pub marshal-bare-only : (f : Fixed) (profile pads : ℕ) (payload buf : List ℕ) →
+    Determined (λ (a : Left). heardLeft a ≡ written buf (writePacket (bare f profile pads) payload (length buf)))
+marshal-bare-only f profile pads payload buf = marshal-to-only (bare f profile pads) payload buf
 
 -- ---- reading
 

@@ -1,4 +1,4 @@
--- `packetSizeAsked` and `writePacket` test by test, and how the packet's answer follows from the header's. Assumes nothing.
+-- `packetSizeAsked` and `writePacket` test by test, and the packet's octets behind those of its header. Assumes nothing.
 use mathlib.Core.Path.{_≡_, refl, sym, ap, ap₂, _∙_}
 use mathlib.Core.Bool.{Bool, true, false, cond, _&&_}
 use mathlib.Core.List.{List, [], _∷_, _++_}
@@ -9,30 +9,24 @@ use lib.Seq.{length-take-le}
 use borrow.Rule.Slice.PartMut.{putMid}
 use borrow.Author.Tests.{lt-ltb, le-ltb}
 use Rattle.error.specs.declared.Error.{Error}
-use Rattle.error.specs.Refusal.{Refusal, refusalOf}
-use Rattle.error.specs.Said.{says, refused, refuse}
-use Rattle.wire.specs.Part.{splice}
+use Rattle.error.specs.Said.{says, refuse}
+use Rattle.wire.specs.Part.{splice, Put}
 use Rattle.wire.proofs.Part.{length-splice, splice-behind, splice-lent}
 use Rattle.block.specs.Form.{formOf}
-use Rattle.block_write.proofs.Octets.{both}
 use Rattle.header.specs.declared.Header.{Header}
 use Rattle.header_write.specs.declared.Length.{Length}
 use Rattle.header_write.specs.declared.Length.the-variants as len
 use Rattle.header.specs.Fields.{fieldsOf, inDomain}
 use Rattle.header.specs.Size.{payloadLength, headerSize}
 use Rattle.header.specs.Write.{octetsOf, inWritingDomain, writeHeader}
+use Rattle.header_write.specs.Size.{sizeFor}
 use Rattle.header_write.specs.Said.{saidLength}
 use Rattle.header.specs.Said.{heardWritten, written}
-use Rattle.header.proofs.Sizes.{never}
 use Rattle.header.proofs.Octets.{octets-fit}
-use Rattle.header.proofs.Writing.{blockAsked, write-asked, blockAsked-refused, blockAsked-says, written-out}
+use Rattle.header.proofs.Writing.{blockAsked, write-asked, blockAsked-says, Measured, octetsBy, sized, octets-by, judge-refuses, judge-says}
 use Rattle.packet.specs.Write.{paddingLength, paddingOctets, payloadOctets, packetOctets, packetSize, shortEnough, packetSizeAsked, writePacket}
 
 -- ---- the padding
-
-pub padding-few : (padding : Bool) (len : ℕ) → paddingLength padding len ≤ 4
-padding-few true len = omega arith
-padding-few false len = omega arith
 
 pub padding-some : (n : ℕ) → 0 < n → paddingOctets n ≡ replicate (n - 1) 0 ++ (n ∷ [])
 padding-some zero h = absurd (omega arith)
@@ -64,7 +58,7 @@ pub packet-outside : (h : Header) (payload : List ℕ) (room : ℕ) → inWritin
 unfolding writePacket
 packet-outside h payload room e = rw e
 
-packet-long : (h : Header) (payload : List ℕ) (room : ℕ) → inWritingDomain h ≡ true → shortEnough payload ≡ false →
+pub packet-long : (h : Header) (payload : List ℕ) (room : ℕ) → inWritingDomain h ≡ true → shortEnough payload ≡ false →
     writePacket h payload room ≡ refuse 8
 unfolding writePacket
 packet-long h payload room e q = rw (e, q)
@@ -82,32 +76,7 @@ packet-asked : (h : Header) (payload : List ℕ) (room : ℕ) → inWritingDomai
 unfolding writePacket
 packet-asked h payload room e q l = rw (e, q, le-ltb room (packetSize (fieldsOf h) payload) l)
 
-in-domain : (h : Header) → inWritingDomain h ≡ true → inDomain h ≡ true
-unfolding inWritingDomain
-in-domain h e = both (inDomain h) _ e .0
-
--- what the size's answer says, of a record that can be written
-module _ (h : Header) (payload : List ℕ) (w : inWritingDomain h ≡ true) (r : Length) (e : saidLength r ≡ packetSizeAsked h payload) where
-  pub size-says : (n : ℕ) → r ≡ len.Bytes n → (shortEnough payload ≡ true) × (packetSize (fieldsOf h) payload ≡ n)
-  size-says n p = go (shortEnough payload) refl
-    where
-      go : (b : Bool) → shortEnough payload ≡ b → (shortEnough payload ≡ true) × (packetSize (fieldsOf h) payload ≡ n)
-      go true is =
-          let a : says (packetSize (fieldsOf h) payload) ≡ says n = sym (size-tests h payload (in-domain h w) is) ∙ sym e ∙ ap saidLength p in
-          (is, cc)
-      go false is = absurd (never (sym (sym (size-tests h payload (in-domain h w) is) ∙ sym e ∙ ap saidLength p)))
-
-  pub size-refuses : (k : Error) → r ≡ len.Refused k → (room : ℕ) → writePacket h payload room ≡ refused (refusalOf k)
-  size-refuses k p room = go (shortEnough payload) refl
-    where
-      go : (b : Bool) → shortEnough payload ≡ b → writePacket h payload room ≡ refused (refusalOf k)
-      go true is = absurd (never (sym (size-tests h payload (in-domain h w) is) ∙ sym e ∙ ap saidLength p))
-      go false is =
-          let a : refuse 8 ≡ refused (refusalOf k) = sym (size-tests h payload (in-domain h w) is) ∙ sym e ∙ ap saidLength p in
-          let same : record { number = 8; carried = [] } ≡ refusalOf k = cc in
-          packet-long h payload room w is ∙ ap refused same
-
--- with room for the packet, 9 and 10 are the header's, and so is the answer
+-- with room for the packet, what is written for the header is the packet's too
 module _ (h : Header) (payload : List ℕ) (room : ℕ) (w : inWritingDomain h ≡ true) (q : shortEnough payload ≡ true)
     (l : packetSize (fieldsOf h) payload ≤ room) where
   pub header-fits : headerSize (fieldsOf h) ≤ room
@@ -117,12 +86,6 @@ module _ (h : Header) (payload : List ℕ) (room : ℕ) (w : inWritingDomain h �
       ≡ blockAsked (h .extension) (formOf (h .«extension_profile»)) (payloadLength (fieldsOf h)) (length (fieldsOf h .elements))
       (octetsOf (fieldsOf h))
   header-asked = write-asked h room w header-fits
-
-  pub header-refuses : (r : Refusal) → writeHeader h room ≡ refused r → writePacket h payload room ≡ refused r
-  header-refuses r e =
-      packet-asked h payload room w q l
-      ∙ blockAsked-refused (octetsOf (fieldsOf h)) (packetOctets (fieldsOf h) payload) (h .extension) (formOf (h .«extension_profile»))
-      (payloadLength (fieldsOf h)) (length (fieldsOf h .elements)) (sym header-asked ∙ e)
 
   pub header-says : (octets : List ℕ) → writeHeader h room ≡ says octets →
       (octets ≡ octetsOf (fieldsOf h)) × (writePacket h payload room ≡ says (packetOctets (fieldsOf h) payload))
@@ -148,29 +111,51 @@ packet-octets h payload = refl
 pub length-payload : (payload : List ℕ) (n : ℕ) → length (payload ++ paddingOctets n) ≡ length payload + n
 length-payload payload n = length-append payload (paddingOctets n) ∙ ap (λ (k : ℕ). length payload + k) (length-padding n)
 
+-- ---- a header whose elements were measured
+
 -- the header was written, and the packet's octets go on behind it
 pub record Behind (h : Header) (payload buf exit : List ℕ) (at : ℕ) : Type 0 where
   pub place : at ≡ length (octetsOf (fieldsOf h))
   pub buffer : exit ≡ splice buf 0 (octetsOf (fieldsOf h))
   pub asks : writePacket h payload (length buf) ≡ says (packetOctets (fieldsOf h) payload)
   pub room : at + (length payload + paddingLength (h .padding) (length payload)) ≤ length exit
+  pub reach : at + (length payload + paddingLength (h .padding) (length payload)) ≤ packetSize (fieldsOf h) payload
 
-pub behind : (h : Header) (payload buf exit : List ℕ) (at : ℕ) (r : Length) → inWritingDomain h ≡ true → shortEnough payload ≡ true →
-    packetSize (fieldsOf h) payload ≤ length buf → heardWritten r exit ≡ written buf (writeHeader h (length buf)) → r ≡ len.Bytes at →
-    Behind h payload buf exit at
-behind h payload buf exit at r w q l e p =
-    let o = written-out r buf exit (writeHeader h (length buf)) at e p in
-    let s = header-says h payload (length buf) w q l (o .octets) (o .asks) in
-    let fit = octets-fit (fieldsOf h) in
-    let size = packet-size h payload in
-    let same = ap length (s .0) in
-    let kept = ap length (o .buffer) ∙ length-splice buf 0 (o .octets) (omega arith) in
-    record {
-      place = o .count ∙ same;
-      buffer = o .buffer ∙ ap (splice buf 0) (s .0);
-      asks = s .1;
-      room = omega (arith, o .count);
-    }
+module _ (h : Header) (n : ℕ) (m : Measured h n) (payload buf : List ℕ) (q : shortEnough payload ≡ true) where
+  pub size-measured : packetSize (fieldsOf h) payload
+      ≡ sizeFor (h .«csrc_count») (h .extension) n (h .«extensions_padding») + length payload
+      + paddingLength (h .padding) (length payload)
+  size-measured =
+      packet-size h payload
+      ∙ ap (λ (k : ℕ). k + length payload + paddingLength (h .padding) (length payload)) (sized h n m)
+
+  pub short-written : length buf < packetSize (fieldsOf h) payload →
+      record { answer = refuse 5; buffer = buf } ≡ written buf (writePacket h payload (length buf))
+  short-written l = sym (ap (written buf) (packet-short h payload (length buf) (m .domain) q l))
+
+  -- 9 and 10 are judged of the elements as they were measured
+  module _ (fits : packetSize (fieldsOf h) payload ≤ length buf) (r : Length)
+      (e : saidLength r ≡ blockAsked (h .extension) (formOf (h .«extension_profile»)) n (h .extensions .count) n) where
+    pub judge-written : (k : Error) → r ≡ len.Refused k → heardWritten r buf ≡ written buf (writePacket h payload (length buf))
+    judge-written k p =
+        ap (λ (l : Length). heardWritten l buf) p
+        ∙ sym
+        (ap (written buf)
+        (packet-asked h payload (length buf) (m .domain) q fits ∙ judge-refuses h n m (packetOctets (fieldsOf h) payload) r e k p))
+
+    pub behind : (k : ℕ) → r ≡ len.Bytes k → (exit : List ℕ) (at : ℕ) → Put buf 0 (octetsBy h n) at exit → Behind h payload buf exit at
+    behind k p exit at put =
+        let same = ap length (octets-by h n m) in
+        let fit = octets-fit (fieldsOf h) in
+        let size = packet-size h payload in
+        let kept = ap length (put .buffer) ∙ length-splice buf 0 (octetsBy h n) (omega arith) in
+        record {
+          place = omega (arith, put .next);
+          buffer = put .buffer ∙ sym (ap (splice buf 0) (octets-by h n m));
+          asks = packet-asked h payload (length buf) (m .domain) q fits ∙ judge-says h n m (packetOctets (fieldsOf h) payload) r e k p;
+          room = omega (arith, put .next);
+          reach = omega (arith, put .next);
+        }
 
 -- the rest of the buffer, lent on from `at`, has room
 pub rest-room : (l : List ℕ) (at n : ℕ) → at + n ≤ length l → n ≤ length (take (length l - at) (drop at l))

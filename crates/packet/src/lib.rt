@@ -9,6 +9,8 @@ mod write;
 pub use read::unmarshal;
 pub use read::unmarshal_front;
 pub use read::unmarshal_parts;
+pub use write::marshal_bare;
+pub use write::marshal_parts;
 pub use write::marshal_size;
 pub use write::marshal_to;
 

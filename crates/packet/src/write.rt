@@ -5,11 +5,18 @@ ghost use Prim.Native.Nat.{_+_, _%_, _<_, _≤_};
 ghost use lib.ListN.{length};
 ghost use Rattle.wire.specs.Part.{splice};
 ghost use Rattle.header_write.specs.Said.{saidLength};
+ghost use Rattle.header.specs.Parts.{together, bare};
 ghost use Rattle.header.specs.Said.{heardWritten, written};
 ghost use Rattle.packet.specs.Write.{paddingLength, paddingOctets, packetSizeAsked, writePacket};
 use error::Error;
+use header::Fixed;
 use header::Header;
 use header::Length;
+use header_write::judge;
+use header_write::measure;
+use header_write::put_bare;
+use header_write::put_header;
+use header_write::size_of;
 
 // How many bytes more make the length a multiple of 4: its two low bits tell.
 fn get_padding(len: usize) -> usize
@@ -30,9 +37,7 @@ fn padding_len(padding: bool, len: usize) -> usize
     if n == 0 { 4 } else { n }
 }
 
-// The packet's size, where its padding is known.
-fn size_with(header: Header, payload: &[u8], padding: usize) -> Length
-    requires { ⌜ padding ≡ paddingLength (header .padding) (length (now payload)) ⌝ }
+pub fn marshal_size(header: Header, payload: &[u8]) -> Length
     ensures { λ r. ⌜ saidLength r ≡ packetSizeAsked header (now (payload .entry)) ⌝ }
 {
     let size = header.marshal_size();
@@ -43,13 +48,7 @@ fn size_with(header: Header, payload: &[u8], padding: usize) -> Length
     if 65535 < len {
         return Length::Refused(Error::OutsideDomain);
     }
-    Length::Bytes(n + len + padding)
-}
-
-pub fn marshal_size(header: Header, payload: &[u8]) -> Length
-    ensures { λ r. ⌜ saidLength r ≡ packetSizeAsked header (now (payload .entry)) ⌝ }
-{
-    size_with(header, payload, padding_len(header.padding, payload.len()))
+    Length::Bytes(n + len + padding_len(header.padding, len))
 }
 
 // RFC 3550, section 5.1: "The last octet of the padding contains a count of how many padding octets should be ignored, including
@@ -78,23 +77,103 @@ fn put_payload(payload: &[u8], padding: usize, rest: &mut [u8]) -> usize
     len + padding
 }
 
+// By the parts of the header's record: its fixed fields and its numbers by value, its arrays lent.
+pub fn marshal_parts<'a>(
+    fixed: Fixed,
+    csrc_count: usize,
+    csrc: &'a [u32; 15],
+    profile: u16,
+    count: usize,
+    ids: &'a [u8; 32],
+    lens: &'a [u16; 32],
+    bytes: &'a [u8; 1024],
+    extensions_padding: usize,
+    payload: &[u8],
+    buf: &mut [u8],
+) -> Length
+    ensures { λ r. ⌜ heardWritten r (now (buf .exit))
+        ≡ written (now (buf .entry)) (writePacket (together fixed «csrc_count» (now (csrc .entry)) profile (record { count = count; ids = now (ids .entry); lens = now (lens .entry); bytes = now (bytes .entry) }) «extensions_padding») (now (payload .entry)) (length (now (buf .entry)))) ⌝ }
+{
+    // a slice tells its length
+    let csrc: &[u32] = csrc;
+    let names: &[u8] = ids;
+    let sizes: &[u16] = lens;
+    let bytes: &[u8] = bytes;
+    let zeros = extensions_padding;
+    let measured = measure(fixed, csrc_count, profile, count, ids, lens, zeros);
+    let Length::Bytes(len) = measured else {
+        return measured;
+    };
+    if 65535 < payload.len() {
+        return Length::Refused(Error::OutsideDomain);
+    }
+    let padding = padding_len(fixed.padding, payload.len());
+    let size = size_of(csrc_count, fixed.extension, len, zeros);
+    if buf.len() < size + payload.len() + padding {
+        return Length::Refused(Error::ErrBufferTooSmall);
+    }
+    let judged = judge(fixed.extension, profile, len, count);
+    let Length::Bytes(_) = judged else {
+        return judged;
+    };
+    let at = put_header(
+        buf,
+        fixed,
+        csrc_count,
+        csrc,
+        profile,
+        len,
+        count,
+        names,
+        sizes,
+        bytes,
+    );
+    Length::Bytes(at + put_payload(payload, padding, &mut buf[at..]))
+}
+
+// With a header without CSRCs and elements.
+pub fn marshal_bare(
+    fixed: Fixed,
+    profile: u16,
+    extensions_padding: usize,
+    payload: &[u8],
+    buf: &mut [u8],
+) -> Length
+    ensures { λ r. ⌜ heardWritten r (now (buf .exit)) ≡ written (now (buf .entry)) (writePacket (bare fixed profile «extensions_padding») (now (payload .entry)) (length (now (buf .entry)))) ⌝ }
+{
+    if 3 < fixed.version || 127 < fixed.payload_type || 262140 < extensions_padding {
+        return Length::Refused(Error::OutsideDomain);
+    }
+    if 65535 < payload.len() {
+        return Length::Refused(Error::OutsideDomain);
+    }
+    let padding = padding_len(fixed.padding, payload.len());
+    let size = size_of(0, fixed.extension, 0, extensions_padding);
+    if buf.len() < size + payload.len() + padding {
+        return Length::Refused(Error::ErrBufferTooSmall);
+    }
+    let judged = judge(fixed.extension, profile, 0, 0);
+    let Length::Bytes(_) = judged else {
+        return judged;
+    };
+    let at = put_bare(buf, fixed, profile);
+    Length::Bytes(at + put_payload(payload, padding, &mut buf[at..]))
+}
+
 pub fn marshal_to(header: Header, payload: &[u8], buf: &mut [u8]) -> Length
     ensures { λ r. ⌜ heardWritten r (now (buf .exit)) ≡ written (now (buf .entry)) (writePacket header (now (payload .entry)) (length (now (buf .entry)))) ⌝ }
 {
-    if !header.is_writable() {
-        return Length::Refused(Error::OutsideDomain);
-    }
-    let padding = padding_len(header.padding, payload.len());
-    let size = size_with(header, payload, padding);
-    let Length::Bytes(needed) = size else {
-        return size;
-    };
-    if buf.len() < needed {
-        return Length::Refused(Error::ErrBufferTooSmall);
-    }
-    let head = header.marshal_to(buf);
-    let Length::Bytes(at) = head else {
-        return head;
-    };
-    Length::Bytes(at + put_payload(payload, padding, &mut buf[at..]))
+    marshal_parts(
+        header.fixed(),
+        header.csrc_count,
+        &header.csrc,
+        header.extension_profile,
+        header.extensions.count,
+        &header.extensions.ids,
+        &header.extensions.lens,
+        &header.extensions.bytes,
+        header.extensions_padding,
+        payload,
+        buf,
+    )
 }

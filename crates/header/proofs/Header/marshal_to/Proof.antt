@@ -3,14 +3,15 @@ use mathlib.Core.Path.{ap, _∙_}
 use borrow.Author.Needs.{needs}
 use lib.ListN.{length}
 use Rattle.header_write.specs.declared.Fixed.{Fixed}
+use Rattle.header.specs.declared.Header.{Header}
 use Rattle.header.specs.Write.{writeHeader}
 use Rattle.header.specs.Said.{written}
 use Rattle.header.specs.Parts.{together}
+use Rattle.header.proofs.Parts.{together-whole}
 use Rattle.header.proofs.Header.marshal_to.Statement.{statement}
 use Rattle.header.proofs.Header.marshal_to.Tie as tie
 
 returns : tie.Need-returns
-unfolding together
 returns c =
     let put = c .before .before in
     let fixed = put .before .before .before .before .before .before .before in
@@ -24,6 +25,7 @@ returns c =
     (writeHeader
     (together f (h .«csrc_count») (h .csrc) (h .«extension_profile») (h .extensions) (h .«extensions_padding»)) (length buf)))
     (fixed .fixed .ensures)
+    ∙ ap (λ (g : Header). written buf (writeHeader g (length buf))) (together-whole h)
 
 pub marshal-to-spec : {M : Type 1} → statement M
 marshal-to-spec =

@@ -10,9 +10,9 @@ use Rattle.error.specs.Said.{says}
 use Rattle.header.specs.Fields.{fieldsOf, inDomain}
 use Rattle.header.specs.Size.{headerSize}
 use Rattle.header.proofs.Sizes.{Arrays, size-asked, size-said, size-refused, size-small}
-use Rattle.packet.proofs.Writing.{padding-few, size-tests, packet-size}
-use Rattle.packet.proofs.write.size_with.Statement.{statement}
-use Rattle.packet.proofs.write.size_with.Tie as tie
+use Rattle.packet.proofs.Writing.{size-tests, packet-size}
+use Rattle.packet.proofs.write.marshal_size.Statement.{statement}
+use Rattle.packet.proofs.write.marshal_size.Tie as tie
 
 arrays : (c : tie.Start) → Arrays (c .args .header)
 arrays c = record { csrc = search needs; ids = search needs; lens = search needs; bytes = search needs }
@@ -44,22 +44,17 @@ returns-2 c =
     let a = c .before .before .before .before .before .before .args in
     sym (size-tests (a .header) (a .payload .now) (sized (c .before) .0) (lt-leb (length (a .payload .now)) 65535 (c .if1 .taken)))
 
-add-t10 : tie.Need-add-t10
-add-t10 c =
-    let start = c .before .before .before .before .before .before in
-    omega (arith, few (c .before), padding-few (start .args .header .padding) (length (start .args .payload .now)), start .pre)
-
 returns-3 : tie.Need-returns-3
 returns-3 c =
-    let start = c .before .before .before .before .before .before in
-    let a = start .args in
-    let s = sized (c .before) in
+    let known = c .before .before in
+    let a = known .before .before .before .before .before .args in
+    let s = sized known in
     let n = length (a .payload .now) in
-    ap says (ap₂ (λ (k m : ℕ). k + n + m) (sym (s .1)) (start .pre) ∙ sym (packet-size (a .header) (a .payload .now)))
-    ∙ sym (size-tests (a .header) (a .payload .now) (s .0) (le-leb n 65535 (c .if1 .left)))
+    ap says (ap₂ (λ (k m : ℕ). k + n + m) (sym (s .1)) (c .padding-len .ensures .0) ∙ sym (packet-size (a .header) (a .payload .now)))
+    ∙ sym (size-tests (a .header) (a .payload .now) (s .0) (le-leb n 65535 (c .before .if1 .left)))
 
-pub size-with-spec : {M : Type 1} → statement M
-size-with-spec =
+pub marshal-size-spec : {M : Type 1} → statement M
+marshal-size-spec =
     tie.close
     (tie.spec
     (λ c κs. search needs)
@@ -68,5 +63,6 @@ size-with-spec =
     returns
     returns-2
     (λ c. let f = few (c .before) in search needs)
-    add-t10
+    (λ c κs. search needs)
+    (λ c. omega (arith, few (c .before .before), c .padding-len .ensures .1))
     returns-3)
