@@ -1,14 +1,17 @@
 -- "Later sets replace the first element of that id or append. Delete keeps the others' order." What the changes do to a list of
--- elements, whatever stands in it. Assumes nothing.
+-- elements, whatever stands in it, and what is seen of it. Assumes nothing.
 use mathlib.Core.Path.{_≡_, sym, ap, ap₂, subst, _∙_}
-use mathlib.Core.Bool.{Bool, true, false, cond}
+use mathlib.Core.Bool.{Bool, true, false, not, cond}
 use mathlib.Core.List.{List, [], _∷_, _++_, map, append-nil}
-use Prim.Native.Nat.{ℕ, _+_, _<_, _≤_}
-use native.Mathlib.Nat.{add-zero}
+use Prim.Native.Nat.{ℕ, _+_, _-_, _<_, _≤_}
+use native.Mathlib.Nat.{add-zero, sub-zero}
 use native.Mathlib.Omega.{arith}
-use lib.ListN.{length, take, length-append}
-use borrow.Author.Tests.{le-leb, lt-leb}
+use lib.ListN.{length, take, length-append, length-map}
+use lib.Seq.{length-take-le}
+use borrow.Author.Tests.{not-false, le-leb, lt-leb}
 use Rattle.error.specs.Said.{says, refuse}
+use Rattle.wire.specs.Part.{padTo, splice}
+use Rattle.wire.proofs.Part.{padTo-on}
 use Rattle.elements.specs.declared.Run.{Run}
 use Rattle.elements.specs.Elements.{Element, dataOf, sum, elementsOf}
 use Rattle.elements.specs.Named.{absent, at, find, append, Absent}
@@ -21,9 +24,10 @@ use Rattle.block.specs.Form.{Form, formOf, perElement}
 use Rattle.block.specs.Padding.{grown}
 use Rattle.block.proofs.Form.{form-one}
 use Rattle.header.specs.declared.Header.{Header}
-use Rattle.header.specs.Fields.{fieldsOf, inDomain}
+use Rattle.header.specs.Fields.{fieldsOf, inDomain, Tested}
 use Rattle.header.specs.Extension.{changed, change, setLater, setFirst, setExtension, delFound, delExtension, getExtension, getExtensionIds, idRefusal, setFound}
-use Rattle.header.proofs.Sizes.{LimitsOf, limits-of, Arrays, packed}
+use Rattle.header.specs.Said.{idsHeard}
+use Rattle.header.proofs.Sizes.{LimitsOf, limits-of, Arrays, packed, passes}
 
 module _ (h : Header) (profile : ℕ) (es : List Element) (pads : ℕ) where
   pub too-many : 32 < length es → change h profile es pads ≡ refuse 7
@@ -137,6 +141,48 @@ module _ (h : Header) where
   pub set-off : (id : ℕ) (bytes : List ℕ) → inDomain h ≡ true → h .extension ≡ false → setExtension h id bytes ≡ setFirst h all id bytes
   unfolding setExtension fieldsOf
   set-off id bytes d e = ap₂ (λ (b c : Bool). cond b (cond c (setLater h all id bytes) (setFirst h all id bytes)) (refuse 8)) d e
+
+-- ---- what is looked at: a record in the domain whose extensions are on
+
+module _ {h : Header} {r : Bool} (t : Tested h r) (inside : not r ≡ false) (on : not (h .extension) ≡ false) where
+  -- .. by the run that `find` answers
+  module _ (id : ℕ) (run : Run)
+      (f : (es : List Element) → Shown es (h .extensions .count) (h .extensions .ids) (h .extensions .lens) → run ≡ runOf id 0 0 es) where
+    found : Placed id (elementsOf (h .extensions)) run
+    found = placed-in h (t .arrays) (passes t inside) id run f
+
+    got : getExtension h id ≡ says (find id 0 (elementsOf (h .extensions)))
+    got = get-on h id (passes t inside) (not-false (h .extension) on)
+
+    pub got-absent : run .count ≡ 0 → getExtension h id ≡ says absent
+    got-absent z = got ∙ ap says (found .none z)
+
+    pub got-at : (run .count ≡ 0 → ⊥) → getExtension h id ≡ says (at (run .at) (run .len))
+    got-at z = got ∙ ap says (found .some z)
+
+  -- there are as many ids as the record counts
+  pub ids-few : length (take (h .extensions .count - 0) (h .extensions .ids)) ≤ 32
+  ids-few =
+      let l = limits-of h (passes t inside) in
+      let part = length-take-le (h .extensions .count - 0) (h .extensions .ids) (omega (arith, l .elements, t .arrays .ids)) in
+      omega (arith, l .elements)
+
+  -- the ids of the elements are the first places of the array
+  pub ids-copied : (out : List ℕ) → out ≡ splice (padTo 32 []) 0 (take (h .extensions .count - 0) (h .extensions .ids)) →
+      record { answer = says (h .extensions .count); ids = out } ≡ idsHeard (getExtensionIds h)
+  ids-copied out e =
+      let x = h .extensions in
+      let d = passes t inside in
+      let p = packed h (t .arrays) (limits-of h d) in
+      let names : List ℕ = map (λ (e : Element). e .id) (elementsOf x) in
+      let count : x .count ≡ length names = sym (length-map (elementsOf x) (λ (e : Element). e .id) ∙ length-elementsOf x p) in
+      let ids : out ≡ padTo 32 names =
+      e
+      ∙ padTo-on 32 [] (take (x .count - 0) (x .ids)) (omega (arith, ids-few))
+      ∙ ap (λ (n : ℕ). padTo 32 (take n (x .ids))) (sub-zero (x .count))
+      ∙ ap (padTo 32) (sym (shown x p .names)) in
+      ap₂ (λ (n : ℕ) (l : List ℕ). record { answer = says n; ids = l }) count ids
+      ∙ sym (ap idsHeard (ids-on h d (not-false (h .extension) on)))
 
 -- ---- where the crate leaves RFC 8285
 

@@ -77,6 +77,15 @@ marshal-size-only h =
     length-only (sizeAsked h)
     (either-sayable {x = says (headerSize (fieldsOf h))} {y = refuse 8} (inDomain h) refl refl)
 
+-- .. of the record put together
+pub get-extension-payload-len-parts-only : (f : Fixed) (count : ℕ) (csrc : List ℕ) (profile : ℕ) (x : Extensions) (pads : ℕ) →
+    Determined (λ (r : Length). saidLength r ≡ lengthAsked (together f count csrc profile x pads))
+get-extension-payload-len-parts-only f count csrc profile x pads = get-extension-payload-len-only (together f count csrc profile x pads)
+
+pub marshal-size-parts-only : (f : Fixed) (count : ℕ) (csrc : List ℕ) (profile : ℕ) (x : Extensions) (pads : ℕ) →
+    Determined (λ (r : Length). saidLength r ≡ sizeAsked (together f count csrc profile x pads))
+marshal-size-parts-only f count csrc profile x pads = marshal-size-only (together f count csrc profile x pads)
+
 -- ---- writing
 
 -- the result beside the buffer as it is left
@@ -361,6 +370,10 @@ get-extension-only h id =
     by-view saidGot gotOf gotOf-said (gotOf (getExtension h id)) (getExtension h id)
     (said-gotOf (getExtension h id) ∙ either-sayable {x = answer} {y = refuse 8} (inDomain h) refl refl)
 
+pub get-extension-parts-only : (f : Fixed) (count : ℕ) (csrc : List ℕ) (profile : ℕ) (x : Extensions) (pads : ℕ) (id : ℕ) →
+    Determined (λ (r : Got). saidGot r ≡ getExtension (together f count csrc profile x pads) id)
+get-extension-parts-only f count csrc profile x pads id = get-extension-only (together f count csrc profile x pads) id
+
 abbrev countedOf : Said ℕ → IdCount
 countedOf (says n) = ids.Ids n
 countedOf (refused r) = ids.Refused (errorOf r)
@@ -385,3 +398,7 @@ get-extension-ids-only h =
     let answer : Said (List ℕ) = says (cond (h .extension) (map (λ (e : Element). e .id) (fieldsOf h .elements)) []) in
     by-view heardIds idsOf idsOf-heard (idsOf (idsHeard (getExtensionIds h))) (idsHeard (getExtensionIds h))
     (heard-idsOf (getExtensionIds h) (either-sayable {x = answer} {y = refuse 8} (inDomain h) refl refl))
+
+pub get-extension-ids-parts-only : (f : Fixed) (count : ℕ) (csrc : List ℕ) (profile : ℕ) (x : Extensions) (pads : ℕ) →
+    Determined (λ (r : Ids). heardIds r ≡ idsHeard (getExtensionIds (together f count csrc profile x pads)))
+get-extension-ids-parts-only f count csrc profile x pads = get-extension-ids-only (together f count csrc profile x pads)

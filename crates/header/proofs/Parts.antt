@@ -1,6 +1,6 @@
 -- A record and its parts are one: put together again they are the record, and where it has no CSRCs and no elements its arrays are not
 -- looked at. Assumes nothing.
-use mathlib.Core.Path.{_≡_, refl, ap, ap₂}
+use mathlib.Core.Path.{_≡_, refl, ap, ap₂, _∙_}
 use mathlib.Core.Bool.{false}
 use mathlib.Core.List.{[]}
 use Prim.Native.Nat.{ℕ, _*_, _≤_}
@@ -21,6 +21,14 @@ pub together-whole : (h : Header) →
     together (fixedOf h) (h .«csrc_count») (h .csrc) (h .«extension_profile») (h .extensions) (h .«extensions_padding») ≡ h
 unfolding together
 together-whole h = refl
+
+pub together-of : (h : Header) {f : Fixed} → f ≡ fixedOf h →
+    together f (h .«csrc_count») (h .csrc) (h .«extension_profile») (h .extensions) (h .«extensions_padding») ≡ h
+together-of h e =
+    ap
+    (λ (f : Fixed).
+    together f (h .«csrc_count») (h .csrc) (h .«extension_profile») (h .extensions) (h .«extensions_padding»)) e
+    ∙ together-whole h
 
 -- ---- without CSRCs and elements
 

@@ -1,11 +1,12 @@
 -- What the arrays of a record in the domain say of its elements: how many there are, how long their data are, and so what a
 -- header's size is, counted from the record. Assumes nothing.
 use mathlib.Core.Path.{_≡_, refl, sym, ap, ap₂, _∙_}
-use mathlib.Core.Bool.{Bool, true, false, cond}
+use mathlib.Core.Bool.{Bool, true, false, not, cond}
 use Prim.Native.Nat.{ℕ, _≤_}
 use native.Mathlib.Omega.{arith}
 use lib.ListN.{length, take}
 use lib.Seq.{length-take-le}
+use borrow.Author.Tests.{not-true, not-false}
 use Rattle.error.specs.declared.Error.{Error}
 use Rattle.error.specs.Said.{says, refuse}
 use Rattle.elements.specs.Elements.{sum}
@@ -14,12 +15,13 @@ use Rattle.block.specs.Form.{lengthFor}
 use Rattle.header.specs.declared.Header.{Header}
 use Rattle.header_write.specs.declared.Length.{Length}
 use Rattle.header_write.specs.declared.Length.the-variants as len
-use Rattle.header.specs.Fields.{fieldsOf, inDomain}
+use Rattle.header.specs.Fields.{fieldsOf, inDomain, Tested}
 use Rattle.header_write.specs.Size.{sizeFor}
 use Rattle.header.specs.Size.{payloadLength, headerSize, lengthAsked, sizeAsked}
 use Rattle.header_write.specs.Said.{saidLength}
 use Rattle.header_write.proofs.Domain.{Limits, limits, taken-few}
 pub use Rattle.header_write.proofs.Domain.{never}
+pub use Rattle.header.specs.Fields.{Arrays}
 
 abbrev pub lengthIn : Header → ℕ
 lengthIn h =
@@ -42,15 +44,15 @@ header-size h p cs =
 abbrev pub LimitsOf : Header → Type 0
 LimitsOf h = Limits (h .«csrc_count») (h .extensions .count) (h .extensions .lens) (h .«extensions_padding»)
 
--- arrays of a record have as many places as its type says
-pub record Arrays (h : Header) : Type 0 where
-  pub csrc : length (h .csrc) ≡ 15
-  pub ids : length (h .extensions .ids) ≡ 32
-  pub lens : length (h .extensions .lens) ≡ 32
-  pub bytes : length (h .extensions .bytes) ≡ 1024
-
 pub packed : (h : Header) → Arrays h → LimitsOf h → PackedIn (h .extensions)
 packed h a l = record { places = omega arith; lengths = omega arith; packed = omega arith }
+
+module _ {h : Header} {r : Bool} (t : Tested h r) where
+  pub passes : not r ≡ false → inDomain h ≡ true
+  passes e = sym (t .answer) ∙ not-false r e
+
+  pub fails : not r ≡ true → inDomain h ≡ false
+  fails e = sym (t .answer) ∙ not-true r e
 
 pub limits-of : (h : Header) → inDomain h ≡ true → LimitsOf h
 unfolding inDomain

@@ -1,5 +1,6 @@
 -- What a header says, as the paper speaks of it: elements are a list, sources are a list. The record with its arrays is laid out
 -- from this, and read back to it, in one place. Assumes nothing.
+use mathlib.Core.Path.{_≡_}
 use mathlib.Core.Bool.{Bool, false}
 use mathlib.Core.List.{List, []}
 use Prim.Native.Nat.{ℕ}
@@ -82,3 +83,15 @@ blank =
 unfoldable pub inDomain : Header → Bool
 inDomain h =
     inLimits (h .«csrc_count») (h .extensions .count) (h .extensions .lens) (h .«extensions_padding»)
+
+-- arrays of a record have as many places as its type says
+pub record Arrays (h : Header) : Type 0 where
+  pub csrc : length (h .csrc) ≡ 15
+  pub ids : length (h .extensions .ids) ≡ 32
+  pub lens : length (h .extensions .lens) ≡ 32
+  pub bytes : length (h .extensions .bytes) ≡ 1024
+
+-- what a test of a record says: whether it is in the domain, and that its arrays are whole
+pub record Tested (h : Header) (r : Bool) : Type 0 where
+  pub answer : r ≡ inDomain h
+  pub arrays : Arrays h

@@ -1,4 +1,4 @@
-// Setting, getting and deleting an extension element.
+// Setting and deleting an extension element.
 ghost use mathlib.Core.Path.{_≡_};
 ghost use mathlib.Core.Bool.{true};
 ghost use mathlib.Core.List.{[], _∷_};
@@ -10,14 +10,11 @@ ghost use Rattle.elements.specs.Runs.{Holds, element, replacedAt};
 ghost use Rattle.block.specs.Form.{formOf};
 ghost use Rattle.header.specs.declared.Header.{Header};
 ghost use Rattle.header.specs.Fields.{inDomain};
-ghost use Rattle.header.specs.Extension.{extended, change, idRefusal, setLater, setFirst, setExtension, delExtension, getExtension, getExtensionIds};
-ghost use Rattle.header.specs.Said.{saidChange, heardChange, changeHeard, saidGot, heardIds, idsHeard, unless};
+ghost use Rattle.header.specs.Extension.{extended, change, idRefusal, setLater, setFirst, setExtension, delExtension};
+ghost use Rattle.header.specs.Said.{saidChange, heardChange, changeHeard, unless};
 use crate::Change;
 use crate::Changed;
-use crate::Got;
 use crate::Header;
-use crate::IdCount;
-use crate::Ids;
 use block::EXTENSION_PROFILE_ONE_BYTE;
 use block::EXTENSION_PROFILE_TWO_BYTE;
 use block::first_head;
@@ -202,65 +199,6 @@ impl Header {
         Changed {
             change: Change::Made,
             header: self.extended(profile, without(self.extensions, run), padding),
-        }
-    }
-
-    pub fn get_extension(self, id: u8) -> Got
-        ensures { λ r. ⌜ saidGot r ≡ getExtension self id ⌝ }
-    {
-        if !in_limits(
-            self.csrc_count,
-            self.extensions.count,
-            &self.extensions.lens,
-            self.extensions_padding,
-        ) {
-            return Got::Refused(Error::OutsideDomain);
-        }
-        if !self.extension {
-            return Got::Absent;
-        }
-        let run = find(
-            id,
-            self.extensions.count,
-            &self.extensions.ids,
-            &self.extensions.lens,
-        );
-        if run.count == 0 {
-            return Got::Absent;
-        }
-        Got::Data {
-            at: run.at,
-            len: run.len,
-        }
-    }
-
-    pub fn get_extension_ids(self) -> Ids
-        ensures { λ r. ⌜ heardIds r ≡ idsHeard (getExtensionIds self) ⌝ }
-    {
-        let count = self.extensions.count;
-        let mut ids = [0; 32];
-        if !in_limits(
-            self.csrc_count,
-            count,
-            &self.extensions.lens,
-            self.extensions_padding,
-        ) {
-            return Ids {
-                count: IdCount::Refused(Error::OutsideDomain),
-                ids,
-            };
-        }
-        if !self.extension {
-            return Ids {
-                count: IdCount::Ids(0),
-                ids,
-            };
-        }
-        let all = self.extensions.ids;
-        wire::copy_at(&all[0..count], &mut ids, 0);
-        Ids {
-            count: IdCount::Ids(count),
-            ids,
         }
     }
 }

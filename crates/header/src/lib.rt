@@ -15,6 +15,7 @@
 use error::Error;
 
 mod extension;
+mod look;
 mod read;
 mod size;
 mod write;
@@ -25,8 +26,12 @@ pub use block::EXTENSION_PROFILE_TWO_BYTE;
 pub use elements::Extensions;
 pub use header_write::Fixed;
 pub use header_write::Length;
+pub use look::get_extension_ids_parts;
+pub use look::get_extension_parts;
 pub use read::unmarshal_front;
 pub use read::unmarshal_parts;
+pub use size::get_extension_payload_len_parts;
+pub use size::marshal_size_parts;
 pub use write::marshal_bare;
 pub use write::marshal_parts;
 

@@ -2,12 +2,10 @@
 use mathlib.Core.Path.{ap, _∙_}
 use borrow.Author.Needs.{needs}
 use lib.ListN.{length}
-use Rattle.header_write.specs.declared.Fixed.{Fixed}
 use Rattle.header.specs.declared.Header.{Header}
 use Rattle.header.specs.Write.{writeHeader}
 use Rattle.header.specs.Said.{written}
-use Rattle.header.specs.Parts.{together}
-use Rattle.header.proofs.Parts.{together-whole}
+use Rattle.header.proofs.Parts.{together-of}
 use Rattle.header.proofs.Header.marshal_to.Statement.{statement}
 use Rattle.header.proofs.Header.marshal_to.Tie as tie
 
@@ -16,16 +14,9 @@ returns c =
     let put = c .before .before in
     let fixed = put .before .before .before .before .before .before .before in
     let a = fixed .before .before .args in
-    let h = a .t1 in
     let buf = a .buf .now in
     put .marshal-parts .ensures
-    ∙ ap
-    (λ (f : Fixed).
-    written buf
-    (writeHeader
-    (together f (h .«csrc_count») (h .csrc) (h .«extension_profile») (h .extensions) (h .«extensions_padding»)) (length buf)))
-    (fixed .fixed .ensures)
-    ∙ ap (λ (g : Header). written buf (writeHeader g (length buf))) (together-whole h)
+    ∙ ap (λ (h : Header). written buf (writeHeader h (length buf))) (together-of (a .t1) (fixed .fixed .ensures))
 
 pub marshal-to-spec : {M : Type 1} → statement M
 marshal-to-spec =
