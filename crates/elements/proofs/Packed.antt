@@ -3,9 +3,10 @@
 use mathlib.Core.Path.{_≡_, sym, ap, ap₂, _∙_, refl}
 use mathlib.Core.List.{List, [], _∷_}
 use Prim.Native.Nat.{ℕ, _+_, _<_, _≤_, suc}
+use native.Mathlib.Nat.{min-le-left}
 use native.Mathlib.Numerals.{add-one}
 use native.Mathlib.Omega.{arith}
-use lib.ListN.{length, take, drop, getD, drop-of-length-le, length-append, length-drop}
+use lib.ListN.{length, take, drop, getD, drop-of-length-le, length-append, length-take, length-drop}
 use lib.Seq.{length-take-le, drop-cons, drop-drop, getD-take}
 use Rattle.elements.specs.declared.Extensions.{Extensions}
 use Rattle.elements.specs.Elements.{Element, unpack, sum, dataOf, elementsOf, Packed, elementsIn}
@@ -63,6 +64,25 @@ length-data (i ∷ ids) (l ∷ lens) bytes e h =
     length-append (take l bytes) (dataOf (unpack ids lens (drop l bytes)))
     ∙ ap₂ (λ (m n : ℕ). m + n) (length-take-le l bytes (omega arith))
     (length-data ids lens (drop l bytes) (omega arith) (rw length-drop (omega arith)))
+
+-- .. and where an array is too short, no more than these
+pub length-unpack-few : (ids lens bytes : List ℕ) → length (unpack ids lens bytes) ≤ length ids
+length-unpack-few [] lens bytes = omega arith
+length-unpack-few (i ∷ ids) [] bytes = omega arith
+length-unpack-few (i ∷ ids) (l ∷ lens) bytes = omega (arith, length-unpack-few ids lens (drop l bytes))
+
+pub length-data-few : (ids lens bytes : List ℕ) → length (dataOf (unpack ids lens bytes)) ≤ sum lens
+length-data-few [] lens bytes = omega arith
+length-data-few (i ∷ ids) [] bytes = omega arith
+length-data-few (i ∷ ids) (l ∷ lens) bytes =
+    let rest = unpack ids lens (drop l bytes) in
+    omega (
+      arith,
+      length-append (take l bytes) (dataOf rest),
+      length-take l bytes,
+      min-le-left l (length bytes),
+      length-data-few ids lens (drop l bytes),
+    )
 
 module _ (count : ℕ) (ids lens bytes : List ℕ) (p : Packed count ids lens bytes) where
   many : length (take count ids) ≡ count

@@ -3,15 +3,17 @@
 use mathlib.Core.Path.{_≡_, refl, sym, ap, ap₂, _∙_}
 use mathlib.Core.Bool.{Bool, true, false, not, cond}
 use Prim.Native.Nat.{ℕ, _≤_}
+use native.Mathlib.Nat.{min-le-left}
 use native.Mathlib.Omega.{arith}
-use lib.ListN.{length, take}
+use lib.ListN.{length, take, length-take}
 use lib.Seq.{length-take-le}
 use borrow.Author.Tests.{not-true, not-false}
 use Rattle.error.specs.declared.Error.{Error}
 use Rattle.error.specs.Said.{says, refuse}
-use Rattle.elements.specs.Elements.{sum}
-use Rattle.elements.proofs.Packed.{PackedIn, length-elementsOf, length-dataOf}
+use Rattle.elements.specs.Elements.{unpack, sum, elementsOf}
+use Rattle.elements.proofs.Packed.{PackedIn, length-elementsOf, length-dataOf, length-unpack-few, length-data-few}
 use Rattle.block.specs.Form.{lengthFor}
+use Rattle.block.proofs.Form.{heads-few}
 use Rattle.header.specs.declared.Header.{Header}
 use Rattle.header_write.specs.declared.Length.{Length}
 use Rattle.header_write.specs.declared.Length.the-variants as len
@@ -94,8 +96,22 @@ pub size-most : (on : Bool) (n len pads : ℕ) → n ≤ 15 → len ≤ 1088 →
 size-most true n len pads p q r = omega arith
 size-most false n len pads p q r = omega arith
 
-pub size-small : (h : Header) → Arrays h → inDomain h ≡ true → headerSize (fieldsOf h) ≤ 263308
-size-small h a e =
+pub size-small : (h : Header) → inDomain h ≡ true → headerSize (fieldsOf h) ≤ 263308
+unfolding headerSize payloadLength fieldsOf elementsOf
+size-small h e =
     let l = limits-of h e in
-    rw (header-size h (packed h a l) (omega (arith, l .sources, a .csrc)))
-    (size-most (h .extension) (h .«csrc_count») (lengthIn h) (h .«extensions_padding») (l .sources) (length-few h l) (l .zeros))
+    let x = h .extensions in
+    let names = take (x .count) (x .ids) in
+    let sizes = take (x .count) (x .lens) in
+    let n : ℕ = length (unpack names sizes (x .bytes)) in
+    let few : n ≤ 32 = omega (
+      arith,
+      l .elements,
+      length-unpack-few names sizes (x .bytes),
+      length-take (x .count) (x .ids),
+      min-le-left (x .count) (length (x .ids)),
+    ) in
+    size-most (h .extension) _ _ (h .«extensions_padding»)
+    (omega (arith, l .sources, length-take (h .«csrc_count») (h .csrc), min-le-left (h .«csrc_count») (length (h .csrc))))
+    (omega (arith, l .bytes, length-data-few names sizes (x .bytes), heads-few (h .«extension_profile») n few))
+    (l .zeros)

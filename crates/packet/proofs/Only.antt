@@ -43,6 +43,11 @@ marshal-size-only h payload =
     length-only (packetSizeAsked h payload)
     (either-sayable {x = says (packetSize (fieldsOf h) payload)} {y = refuse 8} (inDomain h && shortEnough payload) refl refl)
 
+-- .. of the header's record put together
+pub marshal-size-parts-only : (f : Fixed) (count : ℕ) (csrc : List ℕ) (profile : ℕ) (x : Extensions) (pads : ℕ) (payload : List ℕ) →
+    Determined (λ (r : Length). saidLength r ≡ packetSizeAsked (together f count csrc profile x pads) payload)
+marshal-size-parts-only f count csrc profile x pads payload = marshal-size-only (together f count csrc profile x pads) payload
+
 write-sayable : (h : Header) (payload : List ℕ) (room : ℕ) → Sayable (writePacket h payload room)
 unfolding writePacket
 write-sayable h payload room =

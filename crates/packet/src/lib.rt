@@ -12,6 +12,7 @@ pub use read::unmarshal_parts;
 pub use write::marshal_bare;
 pub use write::marshal_parts;
 pub use write::marshal_size;
+pub use write::marshal_size_parts;
 pub use write::marshal_to;
 
 // What reading answers beside the record: the payload, `len` bytes of the packet from `at` on.

@@ -37,10 +37,31 @@ fn padding_len(padding: bool, len: usize) -> usize
     if n == 0 { 4 } else { n }
 }
 
-pub fn marshal_size(header: Header, payload: &[u8]) -> Length
-    ensures { λ r. ⌜ saidLength r ≡ packetSizeAsked header (now (payload .entry)) ⌝ }
+pub fn marshal_size_parts<'a>(
+    fixed: Fixed,
+    csrc_count: usize,
+    csrc: &'a [u32; 15],
+    profile: u16,
+    count: usize,
+    ids: &'a [u8; 32],
+    lens: &'a [u16; 32],
+    bytes: &'a [u8; 1024],
+    extensions_padding: usize,
+    payload: &[u8],
+) -> Length
+    ensures { λ r. ⌜ saidLength r ≡ packetSizeAsked (together fixed «csrc_count» (now (csrc .entry)) profile (record { count = count; ids = now (ids .entry); lens = now (lens .entry); bytes = now (bytes .entry) }) «extensions_padding») (now (payload .entry)) ⌝ }
 {
-    let size = header.marshal_size();
+    let size = header::marshal_size_parts(
+        fixed,
+        csrc_count,
+        csrc,
+        profile,
+        count,
+        ids,
+        lens,
+        bytes,
+        extensions_padding,
+    );
     let Length::Bytes(n) = size else {
         return size;
     };
@@ -48,7 +69,24 @@ pub fn marshal_size(header: Header, payload: &[u8]) -> Length
     if 65535 < len {
         return Length::Refused(Error::OutsideDomain);
     }
-    Length::Bytes(n + len + padding_len(header.padding, len))
+    Length::Bytes(n + len + padding_len(fixed.padding, len))
+}
+
+pub fn marshal_size(header: Header, payload: &[u8]) -> Length
+    ensures { λ r. ⌜ saidLength r ≡ packetSizeAsked header (now (payload .entry)) ⌝ }
+{
+    marshal_size_parts(
+        header.fixed(),
+        header.csrc_count,
+        &header.csrc,
+        header.extension_profile,
+        header.extensions.count,
+        &header.extensions.ids,
+        &header.extensions.lens,
+        &header.extensions.bytes,
+        header.extensions_padding,
+        payload,
+    )
 }
 
 // RFC 3550, section 5.1: "The last octet of the padding contains a count of how many padding octets should be ignored, including

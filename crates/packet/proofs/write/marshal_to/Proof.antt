@@ -2,11 +2,9 @@
 use mathlib.Core.Path.{ap, _∙_}
 use lib.ListN.{length}
 use borrow.Author.Needs.{needs}
-use Rattle.header_write.specs.declared.Fixed.{Fixed}
 use Rattle.header.specs.declared.Header.{Header}
 use Rattle.header.specs.Said.{written}
-use Rattle.header.specs.Parts.{together}
-use Rattle.header.proofs.Parts.{together-whole}
+use Rattle.header.proofs.Parts.{together-of}
 use Rattle.packet.specs.Write.{writePacket}
 use Rattle.packet.proofs.write.marshal_to.Statement.{statement}
 use Rattle.packet.proofs.write.marshal_to.Tie as tie
@@ -16,16 +14,9 @@ returns c =
     let put = c .before .before in
     let fixed = put .before .before .before .before .before .before .before in
     let a = fixed .before .before .before .args in
-    let h = a .t1 in
     let buf = a .buf .now in
     put .marshal-parts .ensures
-    ∙ ap
-    (λ (f : Fixed).
-    written buf
-    (writePacket (together f (h .«csrc_count») (h .csrc) (h .«extension_profile») (h .extensions) (h .«extensions_padding»)) (a .payload .now)
-    (length buf)))
-    (fixed .fixed .ensures)
-    ∙ ap (λ (g : Header). written buf (writePacket g (a .payload .now) (length buf))) (together-whole h)
+    ∙ ap (λ (h : Header). written buf (writePacket h (a .payload .now) (length buf))) (together-of (a .t1) (fixed .fixed .ensures))
 
 pub marshal-to-spec : {M : Type 1} → statement M
 marshal-to-spec = tie.close (tie.spec (λ c κs. search needs) (λ c κs. search needs) (λ c. search needs) returns)
