@@ -6,7 +6,7 @@
  * A `bool` is true or false, in a record too: a record that was never set is no argument. Any other value in a record is; what lies
  * outside the limits is refused with 8.
  *
- * Each call that can refuse answers a record that begins with `refused`. Its number is 0 where the call answers. Else nothing is changed: no buffer, no state; every
+ * Each call that can refuse answers a record that begins with `refused`, or with the number alone where its refusals carry nothing. The number is 0 where the call answers. Else nothing is changed: no buffer, no state; every
  * other value is 0 and the state comes back as it was. One call differs: rtp_vp8_depacketize keeps the fields read so far
  * beside refusal 4 of a payload of 4 bytes or more.
  *
@@ -150,6 +150,198 @@ struct rtp_length rtp_packet_marshal_size(struct rtp_header header, const uint8_
 
 /* How many bytes were written; the rest of the buffer stays. */
 struct rtp_length rtp_packet_marshal_to(struct rtp_header header, const uint8_t *payload, size_t payload_len, uint8_t *buf, size_t buf_len);
+
+/* ---- headers and packets in parts
+ *
+ * A header's record has 1,224 bytes, and the calls above copy it two or three times, some 20 ns each. The calls below copy none: what is
+ * small of it goes by value, its arrays are lent. They read, write and refuse exactly what those do. Use
+ *
+ *   rtp_header_marshal_from, rtp_packet_marshal_from   to write from a record;
+ *   rtp_header_marshal_size_from and the others that end so   to look at a record;
+ *   rtp_header_unmarshal_into, rtp_packet_unmarshal_into   to read into a record that is there;
+ *   rtp_header_unmarshal_front, rtp_packet_unmarshal_front   where CSRCs and elements are not wanted: nothing else is as quick;
+ *   the calls above where a header comes and goes by value.
+ *
+ * The parts of a record are its first fields, in a struct of their own, its csrc_count, csrc and extension_profile, the four fields of its
+ * extensions, and its extensions_padding. The answers of most of these calls begin with `number`, 0 where the call answers, else one of enum
+ * rtp_refusal: their refusals carry nothing. */
+
+/* The first fields of a header, in their order. */
+struct rtp_fixed {
+    uint8_t version;
+    bool padding;
+    bool extension;
+    bool marker;
+    uint8_t payload_type;
+    uint16_t sequence_number;
+    uint32_t timestamp;
+    uint32_t ssrc;
+};
+
+/* A header without its arrays. */
+struct rtp_front {
+    struct rtp_fixed fixed;
+    size_t csrc_count; /* how many contributing sources there are: 0 to 15 */
+    size_t count;      /* how many extension elements there are: 0 to 32 */
+    size_t extensions_padding;
+    uint16_t extension_profile;
+};
+
+struct rtp_bytes {
+    size_t number;
+    size_t bytes; /* how many they are, or how many were written: then the rest of the buffer stays */
+};
+
+struct rtp_header_front {
+    size_t number;
+    size_t at;              /* the payload's place in the packet */
+    struct rtp_front front; /* all zeros beside a refusal */
+};
+
+struct rtp_packet_front {
+    size_t number;
+    size_t at; /* the payload: `len` bytes of the packet from `at` on */
+    size_t len;
+    struct rtp_front front; /* all zeros beside a refusal */
+};
+
+struct rtp_header_front rtp_header_unmarshal_front(const uint8_t *packet, size_t packet_len);
+
+/* The arrays become those of the header, with zeros behind what it has; beside a refusal they stay. */
+struct rtp_header_front rtp_header_unmarshal_parts(const uint8_t *packet, size_t packet_len, uint32_t csrc[15], uint8_t ids[32],
+                                                   uint16_t lens[32], uint8_t bytes[1024]);
+
+struct rtp_packet_front rtp_packet_unmarshal_front(const uint8_t *packet, size_t packet_len);
+
+struct rtp_packet_front rtp_packet_unmarshal_parts(const uint8_t *packet, size_t packet_len, uint32_t csrc[15], uint8_t ids[32],
+                                                   uint16_t lens[32], uint8_t bytes[1024]);
+
+/* `profile` and `padding` are a header's extension_profile and extensions_padding. */
+struct rtp_bytes rtp_header_marshal_parts(struct rtp_fixed fixed, size_t csrc_count, const uint32_t csrc[15], uint16_t profile,
+                                            size_t count, const uint8_t ids[32], const uint16_t lens[32], const uint8_t bytes[1024],
+                                            size_t padding, uint8_t *buf, size_t buf_len);
+
+/* Of a header without CSRCs and elements. */
+struct rtp_bytes rtp_header_marshal_bare(struct rtp_fixed fixed, uint16_t profile, size_t padding, uint8_t *buf, size_t buf_len);
+
+struct rtp_bytes rtp_packet_marshal_parts(struct rtp_fixed fixed, size_t csrc_count, const uint32_t csrc[15], uint16_t profile,
+                                            size_t count, const uint8_t ids[32], const uint16_t lens[32], const uint8_t bytes[1024],
+                                            size_t padding, const uint8_t *payload, size_t payload_len, uint8_t *buf, size_t buf_len);
+
+/* Of a packet whose header has no CSRCs and elements. */
+struct rtp_bytes rtp_packet_marshal_bare(struct rtp_fixed fixed, uint16_t profile, size_t padding, const uint8_t *payload,
+                                           size_t payload_len, uint8_t *buf, size_t buf_len);
+
+struct rtp_bytes rtp_header_marshal_size_parts(struct rtp_fixed fixed, size_t csrc_count, const uint32_t csrc[15], uint16_t profile,
+                                               size_t count, const uint8_t ids[32], const uint16_t lens[32], const uint8_t bytes[1024],
+                                               size_t padding);
+
+struct rtp_bytes rtp_header_get_extension_payload_len_parts(struct rtp_fixed fixed, size_t csrc_count, const uint32_t csrc[15], uint16_t profile,
+                                                            size_t count, const uint8_t ids[32], const uint16_t lens[32], const uint8_t bytes[1024],
+                                                            size_t padding);
+
+struct rtp_element rtp_header_get_extension_parts(struct rtp_fixed fixed, size_t csrc_count, const uint32_t csrc[15], uint16_t profile,
+                                                  size_t count, const uint8_t ids[32], const uint16_t lens[32], const uint8_t bytes[1024],
+                                                  size_t padding, uint8_t id);
+
+struct rtp_ids rtp_header_get_extension_ids_parts(struct rtp_fixed fixed, size_t csrc_count, const uint32_t csrc[15], uint16_t profile,
+                                                  size_t count, const uint8_t ids[32], const uint16_t lens[32], const uint8_t bytes[1024],
+                                                  size_t padding);
+
+struct rtp_bytes rtp_packet_marshal_size_parts(struct rtp_fixed fixed, size_t csrc_count, const uint32_t csrc[15], uint16_t profile,
+                                               size_t count, const uint8_t ids[32], const uint16_t lens[32], const uint8_t bytes[1024],
+                                               size_t padding, const uint8_t *payload, size_t payload_len);
+
+static inline struct rtp_fixed rtp_header_fixed(const struct rtp_header *h)
+{
+    struct rtp_fixed fixed = {h->version,         h->padding,   h->extension, h->marker, h->payload_type,
+                              h->sequence_number, h->timestamp, h->ssrc};
+    return fixed;
+}
+
+static inline void rtp_header_store(struct rtp_header *h, const struct rtp_front *front)
+{
+    h->version = front->fixed.version;
+    h->padding = front->fixed.padding;
+    h->extension = front->fixed.extension;
+    h->marker = front->fixed.marker;
+    h->payload_type = front->fixed.payload_type;
+    h->sequence_number = front->fixed.sequence_number;
+    h->timestamp = front->fixed.timestamp;
+    h->ssrc = front->fixed.ssrc;
+    h->csrc_count = front->csrc_count;
+    h->extension_profile = front->extension_profile;
+    h->extensions.count = front->count;
+    h->extensions_padding = front->extensions_padding;
+}
+
+/* Beside a refusal the record is as it was; so it is below. */
+static inline struct rtp_header_front rtp_header_unmarshal_into(struct rtp_header *h, const uint8_t *packet, size_t packet_len)
+{
+    struct rtp_header_front read = rtp_header_unmarshal_parts(packet, packet_len, h->csrc, h->extensions.ids, h->extensions.lens,
+                                                              h->extensions.bytes);
+    if (read.number == 0)
+        rtp_header_store(h, &read.front);
+    return read;
+}
+
+static inline struct rtp_packet_front rtp_packet_unmarshal_into(struct rtp_header *h, const uint8_t *packet, size_t packet_len)
+{
+    struct rtp_packet_front read = rtp_packet_unmarshal_parts(packet, packet_len, h->csrc, h->extensions.ids, h->extensions.lens,
+                                                              h->extensions.bytes);
+    if (read.number == 0)
+        rtp_header_store(h, &read.front);
+    return read;
+}
+
+static inline struct rtp_bytes rtp_header_marshal_from(const struct rtp_header *h, uint8_t *buf, size_t buf_len)
+{
+    if (h->csrc_count == 0 && h->extensions.count == 0)
+        return rtp_header_marshal_bare(rtp_header_fixed(h), h->extension_profile, h->extensions_padding, buf, buf_len);
+    return rtp_header_marshal_parts(rtp_header_fixed(h), h->csrc_count, h->csrc, h->extension_profile, h->extensions.count,
+                                    h->extensions.ids, h->extensions.lens, h->extensions.bytes, h->extensions_padding, buf, buf_len);
+}
+
+static inline struct rtp_bytes rtp_packet_marshal_from(const struct rtp_header *h, const uint8_t *payload, size_t payload_len,
+                                                         uint8_t *buf, size_t buf_len)
+{
+    if (h->csrc_count == 0 && h->extensions.count == 0)
+        return rtp_packet_marshal_bare(rtp_header_fixed(h), h->extension_profile, h->extensions_padding, payload, payload_len, buf,
+                                       buf_len);
+    return rtp_packet_marshal_parts(rtp_header_fixed(h), h->csrc_count, h->csrc, h->extension_profile, h->extensions.count,
+                                    h->extensions.ids, h->extensions.lens, h->extensions.bytes, h->extensions_padding, payload,
+                                    payload_len, buf, buf_len);
+}
+
+static inline struct rtp_bytes rtp_header_marshal_size_from(const struct rtp_header *h)
+{
+    return rtp_header_marshal_size_parts(rtp_header_fixed(h), h->csrc_count, h->csrc, h->extension_profile, h->extensions.count,
+                                         h->extensions.ids, h->extensions.lens, h->extensions.bytes, h->extensions_padding);
+}
+
+static inline struct rtp_bytes rtp_header_get_extension_payload_len_from(const struct rtp_header *h)
+{
+    return rtp_header_get_extension_payload_len_parts(rtp_header_fixed(h), h->csrc_count, h->csrc, h->extension_profile, h->extensions.count,
+                                                      h->extensions.ids, h->extensions.lens, h->extensions.bytes, h->extensions_padding);
+}
+
+static inline struct rtp_element rtp_header_get_extension_from(const struct rtp_header *h, uint8_t id)
+{
+    return rtp_header_get_extension_parts(rtp_header_fixed(h), h->csrc_count, h->csrc, h->extension_profile, h->extensions.count,
+                                          h->extensions.ids, h->extensions.lens, h->extensions.bytes, h->extensions_padding, id);
+}
+
+static inline struct rtp_ids rtp_header_get_extension_ids_from(const struct rtp_header *h)
+{
+    return rtp_header_get_extension_ids_parts(rtp_header_fixed(h), h->csrc_count, h->csrc, h->extension_profile, h->extensions.count,
+                                              h->extensions.ids, h->extensions.lens, h->extensions.bytes, h->extensions_padding);
+}
+
+static inline struct rtp_bytes rtp_packet_marshal_size_from(const struct rtp_header *h, const uint8_t *payload, size_t payload_len)
+{
+    return rtp_packet_marshal_size_parts(rtp_header_fixed(h), h->csrc_count, h->csrc, h->extension_profile, h->extensions.count,
+                                         h->extensions.ids, h->extensions.lens, h->extensions.bytes, h->extensions_padding, payload, payload_len);
+}
 
 /* ---- H.264 */
 
@@ -323,11 +515,16 @@ struct rtp_sizes {
     size_t test;
     size_t extensions;
     size_t header;
+    size_t fixed;
+    size_t front;
+    size_t bytes;
+    size_t header_front;
     size_t header_read;
     size_t length;
     size_t header_changed;
     size_t element;
     size_t ids;
+    size_t packet_front;
     size_t packet_read;
     size_t parameter_set;
     size_t h264_payloader;

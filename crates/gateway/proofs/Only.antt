@@ -7,6 +7,8 @@ use Prim.Native.Nat.{ℕ}
 use lib.ListN.{length}
 use Rattle.error.specs.Only.{Determined}
 use Rattle.error.proofs.Only.{by-value, by-both}
+use Rattle.elements.specs.declared.Extensions.{Extensions}
+use Rattle.header_write.specs.declared.Fixed.{Fixed}
 use Rattle.header.specs.declared.Header.{Header}
 use Rattle.header.specs.Fields.{blank}
 use Rattle.header.specs.Read.{readHeader}
@@ -14,9 +16,11 @@ use Rattle.header.specs.Size.{sizeAsked, lengthAsked}
 use Rattle.header.specs.Write.{writeHeader}
 use Rattle.header.specs.Extension.{setExtension, delExtension, getExtension, getExtensionIds}
 use Rattle.header.specs.Said.{Written, written, changeHeard, idsHeard, readingHeard as headerHeard}
+use Rattle.header.specs.Parts.{together, bare, Lent as Arrays, frontHeard as headerFront, lentRead as headerLent}
 use Rattle.packet.specs.Read.{readPacket}
 use Rattle.packet.specs.Write.{packetSizeAsked, writePacket}
 use Rattle.packet.specs.Said.{readingHeard as packetHeard}
+use Rattle.packet.specs.Fronts.{frontHeard as packetFront, lentRead as packetLent}
 use Rattle.vp8_send.specs.declared.Vp8Payloader.{Vp8Payloader}
 use Rattle.vp8_read.specs.declared.Vp8Packet.{Vp8Packet}
 use Rattle.vp8_send.specs.Send.{Sending, payloaded}
@@ -38,6 +42,9 @@ use Rattle.gateway.specs.declared.rtp_extension.RtpHeaderChanged.{RtpHea
 use Rattle.gateway.specs.declared.rtp_extension.RtpElement.{RtpElement}
 use Rattle.gateway.specs.declared.rtp_extension.RtpIds.{RtpIds}
 use Rattle.gateway.specs.declared.rtp_packet.RtpPacketRead.{RtpPacketRead}
+use Rattle.gateway.specs.declared.rtp_parts.RtpBytes.{RtpBytes}
+use Rattle.gateway.specs.declared.rtp_parts.RtpHeaderFront.{RtpHeaderFront}
+use Rattle.gateway.specs.declared.rtp_parts.RtpPacketFront.{RtpPacketFront}
 use Rattle.gateway.specs.declared.rtp_h264.RtpH264Sent.{RtpH264Sent}
 use Rattle.gateway.specs.declared.rtp_h264.RtpH264LentSent.{RtpH264LentSent}
 use Rattle.gateway.specs.declared.rtp_h264.RtpH264Read.{RtpH264Read}
@@ -49,6 +56,7 @@ use Rattle.gateway.specs.declared.rtp_sizes.RtpSizes.{RtpSizes}
 use Rattle.gateway.specs.Refused.{testAs}
 use Rattle.gateway.specs.HeaderAnswers.{headerReadAs, lengthAs, headerChangedAs, elementAs, idsAs}
 use Rattle.gateway.specs.PacketAnswers.{packetReadAs}
+use Rattle.gateway.specs.PartsAnswers.{bytesAs, headerFrontAs, packetFrontAs}
 use Rattle.gateway.specs.H264Answers.{h264SentAs, h264LentSentAs, h264ReadAs}
 use Rattle.gateway.specs.Vp8Answers.{vp8SentAs, vp8ReadAs}
 use Rattle.gateway.specs.JoinerAnswers.{joinedAs, closedAs}
@@ -107,6 +115,69 @@ pub packet-marshal-to-only : (h : Header) (payload buf : List ℕ) →
 packet-marshal-to-only h payload buf =
     let w : Written = written buf (writePacket h payload (length buf)) in
     by-both (by-value (lengthAs (w .answer))) (by-value (w .buffer))
+
+-- ---- headers and packets in parts: of every header that has these parts
+
+-- the bytes counted, and the buffer
+wrote-only : (w : Written) → Determined (λ (r : RtpBytes × List ℕ). (r .0 ≡ bytesAs (w .answer)) × (r .1 ≡ w .buffer))
+wrote-only w = by-both (by-value (bytesAs (w .answer))) (by-value (w .buffer))
+
+module _ (f : Fixed) (sources : ℕ) (csrc : List ℕ) (profile : ℕ) (x : Extensions) (pads : ℕ) where
+  abbrev whole : Header
+  whole = together f sources csrc profile x pads
+
+  pub header-marshal-size-parts-only : Determined (λ (r : RtpBytes). r ≡ bytesAs (sizeAsked whole))
+  header-marshal-size-parts-only = by-value (bytesAs (sizeAsked whole))
+
+  pub header-payload-len-parts-only : Determined (λ (r : RtpBytes). r ≡ bytesAs (lengthAsked whole))
+  header-payload-len-parts-only = by-value (bytesAs (lengthAsked whole))
+
+  pub header-get-extension-parts-only : (id : ℕ) → Determined (λ (r : RtpElement). r ≡ elementAs (getExtension whole id))
+  header-get-extension-parts-only id = by-value (elementAs (getExtension whole id))
+
+  pub header-get-extension-ids-parts-only : Determined (λ (r : RtpIds). r ≡ idsAs (idsHeard (getExtensionIds whole)))
+  header-get-extension-ids-parts-only = by-value (idsAs (idsHeard (getExtensionIds whole)))
+
+  pub packet-marshal-size-parts-only : (s : List ℕ) → Determined (λ (r : RtpBytes). r ≡ bytesAs (packetSizeAsked whole s))
+  packet-marshal-size-parts-only s = by-value (bytesAs (packetSizeAsked whole s))
+
+  pub header-marshal-parts-only : (buf : List ℕ) →
+      let w = written buf (writeHeader whole (length buf)) in
+      Determined (λ (r : RtpBytes × List ℕ). (r .0 ≡ bytesAs (w .answer)) × (r .1 ≡ w .buffer))
+  header-marshal-parts-only buf = wrote-only (written buf (writeHeader whole (length buf)))
+
+  pub packet-marshal-parts-only : (s buf : List ℕ) →
+      let w = written buf (writePacket whole s (length buf)) in
+      Determined (λ (r : RtpBytes × List ℕ). (r .0 ≡ bytesAs (w .answer)) × (r .1 ≡ w .buffer))
+  packet-marshal-parts-only s buf = wrote-only (written buf (writePacket whole s (length buf)))
+
+pub header-marshal-bare-only : (f : Fixed) (profile pads : ℕ) (buf : List ℕ) →
+    let w = written buf (writeHeader (bare f profile pads) (length buf)) in
+    Determined (λ (r : RtpBytes × List ℕ). (r .0 ≡ bytesAs (w .answer)) × (r .1 ≡ w .buffer))
+header-marshal-bare-only f profile pads buf = wrote-only (written buf (writeHeader (bare f profile pads) (length buf)))
+
+pub packet-marshal-bare-only : (f : Fixed) (profile pads : ℕ) (s buf : List ℕ) →
+    let w = written buf (writePacket (bare f profile pads) s (length buf)) in
+    Determined (λ (r : RtpBytes × List ℕ). (r .0 ≡ bytesAs (w .answer)) × (r .1 ≡ w .buffer))
+packet-marshal-bare-only f profile pads s buf = wrote-only (written buf (writePacket (bare f profile pads) s (length buf)))
+
+pub header-unmarshal-front-only : (s : List ℕ) →
+    Determined (λ (r : RtpHeaderFront). r ≡ headerFrontAs (headerFront (headerHeard (readHeader s))))
+header-unmarshal-front-only s = by-value (headerFrontAs (headerFront (headerHeard (readHeader s))))
+
+pub header-unmarshal-parts-only : (s : List ℕ) (old : Arrays) →
+    Determined (λ (r : RtpHeaderFront × Arrays).
+    (r .0 ≡ headerFrontAs (headerFront (headerHeard (readHeader s)))) × (r .1 ≡ headerLent old (readHeader s)))
+header-unmarshal-parts-only s old = by-both (header-unmarshal-front-only s) (by-value (headerLent old (readHeader s)))
+
+pub packet-unmarshal-front-only : (s : List ℕ) →
+    Determined (λ (r : RtpPacketFront). r ≡ packetFrontAs (packetFront (packetHeard (readPacket s))))
+packet-unmarshal-front-only s = by-value (packetFrontAs (packetFront (packetHeard (readPacket s))))
+
+pub packet-unmarshal-parts-only : (s : List ℕ) (old : Arrays) →
+    Determined (λ (r : RtpPacketFront × Arrays).
+    (r .0 ≡ packetFrontAs (packetFront (packetHeard (readPacket s)))) × (r .1 ≡ packetLent old (readPacket s)))
+packet-unmarshal-parts-only s old = by-both (packet-unmarshal-front-only s) (by-value (packetLent old (readPacket s)))
 
 -- ---- H.264
 

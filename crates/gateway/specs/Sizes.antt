@@ -59,6 +59,12 @@ header =
     u8 ∷ flag ∷ flag ∷ flag ∷ u8 ∷ u16 ∷ u32 ∷ u32 ∷ word ∷ array 15 u32 ∷ u16 ∷ extensions ∷ word ∷ []
     )
 
+abbrev pub fixed : Laid
+fixed = struct (u8 ∷ flag ∷ flag ∷ flag ∷ u8 ∷ u16 ∷ u32 ∷ u32 ∷ [])
+
+abbrev pub front : Laid
+front = struct (fixed ∷ word ∷ word ∷ word ∷ u16 ∷ [])
+
 abbrev pub parameterSet : Laid
 parameterSet = struct (array 1024 u8 ∷ word ∷ [])
 
@@ -94,11 +100,16 @@ sizes =
       test = struct (refused ∷ flag ∷ []) .size;
       extensions = extensions .size;
       header = header .size;
+      fixed = fixed .size;
+      front = front .size;
+      bytes = struct (word ∷ word ∷ []) .size;
+      «header_front» = struct (word ∷ word ∷ front ∷ []) .size;
       «header_read» = struct (refused ∷ word ∷ header ∷ []) .size;
       length = struct (refused ∷ word ∷ []) .size;
       «header_changed» = struct (refused ∷ header ∷ []) .size;
       element = struct (refused ∷ flag ∷ word ∷ word ∷ []) .size;
       ids = struct (refused ∷ word ∷ array 32 u8 ∷ []) .size;
+      «packet_front» = struct (word ∷ word ∷ word ∷ front ∷ []) .size;
       «packet_read» = struct (refused ∷ word ∷ word ∷ header ∷ []) .size;
       «parameter_set» = parameterSet .size;
       «h264_payloader» = h264Payloader .size;

@@ -59,7 +59,7 @@ fn changed(answer: Changed) -> RtpHeaderChanged
     }
 }
 
-fn element(answer: Got) -> RtpElement
+pub(crate) fn element(answer: Got) -> RtpElement
     ensures { λ r. ⌜ r ≡ elementAs (saidGot answer) ⌝ }
 {
     match answer {
@@ -84,7 +84,7 @@ fn element(answer: Got) -> RtpElement
     }
 }
 
-fn listed(answer: Ids) -> RtpIds
+pub(crate) fn listed(answer: Ids) -> RtpIds
     ensures { λ r. ⌜ r ≡ idsAs (heardIds answer) ⌝ }
 {
     let n = answer.count;
