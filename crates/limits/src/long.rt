@@ -39,6 +39,12 @@ fn write(payload: &[u8]) -> u8 {
     length(packet::marshal_to(Header::default(), payload, &mut buf))
 }
 
+fn write_bare(payload: &[u8]) -> u8 {
+    let mut buf = [0u8; 16];
+    let fixed = Header::default().fixed();
+    length(packet::marshal_bare(fixed, 0, 0, payload, &mut buf))
+}
+
 fn read_h264(payload: &[u8]) -> u8 {
     let mut gather = [0u8; 16];
     let mut out = [0u8; 16];
@@ -101,6 +107,7 @@ pub fn all() {
         length(packet::marshal_size(Header::default(), &long)) as u64,
     );
     tell(b"packet marshal_to", write(&long) as u64);
+    tell(b"packet marshal_bare", write_bare(&long) as u64);
     tell(b"h264 depacketize", read_h264(&long) as u64);
     tell(b"h264 is_partition_head", begins_h264(&long) as u64);
     tell(b"vp8 depacketize", read_vp8(&long) as u64);

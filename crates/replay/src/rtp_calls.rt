@@ -39,13 +39,13 @@ pub fn on_record<'a>(kind: u8, q: &'a [u8], a: &'a [u8]) -> bool {
     match kind {
         2 => length(a, header.marshal_size()),
         3 => length(a, header.get_extension_payload_len()),
-        4 => write_header(header, q, a),
+        4 => write_header(header, q, a) && bare_header(header, q, a),
         5 => changed(a, header.set_extension(rows::byte(q, 1), rows::field(q, 3))),
         6 => changed(a, header.del_extension(rows::byte(q, 1))),
         7 => got(a, header.get_extension(rows::byte(q, 1))),
         8 => ids(a, header.get_extension_ids()),
         10 => length(a, packet::marshal_size(header, rows::field(q, 3))),
-        11 => write_packet(header, q, a),
+        11 => write_packet(header, q, a) && bare_packet(header, q, a),
         _ => false,
     }
 }
@@ -72,6 +72,51 @@ fn write_packet<'a>(header: Header, q: &'a [u8], a: &'a [u8]) -> bool {
     let same = length(
         a,
         packet::marshal_to(header, rows::field(q, 3), &mut out[0..places]),
+    );
+    equal::buffer(same, rows::field(a, 4), fill, &out)
+}
+
+// Its arrays do not count.
+fn is_bare(header: Header) -> bool {
+    header.csrc_count == 0 && header.extensions.count == 0
+}
+
+// A record that is bare, by the entry for such.
+fn bare_header<'a>(header: Header, q: &'a [u8], a: &'a [u8]) -> bool {
+    if !is_bare(header) {
+        return true;
+    }
+    let fill = rows::byte(q, 2);
+    let mut out = [fill; 2048];
+    let places = rows::room(rows::number(q, 1));
+    let same = length(
+        a,
+        header::marshal_bare(
+            header.fixed(),
+            header.extension_profile,
+            header.extensions_padding,
+            &mut out[0..places],
+        ),
+    );
+    equal::buffer(same, rows::field(a, 4), fill, &out)
+}
+
+fn bare_packet<'a>(header: Header, q: &'a [u8], a: &'a [u8]) -> bool {
+    if !is_bare(header) {
+        return true;
+    }
+    let fill = rows::byte(q, 2);
+    let mut out = [fill; 2048];
+    let places = rows::room(rows::number(q, 1));
+    let same = length(
+        a,
+        packet::marshal_bare(
+            header.fixed(),
+            header.extension_profile,
+            header.extensions_padding,
+            rows::field(q, 3),
+            &mut out[0..places],
+        ),
     );
     equal::buffer(same, rows::field(a, 4), fill, &out)
 }
