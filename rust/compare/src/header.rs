@@ -4,7 +4,7 @@ use std::fmt::Debug;
 
 use bytes::Bytes;
 use oracle::header::Header;
-use rtp_rattle::header::Header as Record;
+use rtp_rattle::header::{Extensions, Header as Record};
 use util::marshal::{Marshal, MarshalSize, Unmarshal};
 
 use crate::limits;
@@ -23,16 +23,43 @@ pub fn unmarshal(tally: &mut Tally, packet: &Bytes) {
         let mut rest = packet.clone();
         Header::unmarshal(&mut rest).map(|header| (header, packet.len() - rest.len()))
     });
-    let answer = Record::unmarshal(packet);
-    let case = Case {
+    let case = |call| Case {
         before: limits::reading(packet),
         panic: limits::past(packet),
-        ..Case::new("header unmarshal", Hex(packet))
+        ..Case::new(call, Hex(packet))
     };
-    case.judge(tally, &answer, &theirs, true, |(record, at), (header, place)| {
-        at == place && same(record, header)
+    let answer = Record::unmarshal(packet);
+    case("header unmarshal").judge(
+        tally,
+        &answer,
+        &theirs,
+        true,
+        |(record, at), (header, place)| at == place && same(record, header),
+    );
+    let mut into = USED;
+    let place = into.unmarshal_into(packet);
+    let kept = into == USED;
+    case("header unmarshal_into").judge(tally, &place, &theirs, kept, |at, (header, place)| {
+        at == place && same(&into, header) && answer == Ok((into, *at))
     });
 }
+
+/// A record that is read into, with something in every place.
+pub const USED: Record = Record {
+    version: 1,
+    padding: true,
+    extension: true,
+    marker: true,
+    payload_type: 9,
+    sequence_number: 0xA7A7,
+    timestamp: 0xA7A7_A7A7,
+    ssrc: 0xA7A7_A7A7,
+    csrc_count: 15,
+    csrc: [0xA7A7_A7A7; 15],
+    extension_profile: 0xA7A7,
+    extensions: Extensions { count: 32, ids: [0xA7; 32], lens: [0xA7A7; 32], bytes: [0xA7; 1024] },
+    extensions_padding: 0xA7,
+};
 
 /// A header in both forms, to be asked about and changed.
 #[derive(Debug)]

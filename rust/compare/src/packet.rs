@@ -5,7 +5,7 @@ use oracle::packet::Packet;
 use rtp_rattle::packet::Packet as Lent;
 use util::marshal::{Marshal, MarshalSize, Unmarshal};
 
-use crate::header::Pair;
+use crate::header::{Pair, USED};
 use crate::limits;
 use crate::records::same;
 use crate::show::Hex;
@@ -14,14 +14,23 @@ use crate::verdict::{Case, Theirs};
 
 pub fn unmarshal(tally: &mut Tally, packet: &Bytes) {
     let theirs = Theirs::of(|| Packet::unmarshal(&mut packet.clone()));
-    let answer = Lent::unmarshal(packet);
-    let case = Case {
+    let case = |call| Case {
         before: limits::reading(packet),
         panic: limits::past(packet),
-        ..Case::new("packet unmarshal", Hex(packet))
+        ..Case::new(call, Hex(packet))
     };
-    case.judge(tally, &answer, &theirs, true, |ours, theirs| {
+    let answer = Lent::unmarshal(packet);
+    case("packet unmarshal").judge(tally, &answer, &theirs, true, |ours, theirs| {
         same(&ours.header, &theirs.header) && *ours.payload == theirs.payload[..]
+    });
+    let used = Lent { header: USED, payload: b"used" };
+    let mut into = used;
+    let read = into.unmarshal_into(packet);
+    let kept = into == used;
+    case("packet unmarshal_into").judge(tally, &read, &theirs, kept, |(), theirs| {
+        same(&into.header, &theirs.header)
+            && *into.payload == theirs.payload[..]
+            && answer == Ok(into)
     });
 }
 

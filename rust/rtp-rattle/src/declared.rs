@@ -44,11 +44,16 @@ same! {
         version, padding, extension, marker, payload_type, sequence_number, timestamp, ssrc, csrc_count, csrc, extension_profile,
         extensions, extensions_padding
     }
+    Fixed is sys::Fixed { version, padding, extension, marker, payload_type, sequence_number, timestamp, ssrc }
+    Front is sys::Front { fixed, csrc_count, count, extensions_padding, extension_profile }
+    RtpBytes is sys::Bytes { number, bytes }
+    RtpHeaderFront is sys::HeaderFront { number, at, front }
     RtpHeaderRead is sys::HeaderRead { refused, at, header }
     RtpLength is sys::Length { refused, bytes }
     RtpHeaderChanged is sys::HeaderChanged { refused, header }
     RtpElement is sys::Element { refused, present, at, len }
     RtpIds is sys::Ids { refused, count, ids }
+    RtpPacketFront is sys::PacketFront { number, at, len, front }
     RtpPacketRead is sys::PacketRead { refused, at, len, header }
     ParameterSet is sys::ParameterSet { bytes, len }
     H264Payloader is sys::H264Payloader { sps, pps }
@@ -66,3 +71,19 @@ same! {
     RtpJoined is sys::Joined { refused, late, first, count, bytes }
     RtpClosed is sys::Closed { refused, first, count, joiner }
 }
+
+/// The first fields of a header are `sys::Fixed`: `Header::fixed` and `Header::store` go by it.
+macro_rules! first {
+    ($($field:ident),*) => {
+        const _: () = {
+            assert!(align_of::<sys::Fixed>() <= align_of::<Header>());
+            $(
+                assert!(offset_of!(sys::Fixed, $field) == offset_of!(Header, $field));
+                assert!(width(|r: sys::Fixed| r.$field) == width(|r: Header| r.$field));
+            )*
+            let _ = |sys::Fixed { $($field: _),* }| {};
+        };
+    };
+}
+
+first! { version, padding, extension, marker, payload_type, sequence_number, timestamp, ssrc }

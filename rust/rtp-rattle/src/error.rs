@@ -94,6 +94,15 @@ impl Error {
     }
 }
 
+/// No error where the number is 0. The refusals of the calls in parts carry nothing.
+#[inline]
+pub(crate) fn check(number: usize) -> Result<()> {
+    if number == 0 {
+        return Ok(());
+    }
+    sys::Refused { number: number as u8, carried: [0, 0] }.check()
+}
+
 impl sys::Refused {
     /// No error where the call answers.
     pub(crate) fn check(self) -> Result<()> {

@@ -1,6 +1,8 @@
 //! The RTP header with its extensions.
 
-use crate::error::Result;
+use std::ptr;
+
+use crate::error::{check, Result};
 use crate::sys;
 
 pub const EXTENSION_PROFILE_ONE_BYTE: u16 = 0xBEDE;
@@ -46,6 +48,40 @@ pub struct Header {
     pub extensions_padding: usize,
 }
 
+/// A call on the parts of a header's record, which is not copied: its arrays are lent.
+macro_rules! parts {
+    ($header:expr, $call:ident($($more:expr),*)) => {{
+        let header: &$crate::header::Header = $header;
+        $crate::sys::$call(
+            header.fixed(),
+            header.csrc_count,
+            &header.csrc,
+            header.extension_profile,
+            header.extensions.count,
+            &header.extensions.ids,
+            &header.extensions.lens,
+            &header.extensions.bytes,
+            header.extensions_padding,
+            $($more),*
+        )
+    }};
+}
+
+/// A call on a header without CSRCs and elements, whose arrays do not count.
+macro_rules! bare {
+    ($header:expr, $call:ident($($more:expr),*)) => {{
+        let header: &$crate::header::Header = $header;
+        $crate::sys::$call(
+            header.fixed(),
+            header.extension_profile,
+            header.extensions_padding,
+            $($more),*
+        )
+    }};
+}
+
+pub(crate) use {bare, parts};
+
 impl Default for Header {
     /// All zeros.
     fn default() -> Self {
@@ -56,34 +92,128 @@ impl Default for Header {
 
 impl Header {
     /// The header in front of a packet, and the place of the payload behind it.
+    #[inline]
     pub fn unmarshal(packet: &[u8]) -> Result<(Header, usize)> {
         // SAFETY: the slice is lent for the call.
-        let read = unsafe { sys::rtp_header_unmarshal(packet.as_ptr(), packet.len()) };
-        read.refused.check()?;
-        Ok((read.header, read.at))
+        let read = unsafe { sys::rtp_header_unmarshal_front(packet.as_ptr(), packet.len()) };
+        check(read.number)?;
+        Ok((Header::read(&read.front, packet), read.at))
+    }
+
+    /// The same into a record that is there, so that none is copied: the place of the payload. Beside an error the record is as it was.
+    #[inline]
+    pub fn unmarshal_into(&mut self, packet: &[u8]) -> Result<usize> {
+        // SAFETY: the slice and the record's arrays are lent for the call, and overlap nothing.
+        let read = unsafe {
+            sys::rtp_header_unmarshal_parts(
+                packet.as_ptr(),
+                packet.len(),
+                &mut self.csrc,
+                &mut self.extensions.ids,
+                &mut self.extensions.lens,
+                &mut self.extensions.bytes,
+            )
+        };
+        check(read.number)?;
+        self.store(&read.front);
+        Ok(read.at)
+    }
+
+    /// The header of which this is the front, as it was read from the packet.
+    #[inline(always)]
+    pub(crate) fn read(front: &sys::Front, packet: &[u8]) -> Header {
+        if front.csrc_count == 0 && front.count == 0 {
+            return Header::bare(front);
+        }
+        Header::with_arrays(front, packet)
+    }
+
+    /// The same where the arrays are wanted.
+    #[inline(never)]
+    fn with_arrays(front: &sys::Front, packet: &[u8]) -> Header {
+        let mut header = Header::bare(front);
+        // Its front was read from these bytes, so that they are no refusal.
+        let _ = header.unmarshal_into(packet);
+        header
+    }
+
+    /// A header with this front, and zeros in its arrays.
+    #[inline(always)]
+    fn bare(front: &sys::Front) -> Header {
+        let sys::Front { fixed, csrc_count, count, extensions_padding, extension_profile } = *front;
+        Header {
+            version: fixed.version,
+            padding: fixed.padding,
+            extension: fixed.extension,
+            marker: fixed.marker,
+            payload_type: fixed.payload_type,
+            sequence_number: fixed.sequence_number,
+            timestamp: fixed.timestamp,
+            ssrc: fixed.ssrc,
+            csrc_count,
+            csrc: [0; 15],
+            extension_profile,
+            extensions: Extensions { count, ids: [0; 32], lens: [0; 32], bytes: [0; 1024] },
+            extensions_padding,
+        }
+    }
+
+    /// All but the arrays.
+    #[inline]
+    pub(crate) fn store(&mut self, front: &sys::Front) {
+        let sys::Front { fixed, csrc_count, count, extensions_padding, extension_profile } = *front;
+        // SAFETY: the first fields of a header are these (`declared`).
+        unsafe { ptr::from_mut(self).cast::<sys::Fixed>().write(fixed) };
+        self.csrc_count = csrc_count;
+        self.extension_profile = extension_profile;
+        self.extensions.count = count;
+        self.extensions_padding = extensions_padding;
+    }
+
+    /// The first fields.
+    #[inline]
+    pub(crate) fn fixed(&self) -> sys::Fixed {
+        // SAFETY: these are the first fields of a header (`declared`).
+        unsafe { ptr::from_ref(self).cast::<sys::Fixed>().read() }
+    }
+
+    /// Whether it has neither CSRCs nor elements, so that its arrays do not count.
+    #[inline]
+    pub(crate) fn is_bare(&self) -> bool {
+        self.csrc_count == 0 && self.extensions.count == 0
     }
 
     /// How many bytes [`marshal_to`](Header::marshal_to) asks of its buffer.
+    #[inline]
     pub fn marshal_size(&self) -> Result<usize> {
-        // SAFETY: the record goes by value.
-        let size = unsafe { sys::rtp_header_marshal_size(*self) };
-        size.refused.check()?;
+        // SAFETY: the arrays are lent for the call.
+        let size = unsafe { parts!(self, rtp_header_marshal_size_parts()) };
+        check(size.number)?;
         Ok(size.bytes)
     }
 
     /// Writes the header to the front of the buffer: how many bytes it is. The rest of the buffer stays.
+    #[inline]
     pub fn marshal_to(&self, buf: &mut [u8]) -> Result<usize> {
-        // SAFETY: the buffer is lent for the call.
-        let written = unsafe { sys::rtp_header_marshal_to(*self, buf.as_mut_ptr(), buf.len()) };
-        written.refused.check()?;
+        let (at, len) = (buf.as_mut_ptr(), buf.len());
+        // SAFETY: the buffer and the arrays are lent for the call, and the buffer overlaps nothing.
+        let written = unsafe {
+            if self.is_bare() {
+                bare!(self, rtp_header_marshal_bare(at, len))
+            } else {
+                parts!(self, rtp_header_marshal_parts(at, len))
+            }
+        };
+        check(written.number)?;
         Ok(written.bytes)
     }
 
     /// How many bytes the block's elements are, without its padding.
+    #[inline]
     pub fn get_extension_payload_len(&self) -> Result<usize> {
-        // SAFETY: the record goes by value.
-        let len = unsafe { sys::rtp_header_get_extension_payload_len(*self) };
-        len.refused.check()?;
+        // SAFETY: the arrays are lent for the call.
+        let len = unsafe { parts!(self, rtp_header_get_extension_payload_len_parts()) };
+        check(len.number)?;
         Ok(len.bytes)
     }
 
@@ -108,16 +238,16 @@ impl Header {
 
     /// The data of the first element of that id.
     pub fn get_extension(&self, id: u8) -> Result<Option<&[u8]>> {
-        // SAFETY: the record goes by value.
-        let element = unsafe { sys::rtp_header_get_extension(*self, id) };
+        // SAFETY: the arrays are lent for the call.
+        let element = unsafe { parts!(self, rtp_header_get_extension_parts(id)) };
         element.refused.check()?;
         Ok(element.present.then(|| &self.extensions.bytes[element.at..element.at + element.len]))
     }
 
     /// The ids of all elements, in order.
     pub fn get_extension_ids(&self) -> Result<Vec<u8>> {
-        // SAFETY: the record goes by value.
-        let listed = unsafe { sys::rtp_header_get_extension_ids(*self) };
+        // SAFETY: the arrays are lent for the call.
+        let listed = unsafe { parts!(self, rtp_header_get_extension_ids_parts()) };
         listed.refused.check()?;
         Ok(listed.ids[..listed.count].to_vec())
     }

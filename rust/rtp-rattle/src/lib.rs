@@ -41,6 +41,8 @@ pub mod packet;
 #[cfg(test)]
 mod senders;
 mod sys;
+#[cfg(test)]
+mod ways;
 
 pub use error::{Error, Result};
 pub use joiner::Joiner;

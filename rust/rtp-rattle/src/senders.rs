@@ -4,10 +4,10 @@
 use crate::sys;
 
 /// Numbers that follow from a seed (splitmix64).
-struct Row(u64);
+pub(crate) struct Row(pub u64);
 
 impl Row {
-    fn below(&mut self, n: usize) -> usize {
+    pub(crate) fn below(&mut self, n: usize) -> usize {
         self.0 = self.0.wrapping_add(0x9E37_79B9_7F4A_7C15);
         let mut x = self.0;
         x = (x ^ (x >> 30)).wrapping_mul(0xBF58_476D_1CE4_E5B9);

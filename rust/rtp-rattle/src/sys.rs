@@ -18,6 +18,53 @@ pub struct Test {
     pub holds: bool,
 }
 
+/// The first fields of a `Header`, in their places.
+#[repr(C)]
+#[derive(Clone, Copy)]
+pub struct Fixed {
+    pub version: u8,
+    pub padding: bool,
+    pub extension: bool,
+    pub marker: bool,
+    pub payload_type: u8,
+    pub sequence_number: u16,
+    pub timestamp: u32,
+    pub ssrc: u32,
+}
+
+/// A `Header` without its arrays.
+#[repr(C)]
+#[derive(Clone, Copy)]
+pub struct Front {
+    pub fixed: Fixed,
+    pub csrc_count: usize,
+    pub count: usize,
+    pub extensions_padding: usize,
+    pub extension_profile: u16,
+}
+
+#[repr(C)]
+pub struct Bytes {
+    pub number: usize,
+    pub bytes: usize,
+}
+
+#[repr(C)]
+pub struct HeaderFront {
+    pub number: usize,
+    pub at: usize,
+    pub front: Front,
+}
+
+#[repr(C)]
+pub struct PacketFront {
+    pub number: usize,
+    pub at: usize,
+    pub len: usize,
+    pub front: Front,
+}
+
+#[allow(dead_code)] // of a call that only the tests make
 #[repr(C)]
 pub struct HeaderRead {
     pub refused: Refused,
@@ -25,6 +72,7 @@ pub struct HeaderRead {
     pub header: Header,
 }
 
+#[allow(dead_code)] // likewise
 #[repr(C)]
 pub struct Length {
     pub refused: Refused,
@@ -52,6 +100,7 @@ pub struct Ids {
     pub ids: [u8; 32],
 }
 
+#[allow(dead_code)] // likewise
 #[repr(C)]
 pub struct PacketRead {
     pub refused: Refused,
@@ -175,11 +224,16 @@ pub struct Sizes {
     pub test: usize,
     pub extensions: usize,
     pub header: usize,
+    pub fixed: usize,
+    pub front: usize,
+    pub bytes: usize,
+    pub header_front: usize,
     pub header_read: usize,
     pub length: usize,
     pub header_changed: usize,
     pub element: usize,
     pub ids: usize,
+    pub packet_front: usize,
     pub packet_read: usize,
     pub parameter_set: usize,
     pub h264_payloader: usize,
@@ -200,9 +254,52 @@ pub struct Sizes {
 
 extern "C" {
     pub fn rtp_header_default() -> Header;
+    #[cfg(test)]
     pub fn rtp_header_unmarshal(packet: *const u8, packet_len: usize) -> HeaderRead;
+    pub fn rtp_header_unmarshal_front(packet: *const u8, packet_len: usize) -> HeaderFront;
+    pub fn rtp_header_unmarshal_parts(
+        packet: *const u8,
+        packet_len: usize,
+        csrc: *mut [u32; 15],
+        ids: *mut [u8; 32],
+        lens: *mut [u16; 32],
+        bytes: *mut [u8; 1024],
+    ) -> HeaderFront;
+    #[cfg(test)]
     pub fn rtp_header_marshal_size(header: Header) -> Length;
+    pub fn rtp_header_marshal_size_parts(
+        fixed: Fixed,
+        csrc_count: usize,
+        csrc: *const [u32; 15],
+        profile: u16,
+        count: usize,
+        ids: *const [u8; 32],
+        lens: *const [u16; 32],
+        bytes: *const [u8; 1024],
+        padding: usize,
+    ) -> Bytes;
+    #[cfg(test)]
     pub fn rtp_header_marshal_to(header: Header, buf: *mut u8, buf_len: usize) -> Length;
+    pub fn rtp_header_marshal_parts(
+        fixed: Fixed,
+        csrc_count: usize,
+        csrc: *const [u32; 15],
+        profile: u16,
+        count: usize,
+        ids: *const [u8; 32],
+        lens: *const [u16; 32],
+        bytes: *const [u8; 1024],
+        padding: usize,
+        buf: *mut u8,
+        buf_len: usize,
+    ) -> Bytes;
+    pub fn rtp_header_marshal_bare(
+        fixed: Fixed,
+        profile: u16,
+        padding: usize,
+        buf: *mut u8,
+        buf_len: usize,
+    ) -> Bytes;
     pub fn rtp_header_set_extension(
         header: Header,
         id: u8,
@@ -210,16 +307,102 @@ extern "C" {
         payload_len: usize,
     ) -> HeaderChanged;
     pub fn rtp_header_del_extension(header: Header, id: u8) -> HeaderChanged;
+    #[cfg(test)]
     pub fn rtp_header_get_extension(header: Header, id: u8) -> Element;
+    pub fn rtp_header_get_extension_parts(
+        fixed: Fixed,
+        csrc_count: usize,
+        csrc: *const [u32; 15],
+        profile: u16,
+        count: usize,
+        ids: *const [u8; 32],
+        lens: *const [u16; 32],
+        bytes: *const [u8; 1024],
+        padding: usize,
+        id: u8,
+    ) -> Element;
+    #[cfg(test)]
     pub fn rtp_header_get_extension_ids(header: Header) -> Ids;
+    pub fn rtp_header_get_extension_ids_parts(
+        fixed: Fixed,
+        csrc_count: usize,
+        csrc: *const [u32; 15],
+        profile: u16,
+        count: usize,
+        ids: *const [u8; 32],
+        lens: *const [u16; 32],
+        bytes: *const [u8; 1024],
+        padding: usize,
+    ) -> Ids;
+    #[cfg(test)]
     pub fn rtp_header_get_extension_payload_len(header: Header) -> Length;
+    pub fn rtp_header_get_extension_payload_len_parts(
+        fixed: Fixed,
+        csrc_count: usize,
+        csrc: *const [u32; 15],
+        profile: u16,
+        count: usize,
+        ids: *const [u8; 32],
+        lens: *const [u16; 32],
+        bytes: *const [u8; 1024],
+        padding: usize,
+    ) -> Bytes;
 
+    #[cfg(test)]
     pub fn rtp_packet_unmarshal(packet: *const u8, packet_len: usize) -> PacketRead;
+    pub fn rtp_packet_unmarshal_front(packet: *const u8, packet_len: usize) -> PacketFront;
+    pub fn rtp_packet_unmarshal_parts(
+        packet: *const u8,
+        packet_len: usize,
+        csrc: *mut [u32; 15],
+        ids: *mut [u8; 32],
+        lens: *mut [u16; 32],
+        bytes: *mut [u8; 1024],
+    ) -> PacketFront;
+    #[cfg(test)]
     pub fn rtp_packet_marshal_size(
         header: Header,
         payload: *const u8,
         payload_len: usize,
     ) -> Length;
+    pub fn rtp_packet_marshal_size_parts(
+        fixed: Fixed,
+        csrc_count: usize,
+        csrc: *const [u32; 15],
+        profile: u16,
+        count: usize,
+        ids: *const [u8; 32],
+        lens: *const [u16; 32],
+        bytes: *const [u8; 1024],
+        padding: usize,
+        payload: *const u8,
+        payload_len: usize,
+    ) -> Bytes;
+    pub fn rtp_packet_marshal_parts(
+        fixed: Fixed,
+        csrc_count: usize,
+        csrc: *const [u32; 15],
+        profile: u16,
+        count: usize,
+        ids: *const [u8; 32],
+        lens: *const [u16; 32],
+        bytes: *const [u8; 1024],
+        padding: usize,
+        payload: *const u8,
+        payload_len: usize,
+        buf: *mut u8,
+        buf_len: usize,
+    ) -> Bytes;
+    pub fn rtp_packet_marshal_bare(
+        fixed: Fixed,
+        profile: u16,
+        padding: usize,
+        payload: *const u8,
+        payload_len: usize,
+        buf: *mut u8,
+        buf_len: usize,
+    ) -> Bytes;
+    #[cfg(test)]
     pub fn rtp_packet_marshal_to(
         header: Header,
         payload: *const u8,
@@ -312,11 +495,16 @@ mod tests {
         assert_eq!(s.test, size_of::<Test>());
         assert_eq!(s.extensions, size_of::<Extensions>());
         assert_eq!(s.header, size_of::<Header>());
+        assert_eq!(s.fixed, size_of::<Fixed>());
+        assert_eq!(s.front, size_of::<Front>());
+        assert_eq!(s.bytes, size_of::<Bytes>());
+        assert_eq!(s.header_front, size_of::<HeaderFront>());
         assert_eq!(s.header_read, size_of::<HeaderRead>());
         assert_eq!(s.length, size_of::<Length>());
         assert_eq!(s.header_changed, size_of::<HeaderChanged>());
         assert_eq!(s.element, size_of::<Element>());
         assert_eq!(s.ids, size_of::<Ids>());
+        assert_eq!(s.packet_front, size_of::<PacketFront>());
         assert_eq!(s.packet_read, size_of::<PacketRead>());
         assert_eq!(s.parameter_set, size_of::<ParameterSet>());
         assert_eq!(s.h264_payloader, size_of::<H264Payloader>());

@@ -24,11 +24,16 @@ static void sizes(void) {
     CHECK(s.test == sizeof(struct rtp_test));
     CHECK(s.extensions == sizeof(struct rtp_extensions));
     CHECK(s.header == sizeof(struct rtp_header));
+    CHECK(s.fixed == sizeof(struct rtp_fixed));
+    CHECK(s.front == sizeof(struct rtp_front));
+    CHECK(s.bytes == sizeof(struct rtp_bytes));
+    CHECK(s.header_front == sizeof(struct rtp_header_front));
     CHECK(s.header_read == sizeof(struct rtp_header_read));
     CHECK(s.length == sizeof(struct rtp_length));
     CHECK(s.header_changed == sizeof(struct rtp_header_changed));
     CHECK(s.element == sizeof(struct rtp_element));
     CHECK(s.ids == sizeof(struct rtp_ids));
+    CHECK(s.packet_front == sizeof(struct rtp_packet_front));
     CHECK(s.packet_read == sizeof(struct rtp_packet_read));
     CHECK(s.parameter_set == sizeof(struct rtp_parameter_set));
     CHECK(s.h264_payloader == sizeof(struct rtp_h264_payloader));
@@ -45,7 +50,7 @@ static void sizes(void) {
     CHECK(s.joiner == sizeof(struct rtp_joiner));
     CHECK(s.joined == sizeof(struct rtp_joined));
     CHECK(s.closed == sizeof(struct rtp_closed));
-    CHECK(sizeof s == 25 * sizeof(size_t));
+    CHECK(sizeof s == 30 * sizeof(size_t));
 }
 
 static void headers(void) {
@@ -93,6 +98,49 @@ static void packets(void) {
     CHECK(rtp_packet_marshal_size(read.header, (const uint8_t *)"\1\2\3\4", 4).bytes == 20);
     CHECK(rtp_packet_marshal_to(read.header, (const uint8_t *)"\1\2\3\4", 4, buf, 20).bytes == 20);
     CHECK(memcmp(buf, padded, 12) == 0 && SAME(buf + 12, "\1\2\3\4\0\0\0\4"));
+}
+
+/* A header with a source and an element, and a plain one, each in parts: written and read back into a record full of other things. */
+static void parts(void) {
+    static const uint8_t E[24] = {0x91, 0x60, 0, 1, 0, 0, 0, 2, 0, 0, 0, 3, 0, 0, 0, 9, 0xBE, 0xDE, 0, 1, 0x11, 0xAA, 0xBB, 0};
+    struct rtp_header h, other;
+    memset(&h, 0, sizeof h);
+    h.csrc_count = 15, h.extensions.count = 32, h.extensions.bytes[1023] = 7;
+    other = h;
+    CHECK(rtp_header_unmarshal_into(&h, E, 23).number == RTP_HEADER_SIZE_INSUFFICIENT_FOR_EXTENSION && memcmp(&h, &other, sizeof h) == 0);
+    CHECK(rtp_header_unmarshal_into(&h, E, 24).at == 24);
+    CHECK(h.version == 2 && h.extension && h.payload_type == 96 && h.sequence_number == 1 && h.timestamp == 2 && h.ssrc == 3);
+    CHECK(h.csrc_count == 1 && h.csrc[0] == 9 && h.extension_profile == 0xBEDE && h.extensions_padding == 1);
+    CHECK(h.extensions.count == 1 && h.extensions.ids[0] == 1 && h.extensions.lens[0] == 2 && SAME(h.extensions.bytes, "\xAA\xBB"));
+    CHECK(h.extensions.bytes[1023] == 0);
+
+    CHECK(rtp_header_marshal_size_from(&h).bytes == 24 && rtp_header_get_extension_payload_len_from(&h).bytes == 3);
+    struct rtp_element e = rtp_header_get_extension_from(&h, 1);
+    CHECK(e.refused.number == 0 && e.present && e.at == 0 && e.len == 2 && !rtp_header_get_extension_from(&h, 2).present);
+    CHECK(rtp_header_get_extension_ids_from(&h).count == 1 && rtp_header_get_extension_ids_from(&h).ids[0] == 1);
+    CHECK(rtp_packet_marshal_size_from(&h, (const uint8_t *)"\1\2", 2).bytes == 26);
+
+    uint8_t buf[32];
+    memset(buf, 0xEE, sizeof buf);
+    CHECK(rtp_header_marshal_from(&h, buf, 23).number == RTP_BUFFER_TOO_SMALL && buf[0] == 0xEE);
+    struct rtp_bytes w = rtp_header_marshal_from(&h, buf, sizeof buf);
+    CHECK(w.number == 0 && w.bytes == 24 && memcmp(buf, E, 24) == 0 && buf[24] == 0xEE);
+    h.padding = true;
+    w = rtp_packet_marshal_from(&h, (const uint8_t *)"\1\2", 2, buf, sizeof buf);
+    CHECK(w.bytes == 28 && SAME(buf + 24, "\1\2\0\2"));
+    struct rtp_packet_front p = rtp_packet_unmarshal_into(&h, buf, 28);
+    CHECK(p.number == 0 && p.at == 24 && p.len == 2 && h.padding && h.csrc[0] == 9);
+    p = rtp_packet_unmarshal_front(buf, 28);
+    CHECK(p.number == 0 && p.len == 2 && p.front.csrc_count == 1 && p.front.count == 1 && p.front.fixed.ssrc == 3);
+
+    CHECK(rtp_header_unmarshal_front(H, 12).front.fixed.sequence_number == 1);
+    CHECK(rtp_packet_unmarshal_into(&h, H, 12).len == 0 && h.csrc[0] == 0 && h.extensions.count == 0 && !h.padding);
+    w = rtp_header_marshal_from(&h, buf, 12);
+    CHECK(w.bytes == 12 && memcmp(buf, H, 12) == 0);
+    w = rtp_packet_marshal_from(&h, (const uint8_t *)"\5", 1, buf, 13);
+    CHECK(w.bytes == 13 && memcmp(buf, H, 12) == 0 && buf[12] == 5);
+    h.extensions_padding = 262141;
+    CHECK(rtp_header_marshal_from(&h, buf, 32).number == RTP_OUTSIDE_DOMAIN);
 }
 
 static void h264(void) {
@@ -296,6 +344,7 @@ int main(void) {
     headers();
     extensions();
     packets();
+    parts();
     h264();
     dropped();
     lent();
