@@ -95,12 +95,18 @@ impl Error {
 }
 
 /// No error where the number is 0. The refusals of the calls in parts carry nothing.
-#[inline]
+#[inline(always)]
 pub(crate) fn check(number: usize) -> Result<()> {
-    if number == 0 {
-        return Ok(());
+    match number {
+        0 => Ok(()),
+        _ => Err(refusal(number)),
     }
-    sys::Refused { number: number as u8, carried: [0, 0] }.check()
+}
+
+#[cold]
+#[inline(never)]
+fn refusal(number: usize) -> Error {
+    sys::Refused { number: number as u8, carried: [0, 0] }.check().expect_err("a refusal")
 }
 
 impl sys::Refused {

@@ -92,12 +92,23 @@ impl Default for Header {
 
 impl Header {
     /// The header in front of a packet, and the place of the payload behind it.
-    #[inline]
+    #[inline(always)]
     pub fn unmarshal(packet: &[u8]) -> Result<(Header, usize)> {
         // SAFETY: the slice is lent for the call.
         let read = unsafe { sys::rtp_header_unmarshal_front(packet.as_ptr(), packet.len()) };
         check(read.number)?;
-        Ok((Header::read(&read.front, packet), read.at))
+        if read.front.has_arrays() {
+            return Header::unmarshal_arrays(packet);
+        }
+        Ok((Header::bare(&read.front), read.at))
+    }
+
+    /// The same where the arrays are wanted.
+    #[inline(never)]
+    fn unmarshal_arrays(packet: &[u8]) -> Result<(Header, usize)> {
+        let mut header = Header::bare(&sys::Front::NONE);
+        let at = header.unmarshal_into(packet)?;
+        Ok((header, at))
     }
 
     /// The same into a record that is there, so that none is copied: the place of the payload. Beside an error the record is as it was.
@@ -119,27 +130,9 @@ impl Header {
         Ok(read.at)
     }
 
-    /// The header of which this is the front, as it was read from the packet.
-    #[inline(always)]
-    pub(crate) fn read(front: &sys::Front, packet: &[u8]) -> Header {
-        if front.csrc_count == 0 && front.count == 0 {
-            return Header::bare(front);
-        }
-        Header::with_arrays(front, packet)
-    }
-
-    /// The same where the arrays are wanted.
-    #[inline(never)]
-    fn with_arrays(front: &sys::Front, packet: &[u8]) -> Header {
-        let mut header = Header::bare(front);
-        // Its front was read from these bytes, so that they are no refusal.
-        let _ = header.unmarshal_into(packet);
-        header
-    }
-
     /// A header with this front, and zeros in its arrays.
     #[inline(always)]
-    fn bare(front: &sys::Front) -> Header {
+    pub(crate) fn bare(front: &sys::Front) -> Header {
         let sys::Front { fixed, csrc_count, count, extensions_padding, extension_profile } = *front;
         Header {
             version: fixed.version,

@@ -13,14 +13,25 @@ pub struct Packet<'a> {
 
 impl<'a> Packet<'a> {
     /// The packet that these bytes are; its payload is a part of them.
-    #[inline]
+    #[inline(always)]
     pub fn unmarshal(raw_packet: &'a [u8]) -> Result<Packet<'a>> {
         // SAFETY: the slice is lent for the call.
         let read =
             unsafe { sys::rtp_packet_unmarshal_front(raw_packet.as_ptr(), raw_packet.len()) };
         check(read.number)?;
+        if read.front.has_arrays() {
+            return Packet::unmarshal_arrays(raw_packet);
+        }
         let payload = &raw_packet[read.at..read.at + read.len];
-        Ok(Packet { header: Header::read(&read.front, raw_packet), payload })
+        Ok(Packet { header: Header::bare(&read.front), payload })
+    }
+
+    /// The same where the header's arrays are wanted.
+    #[inline(never)]
+    fn unmarshal_arrays(raw_packet: &'a [u8]) -> Result<Packet<'a>> {
+        let mut packet = Packet { header: Header::bare(&sys::Front::NONE), payload: &[] };
+        packet.unmarshal_into(raw_packet)?;
+        Ok(packet)
     }
 
     /// The same into a packet that is there, so that no record is copied. Beside an error it is as it was.

@@ -43,6 +43,32 @@ pub struct Front {
     pub extension_profile: u16,
 }
 
+impl Front {
+    /// All zeros.
+    pub const NONE: Front = Front {
+        fixed: Fixed {
+            version: 0,
+            padding: false,
+            extension: false,
+            marker: false,
+            payload_type: 0,
+            sequence_number: 0,
+            timestamp: 0,
+            ssrc: 0,
+        },
+        csrc_count: 0,
+        count: 0,
+        extensions_padding: 0,
+        extension_profile: 0,
+    };
+
+    /// Whether there are CSRCs or elements.
+    #[inline]
+    pub fn has_arrays(&self) -> bool {
+        self.csrc_count != 0 || self.count != 0
+    }
+}
+
 #[repr(C)]
 pub struct Bytes {
     pub number: usize,
