@@ -278,6 +278,36 @@ pub struct Sizes {
     pub closed: usize,
 }
 
+/// Calls on the parts of a header's record, which come first.
+macro_rules! in_parts {
+    ($(fn $call:ident($($more:ident: $type:ty),*) -> $answer:ty;)*) => {
+        extern "C" {$(
+            pub fn $call(
+                fixed: Fixed,
+                csrc_count: usize,
+                csrc: *const [u32; 15],
+                profile: u16,
+                count: usize,
+                ids: *const [u8; 32],
+                lens: *const [u16; 32],
+                bytes: *const [u8; 1024],
+                padding: usize,
+                $($more: $type),*
+            ) -> $answer;
+        )*}
+    };
+}
+
+in_parts! {
+    fn rtp_header_marshal_size_parts() -> Bytes;
+    fn rtp_header_marshal_parts(buf: *mut u8, buf_len: usize) -> Bytes;
+    fn rtp_header_get_extension_parts(id: u8) -> Element;
+    fn rtp_header_get_extension_ids_parts() -> Ids;
+    fn rtp_header_get_extension_payload_len_parts() -> Bytes;
+    fn rtp_packet_marshal_size_parts(payload: *const u8, payload_len: usize) -> Bytes;
+    fn rtp_packet_marshal_parts(payload: *const u8, payload_len: usize, buf: *mut u8, buf_len: usize) -> Bytes;
+}
+
 extern "C" {
     pub fn rtp_header_default() -> Header;
     #[cfg(test)]
@@ -293,32 +323,8 @@ extern "C" {
     ) -> HeaderFront;
     #[cfg(test)]
     pub fn rtp_header_marshal_size(header: Header) -> Length;
-    pub fn rtp_header_marshal_size_parts(
-        fixed: Fixed,
-        csrc_count: usize,
-        csrc: *const [u32; 15],
-        profile: u16,
-        count: usize,
-        ids: *const [u8; 32],
-        lens: *const [u16; 32],
-        bytes: *const [u8; 1024],
-        padding: usize,
-    ) -> Bytes;
     #[cfg(test)]
     pub fn rtp_header_marshal_to(header: Header, buf: *mut u8, buf_len: usize) -> Length;
-    pub fn rtp_header_marshal_parts(
-        fixed: Fixed,
-        csrc_count: usize,
-        csrc: *const [u32; 15],
-        profile: u16,
-        count: usize,
-        ids: *const [u8; 32],
-        lens: *const [u16; 32],
-        bytes: *const [u8; 1024],
-        padding: usize,
-        buf: *mut u8,
-        buf_len: usize,
-    ) -> Bytes;
     pub fn rtp_header_marshal_bare(
         fixed: Fixed,
         profile: u16,
@@ -335,44 +341,10 @@ extern "C" {
     pub fn rtp_header_del_extension(header: Header, id: u8) -> HeaderChanged;
     #[cfg(test)]
     pub fn rtp_header_get_extension(header: Header, id: u8) -> Element;
-    pub fn rtp_header_get_extension_parts(
-        fixed: Fixed,
-        csrc_count: usize,
-        csrc: *const [u32; 15],
-        profile: u16,
-        count: usize,
-        ids: *const [u8; 32],
-        lens: *const [u16; 32],
-        bytes: *const [u8; 1024],
-        padding: usize,
-        id: u8,
-    ) -> Element;
     #[cfg(test)]
     pub fn rtp_header_get_extension_ids(header: Header) -> Ids;
-    pub fn rtp_header_get_extension_ids_parts(
-        fixed: Fixed,
-        csrc_count: usize,
-        csrc: *const [u32; 15],
-        profile: u16,
-        count: usize,
-        ids: *const [u8; 32],
-        lens: *const [u16; 32],
-        bytes: *const [u8; 1024],
-        padding: usize,
-    ) -> Ids;
     #[cfg(test)]
     pub fn rtp_header_get_extension_payload_len(header: Header) -> Length;
-    pub fn rtp_header_get_extension_payload_len_parts(
-        fixed: Fixed,
-        csrc_count: usize,
-        csrc: *const [u32; 15],
-        profile: u16,
-        count: usize,
-        ids: *const [u8; 32],
-        lens: *const [u16; 32],
-        bytes: *const [u8; 1024],
-        padding: usize,
-    ) -> Bytes;
 
     #[cfg(test)]
     pub fn rtp_packet_unmarshal(packet: *const u8, packet_len: usize) -> PacketRead;
@@ -391,34 +363,6 @@ extern "C" {
         payload: *const u8,
         payload_len: usize,
     ) -> Length;
-    pub fn rtp_packet_marshal_size_parts(
-        fixed: Fixed,
-        csrc_count: usize,
-        csrc: *const [u32; 15],
-        profile: u16,
-        count: usize,
-        ids: *const [u8; 32],
-        lens: *const [u16; 32],
-        bytes: *const [u8; 1024],
-        padding: usize,
-        payload: *const u8,
-        payload_len: usize,
-    ) -> Bytes;
-    pub fn rtp_packet_marshal_parts(
-        fixed: Fixed,
-        csrc_count: usize,
-        csrc: *const [u32; 15],
-        profile: u16,
-        count: usize,
-        ids: *const [u8; 32],
-        lens: *const [u16; 32],
-        bytes: *const [u8; 1024],
-        padding: usize,
-        payload: *const u8,
-        payload_len: usize,
-        buf: *mut u8,
-        buf_len: usize,
-    ) -> Bytes;
     pub fn rtp_packet_marshal_bare(
         fixed: Fixed,
         profile: u16,
