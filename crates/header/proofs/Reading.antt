@@ -195,6 +195,7 @@ pub record Extended (s : List ℕ) (at : ℕ) (es : List Element) : Type 0 where
 pub record Shown (s : List ℕ) (r : Reading) : Type 0 where
   pub place : r .place ≤ length s
   pub fixed : fixedLength (countOf s) ≤ length s
+  pub padding : r .fields .padding ≡ bit (getD s 0 0 / 32)
   pub sources : r .fields .csrcs ≡ csrcsAt s 12 (countOf s)
   pub extended : (r .fields .elements ≡ []) ⊎ Extended s (fixedLength (countOf s)) (r .fields .elements)
 
@@ -212,7 +213,7 @@ module _ (s : List ℕ) (fixed : fixedLength (countOf s) ≤ length s) where
 
   shows-plain : Shows s (readingOf s (countOf s) 0 (says (blockAt s from 0)))
   unfolding fieldsAt
-  shows-plain = record { place = omega arith; fixed = fixed; sources = refl; extended = inl refl }
+  shows-plain = record { place = omega arith; fixed = fixed; padding = refl; sources = refl; extended = inl refl }
 
   shows-block : from + 4 + 4 * u16At s (from + 2) ≤ length s → (b : Said Block) → blockOf s from ≡ b →
       Shows s (readingOf s (countOf s) (u16At s from) b)
@@ -221,6 +222,7 @@ module _ (s : List ℕ) (fixed : fixedLength (countOf s) ≤ length s) where
       record {
         place = omega arith;
         fixed = fixed;
+        padding = refl;
         sources = refl;
         extended = inr (record { inside = inside; block = b; reads = is; elements = refl });
       }

@@ -2,7 +2,7 @@
 use mathlib.Core.Path.{_≡_, refl, sym, ap, ap₂, subst, _∙_}
 use mathlib.Core.Bool.{Bool, true, false, cond}
 use mathlib.Core.List.{List}
-use Prim.Native.Nat.{ℕ, _+_, _-_, _≤_}
+use Prim.Native.Nat.{ℕ, _+_, _-_, _/_, _≤_}
 use native.Mathlib.Omega.{arith}
 use lib.Dec.{ltb, eqb}
 use lib.ListN.{length, getD}
@@ -10,20 +10,25 @@ use Rattle.error.specs.declared.Error.{Error}
 use Rattle.error.specs.Refusal.{refusalOf}
 use Rattle.error.specs.Said.{Said, says, refused, refuse}
 use Rattle.error.proofs.Refusing.{not-says}
+use Rattle.wire.specs.Net.{bit}
 use Rattle.header.specs.declared.Header.{Header}
+use Rattle.header.specs.declared.HeaderRead.{HeaderRead}
+use Rattle.header.specs.declared.HeaderRead.the-variants as head
+use Rattle.header.specs.declared.FrontRead as seen
 use Rattle.header.specs.declared.Front.{Front}
 use Rattle.header.specs.Fields.{Fields, layOut, blank}
 use Rattle.header.specs.Parts as header
 use Rattle.header.specs.Parts.{frontOf, Lent, lentOf}
 use Rattle.header.specs.Read.{Reading, readHeader}
-use Rattle.header.proofs.Reading.{place-inside}
-use Rattle.header.proofs.Fronts.{FrontAnswered, withArrays, front-whole, zeros, blank-whole}
+use Rattle.header.specs.Said as said
+use Rattle.header.proofs.Reading.{shown, place-inside}
+use Rattle.header.proofs.Fronts.{FrontAnswered, front-answered, withArrays, front-whole, zeros, blank-whole}
 use Rattle.packet.specs.declared.PacketRead.{PacketRead}
 use Rattle.packet.specs.declared.PacketRead.the-variants as read
 use Rattle.packet.specs.declared.FrontRead.{FrontRead}
 use Rattle.packet.specs.Fronts.{FrontHeard, heardFront, frontHeard, lentRead}
 use Rattle.packet.specs.Read.{Payload, stripped, payloadAt, PacketReading, with-fields, behind, readPacket}
-use Rattle.packet.specs.Said.{saidRead, Heard, heard, readingHeard}
+use Rattle.packet.specs.Said.{saidRead, Begins, unpadded, Heard, heard, readingHeard}
 
 -- the header was refused
 pub packet-refused : (s : List ℕ) (e : Error) → readHeader s ≡ refused (refusalOf e) → readPacket s ≡ refused (refusalOf e)
@@ -101,6 +106,61 @@ arrays-alike old s r e = go (readHeader s) e
     go : (x : Said Reading) → behind s x ≡ says r → header.lentRead old x ≡ lentRead old (behind s x)
     go (says h) is = paid (h .fields) (payloadAt s h) is
     go (refused n) is = refl
+
+-- ---- without the padding bit
+
+-- what lies behind the header is the payload
+abbrev rest : ℕ → Said ℕ → Said Payload
+rest n (says place) = says (record { place = place; len = n - place })
+rest n (refused r) = refused r
+
+unpadded-rest : (n : ℕ) (a : HeaderRead) → unpadded n a ≡ rest n (said.saidRead a)
+unpadded-rest n (head.Payload place) = refl
+unpadded-rest n (head.Refused e) = refl
+
+-- .. and the fields are the header's
+abbrev plain : List ℕ → Said Reading → Said PacketReading
+plain s (says r) = says (record { fields = r .fields; payload = record { place = r .place; len = length s - r .place } })
+plain s (refused r) = refused r
+
+module _ (s : List ℕ) (clear : bit (getD s 0 0 / 32) ≡ false) where
+  packet-clear : readPacket s ≡ plain s (readHeader s)
+  unfolding readPacket
+  packet-clear = go (readHeader s) refl
+    where
+      go : (x : Said Reading) → readHeader s ≡ x → behind s x ≡ plain s x
+      go (says r) is = rw (shown s r is .padding ∙ clear)
+      go (refused r) is = refl
+
+  pub arrays-clear : (old : Lent) → header.lentRead old (readHeader s) ≡ lentRead old (readPacket s)
+  arrays-clear old = go (readHeader s) ∙ sym (ap (lentRead old) packet-clear)
+    where
+      go : (x : Said Reading) → header.lentRead old x ≡ lentRead old (plain s x)
+      go (says r) = refl
+      go (refused r) = refl
+
+module _ (s : List ℕ) (q : seen.FrontRead) (e : header.heardFront q ≡ header.frontHeard (said.readingHeard (readHeader s))) where
+  pub front-begins : Begins (length s) (q .read)
+  front-begins = go (q .read) refl
+    where
+      go : (a : HeaderRead) → q .read ≡ a → Begins (length s) a
+      go (head.Payload place) is = place-inside s _ (front-answered q s e place is .reads)
+      go (head.Refused r) is = tt
+
+  pub front-clear : bit (getD s 0 0 / 32) ≡ false → (p : Said Payload) → p ≡ unpadded (length s) (q .read) →
+      record { answer = p; front = q .front } ≡ saidFront (readPacket s)
+  front-clear clear p is =
+      ap (λ (x : Said Payload). record { answer = x; front = q .front }) (is ∙ unpadded-rest (length s) (q .read))
+      ∙ ap onwards e
+      ∙ go (readHeader s)
+      ∙ sym (ap saidFront (packet-clear s clear))
+    where
+      onwards : header.FrontHeard → FrontHeard
+      onwards h = record { answer = rest (length s) (h .answer); front = h .front }
+
+      go : (x : Said Reading) → onwards (header.frontHeard (said.readingHeard x)) ≡ saidFront (plain s x)
+      go (says r) = refl
+      go (refused r) = refl
 
 -- the front with the arrays, which were zeros before, is the record beside the answer
 pub whole-heard : (q : FrontRead) (l : Lent) (x : Said PacketReading) → heardFront q ≡ saidFront x → l ≡ lentRead zeros x →

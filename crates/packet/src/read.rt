@@ -1,7 +1,8 @@
-// Reading a packet: judged first, without the arrays of its record; then these are filled.
+// Reading a packet: it is judged before the arrays of its record are filled; without the padding bit, by its header alone.
 ghost use mathlib.Core.Path.{_≡_};
-ghost use Prim.Native.Nat.{_≤_};
-ghost use lib.ListN.{length};
+ghost use Prim.Native.Nat.{_/_, _≤_};
+ghost use lib.ListN.{length, getD};
+ghost use Rattle.wire.specs.Net.{bit};
 ghost use Rattle.packet.specs.Read.{stripped, readPacket};
 ghost use Rattle.packet.specs.Fronts.{heardFront, frontHeard, lentRead};
 ghost use Rattle.packet.specs.Said.{saidRead, heard, readingHeard, Begins, unpadded};
@@ -69,8 +70,18 @@ pub fn unmarshal_front(packet: &[u8]) -> FrontRead
     FrontRead { read, front }
 }
 
-// The front, and the record's arrays, which are lent.
-pub fn unmarshal_parts(
+// Whether the padding bit is set.
+fn is_padded(packet: &[u8]) -> bool
+    ensures { λ r. ⌜ r ≡ bit (getD (now (packet .entry)) 0 0 / 32) ⌝ }
+{
+    if packet.len() == 0 {
+        return false;
+    }
+    packet[0] / 32 % 2 == 1
+}
+
+// With the padding bit a packet may be refused behind its header: it is judged before an array is filled.
+fn unmarshal_padded(
     packet: &[u8],
     csrc: &mut [u32; 15],
     ids: &mut [u8; 32],
@@ -88,6 +99,30 @@ pub fn unmarshal_parts(
     };
     header::unmarshal_parts(packet, csrc, ids, lens, bytes);
     seen
+}
+
+// The front, and the record's arrays, which are lent.
+pub fn unmarshal_parts(
+    packet: &[u8],
+    csrc: &mut [u32; 15],
+    ids: &mut [u8; 32],
+    lens: &mut [u16; 32],
+    bytes: &mut [u8; 1024],
+) -> FrontRead
+    ensures { λ r. ⌜ heardFront r ≡ frontHeard (readingHeard (readPacket (now (packet .entry)))) ⌝ }
+    ensures { λ _. ⌜ record { csrc = now (csrc .exit); ids = now (ids .exit); lens = now (lens .exit); bytes = now (bytes .exit) }
+        ≡ lentRead (record { csrc = now (csrc .entry); ids = now (ids .entry); lens = now (lens .entry); bytes = now (bytes .entry) }) (readPacket (now (packet .entry))) ⌝ }
+{
+    if is_padded(packet) {
+        return unmarshal_padded(packet, csrc, ids, lens, bytes);
+    }
+    let seen = header::unmarshal_parts(packet, csrc, ids, lens, bytes);
+    let read = seen.read;
+    let front = seen.front;
+    FrontRead {
+        read: unpadded(read, packet.len()),
+        front,
+    }
 }
 
 pub fn unmarshal(packet: &[u8]) -> Unmarshalled
