@@ -31,10 +31,10 @@ pub fn marshal_parts<'a>(
         ≡ written (now (buf .entry)) (writeHeader (together fixed «csrc_count» (now (csrc .entry)) profile (record { count = count; ids = now (ids .entry); lens = now (lens .entry); bytes = now (bytes .entry) }) padding) (length (now (buf .entry)))) ⌝ }
 {
     // a slice tells its length
-    let csrc: &[u32] = csrc;
+    let sources: &[u32] = csrc;
     let names: &[u8] = ids;
     let sizes: &[u16] = lens;
-    let bytes: &[u8] = bytes;
+    let data: &[u8] = bytes;
     let measured = measure(fixed, csrc_count, profile, count, ids, lens, padding);
     let Length::Bytes(len) = measured else {
         return measured;
@@ -54,8 +54,8 @@ pub fn marshal_parts<'a>(
         profile,
         len,
         count,
-        names,
-        sizes,
+        ids,
+        lens,
         bytes,
     ))
 }

@@ -51,13 +51,13 @@ pub fn put_header<'a>(
     buf: &mut [u8],
     fixed: Fixed,
     csrc_count: usize,
-    csrc: &'a [u32],
+    csrc: &'a [u32; 15],
     profile: u16,
     len: usize,
     count: usize,
-    ids: &'a [u8],
-    lens: &'a [u16],
-    bytes: &'a [u8],
+    ids: &'a [u8; 32],
+    lens: &'a [u16; 32],
+    bytes: &'a [u8; 1024],
 ) -> usize
     requires { ⌜ (fixed .version ≤ 3) × (fixed .«payload_type» ≤ 127) ⌝ }
     requires { ⌜ («csrc_count» ≤ 15) × («csrc_count» ≤ length (now csrc)) ⌝ }

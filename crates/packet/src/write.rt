@@ -133,10 +133,10 @@ pub fn marshal_parts<'a>(
         ≡ written (now (buf .entry)) (writePacket (together fixed «csrc_count» (now (csrc .entry)) profile (record { count = count; ids = now (ids .entry); lens = now (lens .entry); bytes = now (bytes .entry) }) «extensions_padding») (now (payload .entry)) (length (now (buf .entry)))) ⌝ }
 {
     // a slice tells its length
-    let csrc: &[u32] = csrc;
+    let sources: &[u32] = csrc;
     let names: &[u8] = ids;
     let sizes: &[u16] = lens;
-    let bytes: &[u8] = bytes;
+    let data: &[u8] = bytes;
     let zeros = extensions_padding;
     let measured = measure(fixed, csrc_count, profile, count, ids, lens, zeros);
     let Length::Bytes(len) = measured else {
@@ -162,8 +162,8 @@ pub fn marshal_parts<'a>(
         profile,
         len,
         count,
-        names,
-        sizes,
+        ids,
+        lens,
         bytes,
     );
     Length::Bytes(at + put_payload(payload, padding, &mut buf[at..]))

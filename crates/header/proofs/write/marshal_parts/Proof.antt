@@ -28,10 +28,10 @@ buffer c = c .args .buf .now
 
 -- ---- the places on the way: lent as slices, measured, room for the size, nothing refused
 
-abbrev lent-start : tie.After-bytes → tie.Start
+abbrev lent-start : tie.After-data → tie.Start
 lent-start c = c .before .before .before .before .before
 
-abbrev known-lent : tie.After-known-told → tie.After-bytes
+abbrev known-lent : tie.After-known-told → tie.After-data
 known-lent c = c .before .before .before .before
 
 abbrev known-start : tie.After-known-told → tie.Start
@@ -46,7 +46,7 @@ room-start c = known-start (room-known c)
 abbrev judged-room : tie.After-enum-told2 → tie.Else1
 judged-room c = c .before .before .before
 
-arrays : (c : tie.After-bytes) → Arrays (header (lent-start c))
+arrays : (c : tie.After-data) → Arrays (header (lent-start c))
 unfolding together
 arrays c = record { csrc = search needs; ids = search needs; lens = search needs; bytes = search needs }
 

@@ -20,21 +20,21 @@ abbrev elements : tie.Start → List Element
 elements c = elementsIn (c .args .count) (c .args .ids .now) (c .args .lens .now) (c .args .bytes .now)
 
 abbrev begun : tie.After-put-csrcs → tie.Start
-begun c = c .before .before .before .before .before .before .before .before .before .before .before .before .before
+begun c = c .before .before .before .before .before .before .before .before .before .before
 
 room : (c : tie.Start) → 12 + length (csrcOctets (sources c)) ≤ length (c .args .buf .now)
 room c = omega (arith, figure-fits (c .args .fixed) (sources c) (c .args .profile) (c .args .len) (elements c), c .pre .1 .1 .1 .1 .1)
 
 put-csrcs-requires : tie.Need-put-csrcs-requires
 put-csrcs-requires c κs =
-    let start = c .before .before .before .before .before .before .before .before .before .before .before .before in
-    (start .pre .1 .0 .1, omega (arith, room start, c .before .before .before .put-fixed .kept .0))
+    let start = c .before .before .before .before .before .before .before .before .before in
+    (start .pre .1 .0 .1, omega (arith, room start, c .before .before .before .before .put-fixed .kept .0))
 
 -- the figure stands in the buffer
 put : (c : tie.After-put-csrcs) → Put (begun c .args .buf .now) 0 (figure (begun c .args .fixed) (sources (begun c))) (c .put-csrcs .result) (c .put-csrcs .last .0)
 put c =
     let a = begun c .args in
-    let fixed = c .before .before .before .before in
+    let fixed = c .before .before .before .before .before in
     figure-put (a .fixed) (a .buf .now) (fixed .put-fixed .last .0) (c .put-csrcs .last .0) (a .csrc-count) (sources (begun c)) (c .put-csrcs .result)
     (sym (length-take-le (a .csrc-count) (a .csrc .now) (begun c .pre .1 .0 .1)))
     (fixed .put-fixed .ensures
@@ -43,20 +43,21 @@ put c =
     (c .put-csrcs .ensures)
 
 kept : (c : tie.After-put-csrcs) → length (c .put-csrcs .last .0) ≡ length (begun c .args .buf .now)
-kept c = omega (arith, c .put-csrcs .kept .0, c .before .before .before .before .put-fixed .kept .0)
+kept c = omega (arith, c .put-csrcs .kept .0, c .before .before .before .before .before .put-fixed .kept .0)
 
 put-extension-requires : tie.Need-put-extension-requires
 put-extension-requires c κs =
-    let done = c .before .before .before .before in
+    let on = c .before .before .before .before in
+    let done = on .before .before .before in
     let start = begun done in
     let a = start .args in
-    let fits = extension-fits (a .fixed) (sources start) (a .profile) (a .len) (elements start) (c .before .if1 .taken) (done .put-csrcs .result)
+    let fits = extension-fits (a .fixed) (sources start) (a .profile) (a .len) (elements start) (on .if1 .taken) (done .put-csrcs .result)
     (omega (arith, put done .next)) in
     (start .pre .1 .1 .0, (start .pre .1 .1 .1 .0, (start .pre .1 .1 .1 .1 .0, omega (arith, fits, start .pre .1 .1 .1 .1 .1, kept done))))
 
 returns : tie.Need-returns
 returns c =
-    let on = c .before .before .before .before in
+    let on = c .before .before .before .before .before .before .before in
     let done = on .before .before .before in
     let start = begun done in
     let a = start .args in
@@ -77,10 +78,10 @@ put-header-spec =
     (tie.spec
     (λ c κs. search needs)
     (λ c κs. search needs)
-    (λ c κs. let r = room (c .before .before .before .before .before .before .before .before) in omega arith)
+    (λ c κs. let r = room (c .before .before .before .before) in omega arith)
     put-csrcs-requires
     put-extension-requires
-    (λ c. let k = kept (c .before .before .before .before .before .before .before) in search needs)
+    (λ c. let k = kept (c .before .before .before .before .before .before .before .before .before .before) in search needs)
     returns
     (λ c. let k = kept (c .before .before .before) in search needs)
     returns-2)

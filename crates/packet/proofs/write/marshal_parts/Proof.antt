@@ -35,10 +35,10 @@ buffer c = c .args .buf .now
 
 -- ---- the places on the way: lent as slices, measured, a payload short enough, room for the size, nothing refused, header put
 
-abbrev lent-start : tie.After-bytes → tie.Start
+abbrev lent-start : tie.After-data → tie.Start
 lent-start c = c .before .before .before .before .before .before
 
-abbrev known-lent : tie.After-known-told → tie.After-bytes
+abbrev known-lent : tie.After-known-told → tie.After-data
 known-lent c = c .before .before .before .before
 
 abbrev known-start : tie.After-known-told → tie.Start
@@ -65,7 +65,7 @@ put-sized c = judged-room (put-judged c) .before
 abbrev put-start : tie.After-put-header → tie.Start
 put-start c = room-start (judged-room (put-judged c))
 
-arrays : (c : tie.After-bytes) → Arrays (header (lent-start c))
+arrays : (c : tie.After-data) → Arrays (header (lent-start c))
 unfolding together
 arrays c = record { csrc = search needs; ids = search needs; lens = search needs; bytes = search needs }
 
