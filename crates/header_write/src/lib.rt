@@ -1,19 +1,19 @@
-// A header by its numbers, apart from its record: the limits of the domain, the size, and what is judged and written.
+// A header by its numbers and by its parts, apart from its record: the limits of the domain, the size, and what is judged and written.
 //
 // Only proved code calls this crate, so its functions may ask that a record is in the domain, and that the buffer has room.
 use error::Error;
 
+mod by_parts;
 mod figure;
 mod judging;
 mod limits;
-mod parts;
 mod size;
 
+pub use by_parts::measure;
+pub use by_parts::put_bare;
+pub use by_parts::put_header;
 pub use judging::judge;
 pub use limits::in_limits;
-pub use parts::measure;
-pub use parts::put_bare;
-pub use parts::put_header;
 pub use size::size_of;
 
 // RFC 3550's fixed header fields but CC: the first 16 bytes of a header's record, in its order.

@@ -10,8 +10,8 @@ use Rattle.wire.specs.Part.{splice, Put}
 use Rattle.elements.specs.Elements.{Element, elementsIn}
 use Rattle.header_write.specs.Fixed.{csrcOctets, fixedFor}
 use Rattle.header_write.proofs.Octets.{figure, figure-put, figure-fits, extension-fits, put-on, put-off}
-use Rattle.header_write.proofs.parts.put_header.Statement.{statement}
-use Rattle.header_write.proofs.parts.put_header.Tie as tie
+use Rattle.header_write.proofs.by_parts.put_header.Statement.{statement}
+use Rattle.header_write.proofs.by_parts.put_header.Tie as tie
 
 abbrev sources : tie.Start → List ℕ
 sources c = take (c .args .csrc-count) (c .args .csrc .now)

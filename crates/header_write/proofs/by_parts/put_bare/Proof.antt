@@ -7,8 +7,8 @@ use borrow.Author.Needs.{needs}
 use Rattle.wire.specs.Part.{splice, Put}
 use Rattle.header_write.specs.Fixed.{fixedFor}
 use Rattle.header_write.proofs.Octets.{figure, figure-fits, put-on, put-off, bare-figure, length-bare, bare-put}
-use Rattle.header_write.proofs.parts.put_bare.Statement.{statement}
-use Rattle.header_write.proofs.parts.put_bare.Tie as tie
+use Rattle.header_write.proofs.by_parts.put_bare.Statement.{statement}
+use Rattle.header_write.proofs.by_parts.put_bare.Tie as tie
 
 abbrev begun : tie.After-put-fixed → tie.Start
 begun c = c .before .before .before .before .before

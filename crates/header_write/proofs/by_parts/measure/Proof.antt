@@ -12,8 +12,8 @@ use Rattle.block.proofs.Form.{heads-few}
 use Rattle.block_write.proofs.Octets.{weight-fit, weight-within}
 use Rattle.header_write.specs.Parts.{measured}
 use Rattle.header_write.proofs.Domain.{Fine, measured-fine, measured-outside}
-use Rattle.header_write.proofs.parts.measure.Statement.{statement}
-use Rattle.header_write.proofs.parts.measure.Tie as tie
+use Rattle.header_write.proofs.by_parts.measure.Statement.{statement}
+use Rattle.header_write.proofs.by_parts.measure.Tie as tie
 
 abbrev Can : tie.Start → Type 0
 Can c = let a = c .args in Fine (a .fixed) (a .csrc-count) (a .profile) (a .count) (a .ids .now) (a .lens .now) (a .padding)
