@@ -206,10 +206,7 @@ fn fill_items(
             Next::Pad => {
                 at += 1;
             }
-            Next::Stop => {
-                return;
-            }
-            Next::Past => {
+            Next::Stop | Next::Past => {
                 return;
             }
             Next::Element { head, id, len: n } => {

@@ -27,7 +27,7 @@ fn read_packet(packet: &[u8]) -> u8 {
     }
 }
 
-fn length(answer: Length) -> u8 {
+pub fn length(answer: Length) -> u8 {
     match answer {
         Length::Bytes(_) => 0,
         Length::Refused(e) => e.number(),

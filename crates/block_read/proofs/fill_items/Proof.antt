@@ -1,10 +1,17 @@
 -- The arrays hold the elements that were read so far (`Filling`): each way through a turn is one law.
-use mathlib.Core.Path.{_≡_, sym, ap, _∙_}
+use mathlib.Core.Path.{_≡_, refl, sym, ap, _∙_}
+use mathlib.Core.List.{[], _∷_}
+use mathlib.Core.Logic.{_⊎_, inl, inr, ⊎-elim}
 use Prim.Native.Nat.{_+_, _-_}
 use native.Mathlib.Omega.{arith}
 use lib.ListN.{drop}
 use borrow.Author.Needs.{needs}
-use Rattle.block_read.specs.Read.{element, itemsBy, items, blockAt}
+use types.Run.{OneOf, miss}
+use denote.Enum.Declared.{tagOf}
+use Rattle.block_read.specs.declared.Next.{Next}
+use Rattle.block_read.specs.declared.Next.the-variants as next
+use Rattle.block_read.proofs.Next as N
+use Rattle.block_read.specs.Read.{stop, past, element, itemsBy, items, blockAt}
 use Rattle.block_read.specs.Said.{itemOf}
 use Rattle.block_read.proofs.Filling.{Filling, Room, filling-first, filling-end, filling-stop, filling-past, filling-pad, filling-room, filling-element}
 use Rattle.block_read.proofs.fill_items.Statement.{statement}
@@ -26,16 +33,21 @@ loop-again c =
     (sym (c .before .before .next-at .ensures) ∙ ap itemOf (c .enum-told .given .1))
     (search needs)
 
+-- what is neither padding nor an element
+ends : (n : Next) → OneOf (1 ∷ 2 ∷ []) (tagOf N.the-type n) → (itemOf n ≡ stop) ⊎ (itemOf n ≡ past)
+ends next.Pad o = absurd (miss (1 ∷ 2 ∷ []) 0 tt o)
+ends next.Stop o = inl refl
+ends next.Past o = inr refl
+ends (next.Element head id len) o = absurd (miss (1 ∷ 2 ∷ []) 3 tt o)
+
 returns : tie.Need-returns Inv-loop μ-loop
 returns c =
-    filling-stop _ _ _ _ _ _ _ _ _ _ (c .before .before .before .before .loop .inv) (search needs)
-    (sym (c .before .before .next-at .ensures) ∙ ap itemOf (c .enum-told2 .given .1))
-
-returns-2 : tie.Need-returns-2 Inv-loop μ-loop
-returns-2 c =
-    absurd
-    (filling-past _ _ _ _ _ _ _ _ _ _ (c .before .before .before .before .loop .inv) (c .before .before .before .before .before .before .pre .1 .0) (search needs)
-    (sym (c .before .before .next-at .ensures) ∙ ap itemOf (c .enum-told3 .given .1)))
+    let g = c .before .before .before .loop .inv in
+    let here = c .before .before .loop-test .taken in
+    let next = c .before .next-at in
+    ⊎-elim (λ e. filling-stop _ _ _ _ _ _ _ _ _ _ g here (sym (next .ensures) ∙ e))
+    (λ e. absurd (filling-past _ _ _ _ _ _ _ _ _ _ g (c .before .before .before .before .before .pre .1 .0) here (sym (next .ensures) ∙ e)))
+    (ends (next .result) (c .match .keys2))
 
 -- the element that was found
 found : (c : tie.After-known-told Inv-loop μ-loop) →
@@ -63,8 +75,8 @@ loop-again-2 c =
     (c .before .before .before .before .before .before .before .loop-test .taken)
     (n .0) (n .1 .0) (n .1 .1 .0) (found (c .before .before .before)))
 
-returns-3 : tie.Need-returns-3 Inv-loop μ-loop
-returns-3 c = filling-end _ _ _ _ _ _ _ _ _ _ (c .before .loop .inv) (c .loop-test .left)
+returns-2 : tie.Need-returns-2 Inv-loop μ-loop
+returns-2 c = filling-end _ _ _ _ _ _ _ _ _ _ (c .before .loop .inv) (c .loop-test .left)
 
 pub fill-items-spec : {M : Type 1} → statement M
 fill-items-spec =
@@ -79,10 +91,7 @@ fill-items-spec =
     (λ c. search needs)
     (λ c. search needs)
     loop-again
-    (λ c. search needs)
     returns
-    (λ c. search needs)
-    returns-2
     (λ c. search needs)
     (λ c. omega (arith, room c .inside))
     (λ c. omega (arith, room c .few))
@@ -99,4 +108,4 @@ fill-items-spec =
     (λ c. omega (arith, room (c .before .before .before) .inside))
     (λ c. omega (arith, room (c .before .before .before) .forth))
     loop-again-2
-    returns-3)
+    returns-2)
