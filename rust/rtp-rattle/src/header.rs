@@ -103,7 +103,7 @@ impl Header {
         Ok((Header::bare(&read.front), read.at))
     }
 
-    /// The same where the arrays are wanted.
+    /// A header with CSRCs or elements.
     #[inline(never)]
     fn unmarshal_arrays(packet: &[u8]) -> Result<(Header, usize)> {
         let mut header = Header::bare(&sys::Front::NONE);
@@ -111,7 +111,8 @@ impl Header {
         Ok((header, at))
     }
 
-    /// The same into a record that is there, so that none is copied: the place of the payload. Beside an error the record is as it was.
+    /// Reads the header in front of a packet into this record, so that none is copied: the place of the payload behind it. Beside an error
+    /// the record is as it was.
     #[inline]
     pub fn unmarshal_into(&mut self, packet: &[u8]) -> Result<usize> {
         // SAFETY: the slice and the record's arrays are lent for the call, and overlap nothing.

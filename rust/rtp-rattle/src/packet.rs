@@ -26,7 +26,7 @@ impl<'a> Packet<'a> {
         Ok(Packet { header: Header::bare(&read.front), payload })
     }
 
-    /// The same where the header's arrays are wanted.
+    /// A packet whose header has CSRCs or elements.
     #[inline(never)]
     fn unmarshal_arrays(raw_packet: &'a [u8]) -> Result<Packet<'a>> {
         let mut packet = Packet { header: Header::bare(&sys::Front::NONE), payload: &[] };
@@ -34,7 +34,7 @@ impl<'a> Packet<'a> {
         Ok(packet)
     }
 
-    /// The same into a packet that is there, so that no record is copied. Beside an error it is as it was.
+    /// Reads the packet that these bytes are into this one, so that no record is copied. Beside an error it is as it was.
     #[inline]
     pub fn unmarshal_into(&mut self, raw_packet: &'a [u8]) -> Result<()> {
         let header = &mut self.header;
