@@ -1,19 +1,19 @@
 -- Nothing is lost in the records: a caller who looks at `refused` first hears what the call's definition says, and finds the body that
 -- `h264_packet::body` shows. No refusal passes for an answer, since none has the number 0. Assumes nothing.
 use mathlib.Core.Path.{_≡_, refl, sym, ap, _∙_}
-use mathlib.Core.Bool.{Bool, true, false, cond}
+use mathlib.Core.Bool.{false, cond}
 use mathlib.Core.List.{List, [], _∷_}
 use Prim.Native.Nat.{ℕ, _-_, _≤_}
 use native.Mathlib.Omega.{arith}
 use native.Mathlib.Decide.{decLe}
 use lib.Dec.{eqb}
 use lib.Seq.{take-all}
-use lib.ListN.{length, drop, length-drop}
+use lib.ListN.{length, take, drop, length-drop}
 use borrow.Author.Tests.{le-leb, lt-leb, lt-ltb, le-ltb, ne-eqb}
 use Rattle.error.specs.declared.Error.{Error}
 use Rattle.error.specs.declared.Error.the-variants.{ErrHeaderSizeInsufficient, ErrHeaderSizeInsufficientForExtension, ElementPastPacket, ErrShortPacket, ErrBufferTooSmall, GatherTooSmall, OverLimits, OutsideDomain, HeaderExtensionPayloadNot32BitWords, ErrRfc3550headerIdrange, ErrRfc8285oneByteHeaderIdrange, ErrRfc8285oneByteHeaderSize, ErrRfc8285twoByteHeaderIdrange, ErrRfc8285twoByteHeaderSize, ErrHeaderExtensionNotFound, ErrHeaderExtensionsNotEnabled, StapASizeLargerThanBuffer, StapASizeCut, NaluTypeIsNotHandled, OtherSource, StartAndEnd, AlreadyClosed, ClosingTooFar, MissedTotalFull}
 use Rattle.error.specs.Refusal.{refusalOf}
-use Rattle.error.specs.Said.{Said, says, refused}
+use Rattle.error.specs.Said.{says, refused}
 use Rattle.elements.specs.Named.{absent}
 use Rattle.header.specs.declared.Front.{Front}
 use Rattle.header.specs.declared.Header.{Header}
@@ -28,7 +28,6 @@ use Rattle.header.specs.declared.Got.the-variants as got
 use Rattle.header.specs.declared.IdCount.{IdCount}
 use Rattle.header.specs.declared.IdCount.the-variants as ids
 use Rattle.header_write.specs.Said.{saidLength}
-use Rattle.header_write.proofs.Domain.{never}
 use Rattle.header.specs.Said as header
 use Rattle.packet.specs.declared.PacketRead.{PacketRead}
 use Rattle.packet.specs.declared.PacketRead.the-variants as whole
@@ -62,10 +61,10 @@ use Rattle.joiner.specs.declared.Closed.{Closed}
 use Rattle.joiner.specs.declared.Closed.the-variants as closed
 use Rattle.joiner_step.specs.Step.{accepted}
 use Rattle.joiner.specs.Said.{saidJoined, saidClosed}
-use Rattle.gateway.specs.Refused.{refusedAs, refusalBy, saidBy, testAs}
+use Rattle.gateway.specs.Refused.{carriedAs, refusedAs, carries, saidBy, testAs}
 use Rattle.gateway.specs.HeaderAnswers.{headerReadAs, lengthAs, headerChangedAs, elementAs, foundBy, idsAs}
 use Rattle.gateway.specs.PacketAnswers.{packetReadAs}
-use Rattle.gateway.specs.PartsAnswers.{Bare, saidWith, bytesAs, headerFrontAs, packetFrontAs}
+use Rattle.gateway.specs.PartsAnswers.{saidWith, bytesAs, headerFrontAs, packetFrontAs}
 use Rattle.gateway.specs.H264Answers.{countedAs, h264SentAs, h264LentSentAs, countsBy, bodyAs, bodyBy, h264ReadAs}
 use Rattle.gateway.specs.Vp8Answers.{vp8SentAs, vp8ReadAs}
 use Rattle.gateway.specs.JoinerAnswers.{joinedAs, answerBy, closedAs}
@@ -99,19 +98,12 @@ refusal-told AlreadyClosed x = refl
 refusal-told ClosingTooFar x = refl
 refusal-told MissedTotalFull x = refl
 
--- none has the number 0
-not-answered : (e : Error) → eqb (refusalOf e .number) 0 ≡ false
-not-answered e = go (eqb (refusalOf e .number) 0) (refusal-told {A = ℕ} e 0)
-  where
-    go : (b : Bool) → cond {A = Said ℕ} b (says 0) (refused (refusalBy (refusedAs (refusalOf e)))) ≡ refused (refusalOf e) → b ≡ false
-    go true told = absurd (never {A = ℕ} {x = 0} {r = refusalOf e} told)
-    go false told = refl
-
--- of one that carries nothing the number alone tells all
-number-told : {A : Type 0} (e : Error) (x : A) → refusalOf e .carried ≡ [] → saidWith (refusalOf e .number) x ≡ refused (refusalOf e)
-number-told e x bare =
-    ap (λ (b : Bool). cond b (says x) (refused (record { number = refusalOf e .number; carried = [] }))) (not-answered e)
-    ∙ ap (λ (l : List ℕ). refused (record { number = refusalOf e .number; carried = l })) (sym bare)
+-- a number other than 17 and 19 tells the refusal whole
+number-told : {A : Type 0} (e : Error) (x : A) → carries (refusalOf e .number) ≡ 0 → saidWith (refusalOf e .number) x ≡ refused (refusalOf e)
+number-told e x c =
+    ap (λ (k : ℕ). cond (eqb (refusalOf e .number) 0) (says x) (refused (record { number = refusalOf e .number; carried = take k (carriedAs (refusalOf e .carried)) })))
+    (sym c)
+    ∙ refusal-told e x
 
 -- ---- the answers
 
@@ -145,21 +137,23 @@ pub packet-read-told : (a : PacketRead) (h : Header) →
 packet-read-told (whole.Payload at len) h = refl
 packet-read-told (whole.Refused e) h = refusal-told e (record { place = 0; len = 0 })
 
--- in parts: each refusal of these calls is a `refuse`, which carries nothing
-pub bytes-told : (a : Length) → Bare (saidLength a) → let r = bytesAs (saidLength a) in saidWith (r .number) (r .bytes) ≡ saidLength a
-bytes-told (len.Bytes n) bare = refl
-bytes-told (len.Refused e) bare = number-told e 0 bare
+-- in parts: whoever sees another number than 17 and 19 has heard all
+pub bytes-told : (a : Length) →
+    let r = bytesAs (saidLength a) in carries (r .number) ≡ 0 → saidWith (r .number) (r .bytes) ≡ saidLength a
+bytes-told (len.Bytes n) c = refl
+bytes-told (len.Refused e) c = number-told e 0 c
 
-pub header-front-told : (a : HeaderRead) (f : Front) → Bare (header.saidRead a) →
-    let r = headerFrontAs (record { answer = header.saidRead a; front = f }) in saidWith (r .number) (r .at) ≡ header.saidRead a
-header-front-told (head.Payload at) f bare = refl
-header-front-told (head.Refused e) f bare = number-told e 0 bare
+pub header-front-told : (a : HeaderRead) (f : Front) →
+    let r = headerFrontAs (record { answer = header.saidRead a; front = f }) in
+    carries (r .number) ≡ 0 → saidWith (r .number) (r .at) ≡ header.saidRead a
+header-front-told (head.Payload at) f c = refl
+header-front-told (head.Refused e) f c = number-told e 0 c
 
-pub packet-front-told : (a : PacketRead) (f : Front) → Bare (packet.saidRead a) →
+pub packet-front-told : (a : PacketRead) (f : Front) →
     let r = packetFrontAs (record { answer = packet.saidRead a; front = f }) in
-    saidWith (r .number) (record { place = r .at; len = r .len }) ≡ packet.saidRead a
-packet-front-told (whole.Payload at len) f bare = refl
-packet-front-told (whole.Refused e) f bare = number-told e (record { place = 0; len = 0 }) bare
+    carries (r .number) ≡ 0 → saidWith (r .number) (record { place = r .at; len = r .len }) ≡ packet.saidRead a
+packet-front-told (whole.Payload at len) f c = refl
+packet-front-told (whole.Refused e) f c = number-told e (record { place = 0; len = 0 }) c
 
 -- with the sets in the record or in lent buffers
 counted-told : (a : Payloads) →

@@ -1,5 +1,4 @@
 -- How the answers about headers and packets in parts stand in their records. Assumes nothing.
-use mathlib.Core.Path.{_≡_}
 use mathlib.Core.Bool.{cond}
 use mathlib.Core.List.{[]}
 use Prim.Native.Nat.{ℕ}
@@ -35,11 +34,6 @@ packetFrontAs h =
       len = numberIn (λ (p : Payload). p .len) (h .answer);
       front = h .front;
     }
-
--- a refusal that carries nothing
-abbrev pub Bare : {A : Type 0} → Said A → Type 0
-Bare (says x) = Unit
-Bare (refused r) = r .carried ≡ []
 
 -- how a caller reads it: number 0: the values beside it; else the refusal, which carries nothing
 abbrev pub saidWith : {A : Type 0} → ℕ → A → Said A

@@ -33,7 +33,7 @@ fn read(packet: &[u8]) -> Arrival
     }
 }
 
-// A packet without padding and extensions needs no record: its fields stand at fixed places.
+// Of a packet without padding and extensions all that is needed stands at fixed places.
 pub fn arrive(packet: &[u8]) -> Arrival
     ensures { λ r. ⌜ arrivalSaid r ≡ arrivalOf (readPacket (now (packet .entry))) ⌝ }
 {

@@ -92,6 +92,7 @@ impl Default for Header {
 
 impl Header {
     /// The header in front of a packet, and the place of the payload behind it.
+    // Inlined, so that a header without CSRCs and elements is made where it goes.
     #[inline(always)]
     pub fn unmarshal(packet: &[u8]) -> Result<(Header, usize)> {
         // SAFETY: the slice is lent for the call.
@@ -104,6 +105,7 @@ impl Header {
     }
 
     /// A header with CSRCs or elements.
+    // Apart, since both ways in one function cost a copy more.
     #[inline(never)]
     fn unmarshal_arrays(packet: &[u8]) -> Result<(Header, usize)> {
         let mut header = Header::bare(&sys::Front::NONE);
