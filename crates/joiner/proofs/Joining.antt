@@ -78,13 +78,13 @@ module _ (j : Joiner) (d number : ℕ) (gather out : List ℕ) where
 
 -- "d > 0 drops the open run"
 abbrev pub heldAt : Joiner → ℕ → Run
-heldAt j d = cond (eqb d 0) (record { running = j .running; gathered = j .gathered }) (record { running = false; gathered = 0 })
+heldAt j d = cond (eqb d 0) (record { running = j .running; gathered = j .gathered; marked = j .marked }) (record { running = false; gathered = 0; marked = false })
 
 pub held-is : (j : Joiner) (d : ℕ) (gather : List ℕ) → feed.runOf (heldAt j d) gather ≡ runAt (choiceOf j) (keptOf j) d gather
 held-is j d gather = go (eqb d 0)
   where
     go : (b : Bool) →
-        feed.runOf (cond b (record { running = j .running; gathered = j .gathered }) (record { running = false; gathered = 0 })) gather
+        feed.runOf (cond b (record { running = j .running; gathered = j .gathered; marked = j .marked }) (record { running = false; gathered = 0; marked = false })) gather
         ≡ cond b (runOf (keptOf j .run) gather) none
     go true = refl
     go false = refl
@@ -93,6 +93,6 @@ pub held-le : (j : Joiner) (d : ℕ) → heldAt j d .gathered ≤ j .gathered
 held-le j d = go (eqb d 0)
   where
     go : (b : Bool) →
-        cond {A = Run} b (record { running = j .running; gathered = j .gathered }) (record { running = false; gathered = 0 }) .gathered ≤ j .gathered
+        cond {A = Run} b (record { running = j .running; gathered = j .gathered; marked = j .marked }) (record { running = false; gathered = 0; marked = false }) .gathered ≤ j .gathered
     go true = omega arith
     go false = omega arith

@@ -16,11 +16,11 @@ use Rattle.sequence.specs.Group.{Group}
 use Rattle.sequence.specs.Codec.{Owes}
 use Rattle.joiner_step.specs.Run.{Units}
 use Rattle.joiner_step.specs.General.{Enough, codec}
-use Rattle.joiner_feed.specs.Content.{whole, start, middle, end}
+use Rattle.joiner_feed.specs.Content.{Fragment, whole, start, middle, end, topBit}
 use Rattle.joiner_feed.specs.H264.{wholeSaid, fragmented, checkBy, check}
 use Rattle.joiner_feed.proofs.Owing.{owes-whole, owes-cut}
 use Rattle.joiner.specs.Join.{Known, known, arrivedIn, choice}
-use Rattle.joiner.specs.Sent.{Sent, aggregated, alone, stapA, fuA, body, groupOf, knownGroup, gatheredOf, PlainUnit, Lawful}
+use Rattle.joiner.specs.Sent.{Sent, aggregated, alone, stapA, fuA, body, anyMarked, groupOf, knownGroup, gatheredOf, PlainUnit, Lawful}
 use Rattle.joiner.specs.Sent as sent
 use Rattle.packet.specs.Read.{readPacket}
 
@@ -30,32 +30,45 @@ shape-stapA : (head : ℕ) (u : List ℕ) (us : Units) → head % 32 ≡ 24 → 
 unfolding stapA be16
 shape-stapA head u us t = shape-aggregate (head ∷ sizedUnits (u ∷ us)) (omega arith) t
 
--- the first byte of the unit: "NRI and type"
-head-of : (head bits : ℕ) → bits % 32 ≡ 0 → headOf (head / 32 % 8 * 32 + 28) (bits + head % 32) ≡ head % 128
-head-of head bits e = omega arith
+-- the FU indicator, with F set or not
+abbrev indicator : Bool → ℕ → ℕ
+indicator m head = topBit m (head / 32 % 4 * 32 + 28)
 
-shape-fuA : (head bits : ℕ) (part : List ℕ) (first last : Bool) → 1 ≤ length part → bits % 32 ≡ 0 →
+-- its type, and the first byte of the unit, "NRI and type", whatever F; and F
+type-of : (m : Bool) (head : ℕ) → indicator m head % 32 ≡ 28
+type-of true head = omega arith
+type-of false head = omega arith
+
+head-of : (m : Bool) (head bits : ℕ) → bits % 32 ≡ 0 → headOf (indicator m head) (bits + head % 32) ≡ head % 128
+head-of true head bits e = omega arith
+head-of false head bits e = omega arith
+
+f-of : (m : Bool) (head : ℕ) → bit (indicator m head / 128) ≡ m
+f-of true head = eq-eqb (indicator true head / 128 % 2) 1 (omega arith)
+f-of false head = ne-eqb (indicator false head / 128 % 2) 1 (λ e. omega arith)
+
+shape-fuA : (head bits : ℕ) (p : Fragment) (first last : Bool) → 1 ≤ length (p .part) → bits % 32 ≡ 0 →
     bit ((bits + head % 32) / 128) ≡ first → bit ((bits + head % 32) / 64) ≡ last →
-    shape (fuA head bits part) ≡ fragment first last (head % 128)
+    shape (fuA head bits p) ≡ fragment first last (head % 128)
 unfolding fuA
-shape-fuA head bits part first last h e f l =
-    shape-fragment ((head / 32 % 8 * 32 + 28) ∷ (bits + head % 32) ∷ part) (omega arith) (omega arith)
-    ∙ rw (f, l, head-of head bits e)
+shape-fuA head bits p first last h e f l =
+    shape-fragment (indicator (p .note .marked) head ∷ (bits + head % 32) ∷ p .part) (omega arith) (type-of (p .note .marked) head)
+    ∙ rw (f, l, head-of (p .note .marked) head bits e)
 
-module _ (head : ℕ) (part : List ℕ) (h : 1 ≤ length part) where
-  shape-start : shape (fuA head 128 part) ≡ fragment true false (head % 128)
+module _ (head : ℕ) (p : Fragment) (h : 1 ≤ length (p .part)) where
+  shape-start : shape (fuA head 128 p) ≡ fragment true false (head % 128)
   shape-start =
-      shape-fuA head 128 part true false h refl (eq-eqb ((128 + head % 32) / 128 % 2) 1 (omega arith))
+      shape-fuA head 128 p true false h refl (eq-eqb ((128 + head % 32) / 128 % 2) 1 (omega arith))
       (ne-eqb ((128 + head % 32) / 64 % 2) 1 (λ e. omega arith))
 
-  shape-middle : shape (fuA head 0 part) ≡ fragment false false (head % 128)
+  shape-middle : shape (fuA head 0 p) ≡ fragment false false (head % 128)
   shape-middle =
-      shape-fuA head 0 part false false h refl (ne-eqb ((0 + head % 32) / 128 % 2) 1 (λ e. omega arith))
+      shape-fuA head 0 p false false h refl (ne-eqb ((0 + head % 32) / 128 % 2) 1 (λ e. omega arith))
       (ne-eqb ((0 + head % 32) / 64 % 2) 1 (λ e. omega arith))
 
-  shape-end : shape (fuA head 64 part) ≡ fragment false true (head % 128)
+  shape-end : shape (fuA head 64 p) ≡ fragment false true (head % 128)
   shape-end =
-      shape-fuA head 64 part false true h refl (ne-eqb ((64 + head % 32) / 128 % 2) 1 (λ e. omega arith))
+      shape-fuA head 64 p false true h refl (ne-eqb ((64 + head % 32) / 128 % 2) 1 (λ e. omega arith))
       (eq-eqb ((64 + head % 32) / 64 % 2) 1 (omega arith))
 
 -- ---- what the checks say
@@ -71,18 +84,23 @@ check-stapA : (head : ℕ) (u : List ℕ) (us : Units) → head % 32 ≡ 24 → 
 unfolding stapA
 check-stapA head u us t w = check-shape (stapA head (u ∷ us)) aggregate (shape-stapA head u us t) ∙ ap wholeSaid (unpack-sized head (u ∷ us) w)
 
-module _ (head : ℕ) (part : List ℕ) (h : 1 ≤ length part) where
-  check-start : check (fuA head 128 part) ≡ says (start part)
+module _ (head : ℕ) (f : Fragment) (h : 1 ≤ length (f .part)) where
+  -- by its shape, and with its own F
+  check-fuA : (bits : ℕ) (first last : Bool) → shape (fuA head bits f) ≡ fragment first last (head % 128) →
+      check (fuA head bits f) ≡ fragmented first last (head % 128) f
   unfolding fuA
-  check-start = check-shape (fuA head 128 part) _ (shape-start head part h)
+  check-fuA bits first last e =
+      check-shape (fuA head bits f) _ e
+      ∙ ap (λ (m : Bool). fragmented first last (head % 128) (record { note = record { marked = m }; part = f .part })) (f-of (f .note .marked) head)
 
-  check-middle : check (fuA head 0 part) ≡ says (middle part)
-  unfolding fuA
-  check-middle = check-shape (fuA head 0 part) _ (shape-middle head part h)
+  check-start : check (fuA head 128 f) ≡ says (start f)
+  check-start = check-fuA 128 true false (shape-start head f h)
 
-  check-end : check (fuA head 64 part) ≡ says (end (head % 128 ∷ []) part)
-  unfolding fuA
-  check-end = check-shape (fuA head 64 part) _ (shape-end head part h)
+  check-middle : check (fuA head 0 f) ≡ says (middle f)
+  check-middle = check-fuA 0 false false (shape-middle head f h)
+
+  check-end : check (fuA head 64 f) ≡ says (end (head % 128 ∷ []) f)
+  check-end = check-fuA 64 false true (shape-end head f h)
 
 -- ---- in a room that is enough
 
@@ -100,8 +118,8 @@ module _ (avc : Bool) (most largest : ℕ) (bounded : most ≤ 16777215) where
   owes (aggregated head unit others) w h = owes-one (stapA head (unit ∷ others)) unit others (check-stapA head unit others (w .0) (w .1))
   owes (alone unit) w h = owes-one unit unit [] (check-alone unit w)
   owes (sent.fragmented head first between last) w h =
-      subst (λ (l : List Known). Owes (codec (choice avc)) (Enough most largest) (record { first = known (fuA head 128 first); others = l; handed = (head % 128 ∷ body first between last) ∷ [] }))
+      subst (λ (l : List Known). Owes (codec (choice avc)) (Enough most largest) (record { first = known (fuA head 128 first); others = l; handed = (topBit (anyMarked first between last) (head % 128) ∷ body first between last) ∷ [] }))
       (sym (map-append known (map (fuA head 0) between) (fuA head 64 last ∷ []) ∙ ap (λ (l : List Known). l ++ (known (fuA head 64 last) ∷ [])) (map-map known (fuA head 0) between)))
       (owes-cut (λ packet. arrivedIn packet (readPacket packet)) (λ p. check (p .payload)) avc most largest bounded
-      (λ s. known (fuA head 128 s)) (λ s. known (fuA head 0 s)) (λ s. known (fuA head 64 s)) (head % 128 ∷ []) (λ s. 1 ≤ length s)
+      (λ f. known (fuA head 128 f)) (λ f. known (fuA head 0 f)) (λ f. known (fuA head 64 f)) (head % 128 ∷ []) (λ f. 1 ≤ length (f .part))
       (check-start head) (check-middle head) (check-end head) first between last (w .0 .0) (w .0 .1) (w .1) h)

@@ -20,7 +20,7 @@ keptOf j =
       source = j .source;
       awaited = j .awaited;
       missed = j .missed;
-      run = record { running = j .running; gathered = j .gathered; note = tt };
+      run = record { running = j .running; gathered = j .gathered; note = record { marked = j .marked } };
       closed = j .closed;
     }
 
@@ -32,6 +32,7 @@ joinerOf k =
       missed = k .missed;
       running = k .run .running;
       gathered = k .run .gathered;
+      marked = k .run .note .marked;
       closed = k .closed;
     }
 

@@ -38,6 +38,7 @@ acceptedJoiner j number missed (says r) =
       missed = missed;
       running = r .run .running;
       gathered = r .run .gathered;
+      marked = r .run .marked;
       closed = false;
     }
 acceptedJoiner j number missed (refused r) = j

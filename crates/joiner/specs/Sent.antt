@@ -1,5 +1,6 @@
 -- Groups of H.264 payloads as RFC 6184 lays them out, from whatever sender. Assumes nothing.
 use mathlib.Core.Path.{_≡_}
+use mathlib.Core.Bool.{Bool}
 use mathlib.Core.List.{List, [], _∷_, _++_, map}
 use Prim.Native.Nat.{ℕ, _+_, _*_, _/_, _%_, _≤_}
 use lib.ListN.{length, getD}
@@ -8,6 +9,7 @@ use Rattle.wire.specs.Packets.{joined}
 use Rattle.nal.specs.Unpack.{sizedUnits, Sized}
 use Rattle.sequence.specs.Group.{Group, mapGroup}
 use Rattle.joiner_step.specs.Run.{Units}
+use Rattle.joiner_feed.specs.Content.{Fragment, partIn, noteOf, topBit}
 use Rattle.joiner.specs.Join.{Known, known}
 
 -- "A group is one STAP-A, one plain unit, or all fragments of one unit"
@@ -15,23 +17,28 @@ pub data Sent : Type 0 where
   -- a STAP-A's first byte, and its units
   aggregated : (head : ℕ) (unit : List ℕ) (others : Units) → Sent
   alone : (unit : List ℕ) → Sent
-  -- a unit's first byte, and the parts of what follows it: the first, those between, the last
-  fragmented : (head : ℕ) (first : List ℕ) (between : Units) (last : List ℕ) → Sent
+  -- NRI and type of a unit's first byte, and its fragments, each with an F of its own: the first, those between, the last
+  fragmented : (head : ℕ) (first : Fragment) (between : List Fragment) (last : Fragment) → Sent
 
 -- RFC 6184, section 5.7.1: behind the first byte each unit follows its size in two bytes
 unfoldable pub stapA : ℕ → Units → List ℕ
 stapA head us = head ∷ sizedUnits us
 
--- RFC 6184, section 5.8: the unit's F and NRI beside type 28; then start bit (128), end bit (64) and the unit's type; then a part of
+-- RFC 6184, section 5.8: F, and the unit's NRI, beside type 28; then start bit (128), end bit (64) and the unit's type; then a part of
 -- the unit
-unfoldable pub fuA : ℕ → ℕ → List ℕ → List ℕ
-fuA head bits part = (head / 32 % 8 * 32 + 28) ∷ (bits + head % 32) ∷ part
+unfoldable pub fuA : ℕ → ℕ → Fragment → List ℕ
+fuA head bits f = topBit (f .note .marked) (head / 32 % 4 * 32 + 28) ∷ (bits + head % 32) ∷ f .part
 
 -- a fragmented unit's bytes behind the first
-abbrev pub body : List ℕ → Units → List ℕ → List ℕ
-body first between last = first ++ (joined between ++ last)
+abbrev pub body : Fragment → List Fragment → Fragment → List ℕ
+body first between last = first .part ++ (joined (map partIn between) ++ last .part)
 
--- the payloads of a group, and the units it is handed out as: "all fragments of one unit (handed out with its top bit clear)"
+-- whether one of its fragments has its F set
+abbrev pub anyMarked : Fragment → List Fragment → Fragment → Bool
+anyMarked first between last = noteOf (first ∷ between ++ (last ∷ [])) .marked
+
+-- The payloads of a group, and the units it is handed out as. Of a fragmented one: "the rebuilt top bit is set if any fragment of the unit had it
+-- set" (E3).
 abbrev pub groupOf : Sent → Group (List ℕ) Units
 groupOf (aggregated head unit others) = record { first = stapA head (unit ∷ others); others = []; handed = unit ∷ others }
 groupOf (alone unit) = record { first = unit; others = []; handed = unit ∷ [] }
@@ -39,7 +46,7 @@ groupOf (fragmented head first between last) =
     record {
       first = fuA head 128 first;
       others = map (fuA head 0) between ++ (fuA head 64 last ∷ []);
-      handed = (head % 128 ∷ body first between last) ∷ [];
+      handed = (topBit (anyMarked first between last) (head % 128) ∷ body first between last) ∷ [];
     }
 
 -- of which the joiner knows this
@@ -55,9 +62,9 @@ gatheredOf (aggregated head unit others) = 0
 gatheredOf (alone unit) = 0
 gatheredOf (fragmented head first between last) = length (body first between last)
 
--- none of the parts is empty
-abbrev pub NoneEmpty : Units → Type 0
-NoneEmpty = Each (λ (s : List ℕ). 1 ≤ length s)
+-- no fragment is empty
+abbrev pub NoneEmpty : List Fragment → Type 0
+NoneEmpty = Each (λ (f : Fragment). 1 ≤ length (f .part))
 
 -- a unit that a payload can be: "of type 1 to 23, of 3 bytes or more"
 pub record PlainUnit (u : List ℕ) : Type 0 where
@@ -69,4 +76,4 @@ pub record PlainUnit (u : List ℕ) : Type 0 where
 abbrev pub Lawful : Sent → Type 0
 Lawful (aggregated head unit others) = (head % 32 ≡ 24) × Sized (unit ∷ others)
 Lawful (alone unit) = PlainUnit unit
-Lawful (fragmented head first between last) = NoneEmpty (first ∷ between) × (1 ≤ length last)
+Lawful (fragmented head first between last) = NoneEmpty (first ∷ between) × (1 ≤ length (last .part))

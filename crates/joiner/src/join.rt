@@ -42,6 +42,7 @@ impl Joiner {
             missed: 0,
             running: false,
             gathered: 0,
+            marked: false,
             closed: false,
         }
     }
@@ -54,7 +55,7 @@ impl Joiner {
             return false;
         }
         if self.gathered == 0 {
-            return false;
+            return self.marked;
         }
         true
     }
@@ -71,12 +72,13 @@ impl Joiner {
 
     // "d > 0 drops the open run"
     fn run_at(self, d: u16) -> Run
-        ensures { λ r. ⌜ r ≡ cond (eqb d 0) (record { running = self .running; gathered = self .gathered }) (record { running = false; gathered = 0 }) ⌝ }
+        ensures { λ r. ⌜ r ≡ cond (eqb d 0) (record { running = self .running; gathered = self .gathered; marked = self .marked }) (record { running = false; gathered = 0; marked = false }) ⌝ }
     {
         if d == 0 {
             return Run {
                 running: self.running,
                 gathered: self.gathered,
+                marked: self.marked,
             };
         }
         no_run()
@@ -94,6 +96,7 @@ impl Joiner {
                     missed,
                     running: run.running,
                     gathered: run.gathered,
+                    marked: run.marked,
                     closed: false,
                 },
                 answer: Joined::Accepted {
@@ -188,6 +191,7 @@ impl Joiner {
                 missed: missed as u32,
                 running: false,
                 gathered: 0,
+                marked: false,
                 closed: true,
             },
             answer: Closed::Closed {

@@ -1,7 +1,7 @@
 -- A packet that holds units hands them out whatever run is open, and one that goes on with a unit is silent where the run was dropped: so
 -- units by themselves, and a unit cut into pieces, are groups that are owed, whatever the reader and the checks. Assumes nothing.
-use mathlib.Core.Path.{_≡_, refl, sym, ap, subst, _∙_}
-use mathlib.Core.Bool.{Bool}
+use mathlib.Core.Path.{_≡_, refl, sym, ap, ap₂, subst, _∙_}
+use mathlib.Core.Bool.{Bool, true, false, _||_}
 use mathlib.Core.List.{List, [], _∷_, _++_, map, append-assoc}
 use Prim.Native.Nat.{ℕ, _≤_}
 use native.Mathlib.Omega.{arith}
@@ -12,16 +12,34 @@ use Rattle.error.specs.Said.{Said, says}
 use Rattle.wire.specs.Each.{Each}
 use Rattle.wire.specs.Packets.{joined}
 use Rattle.sequence.specs.Codec.{Codec, feedChecked, Does, Owes, Cuts}
-use Rattle.sequence.proofs.Cutting.{joinedTo, cut-owes}
+use Rattle.sequence.proofs.Cutting.{gatheredTo, cut-owes}
 use Rattle.joiner_step.specs.Run.{Units, Run, none, gathering, fedBy}
 use Rattle.joiner_step.specs.Choice.{Arrived}
 use Rattle.joiner_step.specs.General.{Room, Enough, groupIn, checkedAs, codec}
-use Rattle.joiner_feed.specs.Content.{Content, whole, start, middle, end, Note, fed, choosing}
+use Rattle.joiner_feed.specs.Content.{Note, Fragment, partIn, together, noteOf, Content, whole, start, middle, end, topped, fed, choosing}
 
--- the pieces between, then the last
-joined-to : (between : Units) (last : List ℕ) → joinedTo between last ≡ joined between ++ last
-joined-to [] last = refl
-joined-to (s ∷ between) last = ap (λ (l : List ℕ). s ++ l) (joined-to between last) ∙ sym (append-assoc s (joined between) last)
+-- ---- a unit's fragments together
+
+or-false : (a : Bool) → (a || false) ≡ a
+or-false true = refl
+or-false false = refl
+
+or-assoc : (a b c : Bool) → ((a || b) || c) ≡ (a || (b || c))
+or-assoc true b c = refl
+or-assoc false b c = refl
+
+-- gathered one after the other: their parts in order, and the mark of any
+all-together : (before : Fragment) (between : List Fragment) (last : Fragment) →
+    gatheredTo together before between last
+    ≡ record { note = noteOf (before ∷ between ++ (last ∷ [])); part = before .part ++ (joined (map partIn between) ++ last .part) }
+all-together before [] last =
+    ap (λ (m : Bool). record { note = record { marked = before .note .marked || m }; part = before .part ++ last .part }) (sym (or-false (last .note .marked)))
+all-together before (s ∷ between) last =
+    all-together (together before s) between last
+    ∙ ap₂ (λ (m : Bool) (l : List ℕ). record { note = record { marked = m }; part = l })
+    (or-assoc (before .note .marked) (s .note .marked) (noteOf (between ++ (last ∷ [])) .marked))
+    (append-assoc (before .part) (s .part) (joined (map partIn between) ++ last .part)
+    ∙ ap (λ (l : List ℕ). before .part ++ l) (sym (append-assoc (s .part) (joined (map partIn between)) (last .part))))
 
 module _ {P : Type 0} (reads : List ℕ → Said (Arrived P)) (check : P → Said Content) (avc : Bool) where
   abbrev pub codecOf : Codec Room Refusal P Content (Run Note) Units
@@ -45,36 +63,40 @@ module _ {P : Type 0} (reads : List ℕ → Said (Arrived P)) (check : P → Sai
     owes-whole p u us e = record { hands = λ run. (none, does run p (whole (u ∷ us)) e (omega arith)); quiet = tt }
 
     -- a unit cut into pieces: `Piece` says which may be sent
-    module _ (starts middles finals : List ℕ → P) (head : List ℕ) (Piece : List ℕ → Type 0)
-        (start-is : (s : List ℕ) → Piece s → check (starts s) ≡ says (start s))
-        (middle-is : (s : List ℕ) → Piece s → check (middles s) ≡ says (middle s))
-        (end-is : (s : List ℕ) → Piece s → check (finals s) ≡ says (end head s)) where
-      abbrev Fits : List ℕ → Type 0
-      Fits s = length s ≤ most
+    module _ (starts middles finals : Fragment → P) (head : List ℕ) (Piece : Fragment → Type 0)
+        (start-is : (f : Fragment) → Piece f → check (starts f) ≡ says (start f))
+        (middle-is : (f : Fragment) → Piece f → check (middles f) ≡ says (middle f))
+        (end-is : (f : Fragment) → Piece f → check (finals f) ≡ says (end head f)) where
+      abbrev Fits : Fragment → Type 0
+      Fits f = length (f .part) ≤ most
 
-      abbrev unit : List ℕ → Units
-      unit s = (head ++ s) ∷ []
+      abbrev opened : Fragment → Run Note
+      opened f = gathering (f .note) (f .part)
 
-      cuts : Cuts codecOf (Enough most largest) (gathering tt) starts middles finals unit Piece Fits
+      abbrev unit : Fragment → Units
+      unit f = (topped (f .note) head ++ f .part) ∷ []
+
+      cuts : Cuts codecOf (Enough most largest) together opened starts middles finals unit Piece Fits
       cuts =
           record {
-            starts = λ run s p f. does run (starts s) (start s) (start-is s p) f;
-            continues = λ before s p f. does (gathering tt before) (middles s) (middle s) (middle-is s p) f;
-            ends = λ before s p f. (none, does (gathering tt before) (finals s) (end head s) (end-is s p) f);
-            middle-quiet = λ s p run. does none (middles s) (middle s) (middle-is s p) (omega arith);
-            end-quiet = λ s p run. does none (finals s) (end head s) (end-is s p) (omega arith);
-            shorter = λ before s f. omega (arith, length-append before s);
+            starts = λ run f p fits. does run (starts f) (start f) (start-is f p) fits;
+            continues = λ before f p fits. does (opened before) (middles f) (middle f) (middle-is f p) fits;
+            ends = λ before f p fits. (none, does (opened before) (finals f) (end head f) (end-is f p) fits);
+            middle-quiet = λ f p run. does none (middles f) (middle f) (middle-is f p) (omega arith);
+            end-quiet = λ f p run. does none (finals f) (end head f) (end-is f p) (omega arith);
+            shorter = λ before f fits. omega (arith, length-append (before .part) (f .part));
           }
 
-      pub owes-cut : (first : List ℕ) (between : Units) (last : List ℕ) → Piece first → Each Piece between → Piece last →
-          length (first ++ (joined between ++ last)) ≤ most →
+      -- handed out with its top bit set where one of them has it
+      pub owes-cut : (first : Fragment) (between : List Fragment) (last : Fragment) → Piece first → Each Piece between → Piece last →
+          length (first .part ++ (joined (map partIn between) ++ last .part)) ≤ most →
           Owes codecOf (Enough most largest)
           (record {
             first = starts first;
             others = map middles between ++ (finals last ∷ []);
-            handed = (head ++ (first ++ (joined between ++ last))) ∷ [];
+            handed = (topped (noteOf (first ∷ between ++ (last ∷ []))) head ++ (first .part ++ (joined (map partIn between) ++ last .part))) ∷ [];
           })
       owes-cut first between last p ps q =
-          subst (λ (l : List ℕ). Fits (first ++ l) → Owes codecOf (Enough most largest) (record { first = starts first; others = map middles between ++ (finals last ∷ []); handed = unit (first ++ l) }))
-          (joined-to between last)
-          (cut-owes codecOf (Enough most largest) (gathering tt) starts middles finals unit Piece Fits cuts first between last p ps q)
+          subst (λ (f : Fragment). Fits f → Owes codecOf (Enough most largest) (record { first = starts first; others = map middles between ++ (finals last ∷ []); handed = unit f }))
+          (all-together first between last)
+          (cut-owes codecOf (Enough most largest) together opened starts middles finals unit Piece Fits cuts first between last p ps q)

@@ -9,17 +9,18 @@ use Rattle.nal_read.specs.Kind.{Shape, short, unknown, plain, aggregate, fragme
 use Rattle.nal_read.specs.Unpack.{unpack}
 use Rattle.nal_read.proofs.Sayable.{unpack-sayable}
 use Rattle.joiner_step.specs.Run.{Units}
+use Rattle.joiner_feed.specs.Content.{Fragment}
 use Rattle.joiner_feed.specs.H264.{wholeSaid, fragmented, checkBy, check}
 
 whole-sayable : (x : Said Units) → Sayable x → Sayable (wholeSaid x)
 whole-sayable (says units) s = refl
 whole-sayable (refused r) s = passed {A = Units} {r = r} s
 
-fragmented-sayable : (first last : Bool) (head : ℕ) (part : List ℕ) → Sayable (fragmented first last head part)
-fragmented-sayable true true head part = refl
-fragmented-sayable true false head part = refl
-fragmented-sayable false true head part = refl
-fragmented-sayable false false head part = refl
+fragmented-sayable : (first last : Bool) (head : ℕ) (f : Fragment) → Sayable (fragmented first last head f)
+fragmented-sayable true true head f = refl
+fragmented-sayable true false head f = refl
+fragmented-sayable false true head f = refl
+fragmented-sayable false false head f = refl
 
 pub check-sayable : (payload : List ℕ) → Sayable (check payload)
 unfolding check

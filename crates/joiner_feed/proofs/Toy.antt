@@ -1,8 +1,8 @@
 -- A second codec, to show what one costs: its checks, and three facts about them, what they say of a unit's first, middle and last fragment (each
--- `refl` here). All else is cited, since it is proved for any choice. It is a toy: a payload has a header of three bytes where H.264's
--- fragments have two, a kind and then the two bytes of the unit's own header, as H.265's units have it. Assumes nothing.
+-- `marked-is` here). All else is cited, since it is proved for any choice. It is a toy: a payload has a header of four bytes where H.264's
+-- fragments have two, a kind, a mark, and then the two bytes of the unit's own header, as H.265's units have it. Assumes nothing.
 use mathlib.Core.Path.{_≡_, refl, ap, _∙_}
-use mathlib.Core.Bool.{Bool, cond}
+use mathlib.Core.Bool.{Bool, true, false, cond}
 use mathlib.Core.List.{List, [], _∷_, _++_, map}
 use Prim.Native.Nat.{ℕ, _≤_, _<_}
 use lib.Dec.{eqb}
@@ -28,29 +28,49 @@ use Rattle.joiner_step.specs.General.{Room, Enough, codec, heardFrom, parts, st
 use Rattle.joiner_step.proofs.Playing.{Stands}
 use Rattle.joiner_step.proofs.Rooms.{Small, small-enough}
 use Rattle.joiner_step.proofs.Main.{Ready, paper-step, one-call}
-use Rattle.joiner_feed.specs.Content.{Content, whole, start, middle, end, Note, choosing}
+use Rattle.joiner_feed.specs.Content.{Note, Fragment, partIn, noteOf, Content, whole, start, middle, end, topBit, choosing}
 use Rattle.joiner_feed.proofs.Owing.{owes-whole, owes-cut}
+
+abbrev pub fragmentOf : ℕ → List ℕ → Fragment
+fragmentOf mark part = record { note = record { marked = eqb mark 1 }; part = part }
 
 -- by the kind: a unit by itself, a fragment of one with the header a b, or 19; 4 where the header is cut
 abbrev pub check : List ℕ → Said Content
-check (kind ∷ a ∷ b ∷ part) =
+check (kind ∷ mark ∷ a ∷ b ∷ part) =
     cond (eqb kind 0) (says (whole (part ∷ [])))
-    (cond (eqb kind 1) (says (start part))
-    (cond (eqb kind 2) (says (middle part))
-    (cond (eqb kind 3) (says (end (a ∷ b ∷ []) part)) (refused (record { number = 19; carried = kind ∷ [] })))))
-check (kind ∷ a ∷ []) = refuse 4
+    (cond (eqb kind 1) (says (start (fragmentOf mark part)))
+    (cond (eqb kind 2) (says (middle (fragmentOf mark part)))
+    (cond (eqb kind 3) (says (end (a ∷ b ∷ []) (fragmentOf mark part))) (refused (record { number = 19; carried = kind ∷ [] })))))
+check (kind ∷ mark ∷ a ∷ []) = refuse 4
+check (kind ∷ mark ∷ []) = refuse 4
 check (kind ∷ []) = refuse 4
 check [] = refuse 4
 
 -- a unit sent by itself, or cut into fragments, which may be empty; `most` bytes may be gathered
 pub data Sent (most : ℕ) : Type 0 where
   alone : (a b : ℕ) (unit : List ℕ) → Sent most
-  cut : (a b : ℕ) (first : List ℕ) (between : Units) (last : List ℕ) → length (first ++ (joined between ++ last)) ≤ most → Sent most
+  cut : (a b : ℕ) (first : Fragment) (between : List Fragment) (last : Fragment) →
+      length (first .part ++ (joined (map partIn between) ++ last .part)) ≤ most → Sent most
+
+-- a fragment's payload
+abbrev pub sent : ℕ → ℕ → ℕ → Fragment → List ℕ
+sent kind a b f = kind ∷ cond (f .note .marked) 1 0 ∷ a ∷ b ∷ f .part
+
+marked-is : (f : Fragment) → fragmentOf (cond (f .note .marked) 1 0) (f .part) ≡ f
+marked-is f = go (f .note .marked)
+  where
+    go : (m : Bool) → fragmentOf (cond m 1 0) (f .part) ≡ record { note = record { marked = m }; part = f .part }
+    go true = refl
+    go false = refl
 
 abbrev pub groupOf : {most : ℕ} → Sent most → Group (List ℕ) Units
-groupOf (alone a b unit) = record { first = 0 ∷ a ∷ b ∷ unit; others = []; handed = unit ∷ [] }
+groupOf (alone a b unit) = record { first = 0 ∷ 0 ∷ a ∷ b ∷ unit; others = []; handed = unit ∷ [] }
 groupOf (cut a b first between last fits) =
-    record { first = 1 ∷ a ∷ b ∷ first; others = map (λ s. 2 ∷ a ∷ b ∷ s) between ++ ((3 ∷ a ∷ b ∷ last) ∷ []); handed = (a ∷ b ∷ first ++ (joined between ++ last)) ∷ [] }
+    record {
+      first = sent 1 a b first;
+      others = map (sent 2 a b) between ++ (sent 3 a b last ∷ []);
+      handed = (topBit (noteOf (first ∷ between ++ (last ∷ [])) .marked) a ∷ b ∷ first .part ++ (joined (map partIn between) ++ last .part)) ∷ [];
+    }
 
 module _ (reads : List ℕ → Said (Arrived (List ℕ))) (avc : Bool) where
   abbrev pub toy : Choice (List ℕ) Content Note
@@ -66,24 +86,26 @@ module _ (reads : List ℕ → Said (Arrived (List ℕ))) (avc : Bool) where
 
   module _ (most largest : ℕ) (bounded : most ≤ 16777215) where
     pub toy-owes : (s : Sent most) → Owes (codec toy) (Enough most largest) (groupOf s)
-    toy-owes (alone a b unit) = owes-whole reads check avc most largest bounded (0 ∷ a ∷ b ∷ unit) unit [] refl
+    toy-owes (alone a b unit) = owes-whole reads check avc most largest bounded (0 ∷ 0 ∷ a ∷ b ∷ unit) unit [] refl
     toy-owes (cut a b first between last fits) =
-        owes-cut reads check avc most largest bounded (λ s. 1 ∷ a ∷ b ∷ s) (λ s. 2 ∷ a ∷ b ∷ s) (λ s. 3 ∷ a ∷ b ∷ s) (a ∷ b ∷ []) (λ s. Unit)
-        (λ s any. refl) (λ s any. refl) (λ s any. refl) first between last tt (each-any (λ s. Unit) (λ s. tt) between) tt fits
+        owes-cut reads check avc most largest bounded (sent 1 a b) (sent 2 a b) (sent 3 a b) (a ∷ b ∷ []) (λ f. Unit)
+        (λ f any. ap (λ (g : Fragment). says (start g)) (marked-is f)) (λ f any. ap (λ (g : Fragment). says (middle g)) (marked-is f))
+        (λ f any. ap (λ (g : Fragment). says (end (a ∷ b ∷ []) g)) (marked-is f))
+        first between last tt (each-any (λ f. Unit) (λ f. tt) between) tt fits
 
     -- demand 3, over packets that the reader reads back, among others that it turns away
     pub toy-demand-3 : (sents : List (Sent most)) → let gs = map groupOf sents in let ps = packetsOf gs in let n = length ps in
         EachHanded (Small avc largest) gs → n ≤ 4294967295 → (source first : ℕ) → first < 65536 →
-        (sent : ℕ → List ℕ) → ((i : ℕ) → i < n → reads (sent i) ≡ says (record { source = source; number = numberOf first i; known = getD ps i [] })) →
+        (packet : ℕ → List ℕ) → ((i : ℕ) → i < n → reads (packet i) ≡ says (record { source = source; number = numberOf first i; known = getD ps i [] })) →
         (rooms : ℕ → Room) → ((i : ℕ) → Enough most largest (rooms i)) →
         (arrivals : List (Arrival (List ℕ))) → Window n 0 arrivals → Told (parts toy (plain (List ℕ)) source) n arrivals → (gather : List ℕ) →
-        Delivered (parts toy (plain (List ℕ)) source) (Enough most largest) (numberOf first) sent n rooms
+        Delivered (parts toy (plain (List ℕ)) source) (Enough most largest) (numberOf first) packet n rooms
         (standing (opening toy source first) gather) arrivals (accepted arrivals) (acceptedCalls [] arrivals) gs
     unfolding opening
-    toy-demand-3 sents ok few source first h sent back rooms enough arrivals window told gather =
+    toy-demand-3 sents ok few source first h packet back rooms enough arrivals window told gather =
         let gs = map groupOf sents in let ps = packetsOf gs in
         let owed = each-map (Owes (codec toy) (Enough most largest)) groupOf sents (each-any _ toy-owes sents) in
-        delivered _ (Enough most largest) (numberOf first) sent (λ i. getD ps i []) (length ps) 1 (Small avc largest)
+        delivered _ (Enough most largest) (numberOf first) packet (λ i. getD ps i []) (length ps) 1 (Small avc largest)
         (λ i h. ap (heardFrom toy source) (back i h) ∙ rw (eq-eqb source source refl))
         (owed-pass (codec toy) (Enough most largest) (rooms 0) (enough 0) none gs owed []) (small-enough toy most largest)
         gs refl few owed ok rooms enough _ refl arrivals _ _ (plain-follows first ps [] (List ℕ) arrivals h window) told

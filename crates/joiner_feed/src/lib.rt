@@ -2,13 +2,13 @@
 //
 // Only proved code calls this crate, so its function may ask that the run lies in the gather buffer.
 ghost use mathlib.Core.Path.{_≡_};
-ghost use mathlib.Core.Bool.{true, false};
+ghost use mathlib.Core.Bool.{true, false, _||_};
 ghost use Prim.Native.Nat.{_≤_};
-ghost use lib.ListN.{length, drop};
+ghost use lib.ListN.{length};
 ghost use Rattle.nal.specs.Said.{saidHanded};
 ghost use Rattle.nal.specs.Ran.{withRun};
-ghost use Rattle.joiner_feed.specs.Content.{fedAfter};
-ghost use Rattle.joiner_feed.specs.H264.{fragmented, check};
+ghost use Rattle.joiner_feed.specs.Content.{topBit, fedAfter};
+ghost use Rattle.joiner_feed.specs.H264.{forbidden, fragmentIn, fragmented, check};
 ghost use Rattle.joiner_feed.specs.Ran.{runOf, ranSaid, ranHeard, layDoes};
 use error::Error;
 use nal::Handed;
@@ -20,6 +20,8 @@ pub struct Run {
     pub running: bool,
     // how many bytes are gathered; 0 where no run is open
     pub gathered: usize,
+    // a fragment of the open run had its forbidden bit set; false where no run is open
+    pub marked: bool,
 }
 
 // What became of a payload: the run that is now open, and how many bytes were handed out.
@@ -30,20 +32,22 @@ pub enum Ran {
 
 // No run is open.
 pub fn no_run() -> Run
-    ensures { λ r. ⌜ r ≡ record { running = false; gathered = 0 } ⌝ }
+    ensures { λ r. ⌜ r ≡ record { running = false; gathered = 0; marked = false } ⌝ }
 {
     Run {
         running: false,
         gathered: 0,
+        marked: false,
     }
 }
 
-fn open_run(gathered: usize) -> Run
-    ensures { λ r. ⌜ r ≡ record { running = true; gathered = gathered } ⌝ }
+fn open_run(gathered: usize, marked: bool) -> Run
+    ensures { λ r. ⌜ r ≡ record { running = true; gathered = gathered; marked = marked } ⌝ }
 {
     Run {
         running: true,
         gathered,
+        marked,
     }
 }
 
@@ -55,6 +59,32 @@ fn with_run(handed: Handed, run: Run) -> Ran
         Handed::Bytes(bytes) => Ran::On { run, bytes },
         Handed::Refused(e) => Ran::Refused(e),
     }
+}
+
+// RFC 6184, section 5.3: a payload's forbidden bit.
+fn is_marked(payload: &[u8]) -> bool
+    requires { ⌜ 2 ≤ length (now payload) ⌝ }
+    ensures { λ r. ⌜ r ≡ forbidden (now (payload .entry)) ⌝ }
+{
+    payload[0] / 128 % 2 == 1
+}
+
+fn either(a: bool, b: bool) -> bool
+    ensures { λ r. ⌜ r ≡ (a || b) ⌝ }
+{
+    if a {
+        return true;
+    }
+    b
+}
+
+fn with_top_bit(set: bool, head: u8) -> u8
+    ensures { λ r. ⌜ r ≡ topBit set head ⌝ }
+{
+    if set {
+        return 128 + head % 128;
+    }
+    head
 }
 
 // A fragment, whose data follow two bytes.
@@ -69,16 +99,21 @@ fn feed_fragment(
     out: &mut [u8],
 ) -> Ran
     requires { ⌜ (2 ≤ length (now payload)) × (length (now payload) ≤ 65535) × (run .gathered ≤ length (now gather)) ⌝ }
-    ensures { λ r. ⌜ ranHeard r (now (gather .exit)) (now (out .exit)) ≡ layDoes avc (now (gather .entry)) (now (out .entry)) (fedAfter (runOf run (now (gather .entry))) (fragmented first last head (drop 2 (now (payload .entry))))) ⌝ }
+    ensures { λ r. ⌜ ranHeard r (now (gather .exit)) (now (out .exit)) ≡ layDoes avc (now (gather .entry)) (now (out .entry)) (fedAfter (runOf run (now (gather .entry))) (fragmented first last head (fragmentIn (now (payload .entry))))) ⌝ }
 {
     let running = run.running;
     let at = run.gathered;
     let n = payload.len() - 2;
+    let marked = is_marked(payload);
+    let any = either(run.marked, marked);
     if first {
         if last {
             return Ran::Refused(Error::StartAndEnd);
         }
-        return with_run(nal::gather_on(&payload[2..], 0, gather), open_run(n));
+        return with_run(
+            nal::gather_on(&payload[2..], 0, gather),
+            open_run(n, marked),
+        );
     }
     if !running {
         return Ran::On {
@@ -87,13 +122,16 @@ fn feed_fragment(
         };
     }
     if last {
-        let header = [head];
+        let header = [with_top_bit(any, head)];
         return with_run(
             nal::finish(&payload[2..], at, &header, avc, gather, out),
             no_run(),
         );
     }
-    with_run(nal::gather_on(&payload[2..], at, gather), open_run(at + n))
+    with_run(
+        nal::gather_on(&payload[2..], at, gather),
+        open_run(at + n, any),
+    )
 }
 
 pub fn feed(run: Run, avc: bool, payload: &[u8], gather: &mut [u8], out: &mut [u8]) -> Ran

@@ -98,13 +98,13 @@ module _ {K E P C Run O : Type 0} (codec : Codec K E P C Run O) (Enough : K → 
 
   -- ---- a unit cut into pieces
 
-  -- five facts on single packets. `Piece` says which pieces may be sent, `Fits` what may be gathered.
-  pub record Cuts {A : Type 0} (gathering : List A → Run) (start middle end : List A → P) (unit : List A → O)
-      (Piece Fits : List A → Type 0) : Type 0 where
-    pub starts : (run : Run) (s : List A) → Piece s → Fits s → Does run (start s) (gathering s) []
-    pub continues : (before s : List A) → Piece s → Fits (before ++ s) → Does (gathering before) (middle s) (gathering (before ++ s)) []
-    pub ends : (before s : List A) → Piece s → Fits (before ++ s) → (next : Run) × Does (gathering before) (end s) next (unit (before ++ s) ∷ [])
-    pub middle-quiet : (s : List A) → Piece s → Silent (middle s)
-    pub end-quiet : (s : List A) → Piece s → Silent (end s)
+  -- five facts on single packets. A piece, and what is gathered of some, is an `A`; `on` puts a piece behind what is gathered. `Piece` says which
+  -- pieces may be sent, `Fits` what may be gathered.
+  pub record Cuts {A : Type 0} (on : A → A → A) (gathering : A → Run) (start middle end : A → P) (unit : A → O) (Piece Fits : A → Type 0) : Type 0 where
+    pub starts : (run : Run) (s : A) → Piece s → Fits s → Does run (start s) (gathering s) []
+    pub continues : (before s : A) → Piece s → Fits (on before s) → Does (gathering before) (middle s) (gathering (on before s)) []
+    pub ends : (before s : A) → Piece s → Fits (on before s) → (next : Run) × Does (gathering before) (end s) next (unit (on before s) ∷ [])
+    pub middle-quiet : (s : A) → Piece s → Silent (middle s)
+    pub end-quiet : (s : A) → Piece s → Silent (end s)
     -- what is gathered fits where more does
-    pub shorter : (before s : List A) → Fits (before ++ s) → Fits before
+    pub shorter : (before s : A) → Fits (on before s) → Fits before
