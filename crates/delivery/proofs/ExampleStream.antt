@@ -1,11 +1,12 @@
--- The premises on a stream by RFC 6184 can be met: an access unit delimiter of two octets, an STAP-A, a unit with F set in three fragments, and a unit
--- that is lost. Assumes nothing.
+-- The premises on a stream by RFC 6184 can be met: an access unit delimiter of two octets, an STAP-A and the second of three fragments that a relay
+-- marked, and a unit that is lost. Assumes nothing.
 use mathlib.Core.Path.{_≡_, refl}
-use mathlib.Core.Bool.{false}
+use mathlib.Core.Bool.{Bool, true, false, _||_}
 use mathlib.Core.List.{List, [], _∷_}
 use mathlib.Core.Logic.{inl, inr}
-use Prim.Native.Nat.{ℕ}
+use Prim.Native.Nat.{ℕ, _≤_}
 use native.Mathlib.Omega.{arith}
+use lib.Dec.{eqb}
 use lib.ListN.{replicate}
 use Rattle.wire.specs.Net.{u16At, u32At, be16, be32}
 use Rattle.wire.specs.Part.{splice}
@@ -27,7 +28,8 @@ use Rattle.joiner_step.specs.Step.{bySource, step, closing, opening}
 use Rattle.joiner_step.specs.Play.{handedOut}
 use Rattle.joiner_feed.specs.H264.{check}
 use Rattle.joiner.specs.Join.{joinStep, closeStep, opened}
-use Rattle.delivery.specs.Play.{ourJoiner, annexB, played}
+use Rattle.delivery.specs.Show.{largest}
+use Rattle.delivery.specs.Play.{ourJoiner, played}
 use Rattle.delivery.specs.Play as play
 use Rattle.delivery.specs.AnySender.{Stream, streamShow, StreamPremises}
 
@@ -37,16 +39,17 @@ unit nri type payload = record { f = 0; nri = nri; type = type; payload = payloa
 abbrev part : List ℕ → Part
 part s = record { reserved = 0; octets = s }
 
--- six packets, of which the last is lost
+-- six packets, of which a relay marked the second and the fourth, and the last is lost
 unfoldable pub stream : Stream
 stream =
     record {
       sendings =
           single (unit 0 9 (0xF0 ∷ []))
           ∷ stapA 0 3 (unit 3 7 (0xAA ∷ []) ∷ unit 3 8 (0xBB ∷ []) ∷ [])
-          ∷ fuA (record { f = 1; nri = 3; type = 5; first = part (1 ∷ 2 ∷ []); middle = part (3 ∷ []) ∷ []; last = part (4 ∷ []) })
+          ∷ fuA (record { f = 0; nri = 3; type = 5; first = part (1 ∷ 2 ∷ []); middle = part (3 ∷ []) ∷ []; last = part (4 ∷ []) })
           ∷ single (unit 2 1 (1 ∷ 2 ∷ []))
           ∷ [];
+      marks = λ i. eqb i 1 || eqb i 3;
       source = 3;
       first = 65534;
       stamps = λ i. record { marker = false; type = 96; time = 2 };
@@ -55,9 +58,15 @@ stream =
       arrivals = ours 0 ∷ ours 1 ∷ ours 2 ∷ ours 3 ∷ ours 4 ∷ [];
     }
 
-pub stream-premises : StreamPremises annexB stream
+-- whatever the prefix, the largest group takes 12 bytes
+largest-out : (avc : Bool) → largest avc (streamShow stream .groups) ≤ 12
+unfolding stream octetsOf fragment octet be16 be32
+largest-out false = omega arith
+largest-out true = omega arith
+
+pub stream-premises : (avc : Bool) → StreamPremises avc stream
 unfolding stream octetsOf fragment octet be16
-stream-premises =
+stream-premises avc =
     record {
       formed = omega arith;
       ruled = omega arith;
@@ -68,7 +77,7 @@ stream-premises =
           record {
             few = omega arith;
             gather-room = omega arith;
-            out-room = λ i. omega arith;
+            out-room = λ i. largest-out avc;
             source = omega arith;
             first = omega arith;
             stamps = λ i. record { type = omega arith; time = omega arith };
@@ -77,8 +86,8 @@ stream-premises =
           };
     }
 
--- what is handed out, as it computes, the fragmented unit with its top bit clear; and how many packets were missed
-pub stream-outcome : (handedOut (played ourJoiner (streamShow stream)) ≡ (0 ∷ 0 ∷ 0 ∷ 1 ∷ 9 ∷ 0xF0 ∷ []) ∷ (0 ∷ 0 ∷ 0 ∷ 1 ∷ 0x67 ∷ 0xAA ∷ 0 ∷ 0 ∷ 0 ∷ 1 ∷ 0x68 ∷ 0xBB ∷ []) ∷ (0 ∷ 0 ∷ 0 ∷ 1 ∷ 0x65 ∷ 1 ∷ 2 ∷ 3 ∷ 4 ∷ []) ∷ [])
+-- what is handed out, as it computes: the units of the STAP-A as they are, the fragmented unit with its top bit set; and how many packets were missed
+pub stream-outcome : (handedOut (played ourJoiner (streamShow stream)) ≡ (0 ∷ 0 ∷ 0 ∷ 1 ∷ 9 ∷ 0xF0 ∷ []) ∷ (0 ∷ 0 ∷ 0 ∷ 1 ∷ 0x67 ∷ 0xAA ∷ 0 ∷ 0 ∷ 0 ∷ 1 ∷ 0x68 ∷ 0xBB ∷ []) ∷ (0 ∷ 0 ∷ 0 ∷ 1 ∷ 0xE5 ∷ 1 ∷ 2 ∷ 3 ∷ 4 ∷ []) ∷ [])
     × (play.closing ourJoiner (streamShow stream) .joiner .missed ≡ 1)
 unfolding stream octetsOf fragment octet joinStep step closeStep closing bySource check shape unpack unpacking.unpack unpackTurn run layBoth layBytes splice readPacket readHeader readFixed fieldsAt u16At u32At plainPacket packetOctets payloadOctets header.octetsOf fixedFor be16 be32 opened opening
 stream-outcome = (refl, refl)

@@ -11,32 +11,33 @@
 -- joiner's units follow.
 use mathlib.Core.Path.{_≡_, refl}
 use mathlib.Core.Bool.{Bool, true, false}
-use mathlib.Core.List.{List, _∷_, _++_, map}
+use mathlib.Core.List.{List, [], _∷_, _++_, map}
 use mathlib.Core.Logic.{_↔_}
 use Prim.Native.Nat.{ℕ, _<_}
 use lib.ListN.{length, getD}
 use Rattle.wire.specs.Each.{Each}
 use Rattle.rfc6184.specs.Sending.{payloadsOfAll}
 use Rattle.rfc6184.specs.Sending as rfc
-use Rattle.h264_put.specs.Groups.{nothingSaved, packetsOf}
+use Rattle.h264_put.specs.Groups.{nothingSaved, fragments, packetsOfGroup, packetsOf}
 use Rattle.h264.specs.Frames.{groupsSent}
 use Rattle.sequence.specs.Arrival.{Arrival, ours}
 use Rattle.sequence.proofs.Accepting.{Arrived}
 use Rattle.joiner_step.specs.Play.{isAccepted}
+use Rattle.joiner_feed.specs.H264.{forbidden}
 use Rattle.joiner.specs.Join.{Stepped}
 use Rattle.delivery.specs.Show.{Show, payloads}
 use Rattle.delivery.specs.Play.{Machine, ourJoiner, annexB, played}
 use Rattle.delivery.specs.Demand.{Delivered}
 use Rattle.delivery.specs.Frames.{Sending, showOf, SendingPremises, Delivers}
 use Rattle.delivery.specs.Calls.{Lent, NoneRefused, callsFor, LentEnough, FromTheCalls, lentCallsFor, written}
-use Rattle.delivery.specs.AnySender.{Stream, streamShow, Ruled, StreamPremises}
-use Rattle.delivery.specs.Wrong.{Silent, Advancing, Inventing}
+use Rattle.delivery.specs.AnySender.{relayed, anyMarked, handedFor, Stream, streamShow, Ruled, DeliversAny}
+use Rattle.delivery.specs.Wrong.{Silent, Advancing, Inventing, Unmarking}
 use Rattle.delivery.proofs.Delivering.{all-delivered}
 use Rattle.delivery.proofs.Accepted.{accepted-exactly}
-use Rattle.delivery.proofs.Sending.{sent-show, same-packets}
+use Rattle.delivery.proofs.Sending.{fragments-clear, sent-show, same-packets}
 use Rattle.delivery.proofs.LentCalls as L
 use Rattle.delivery.proofs.Calls as calls
-use Rattle.delivery.proofs.AnySender.{stream-show, lawful-ruled, stream-payloads}
+use Rattle.delivery.proofs.AnySender.{stream-show, lawful-ruled, stream-payloads, relayed-not, unit-marked}
 use Rattle.delivery.proofs.Example.{show, premises, lentTo, lent-enough}
 use Rattle.delivery.proofs.ExampleStream.{stream, stream-premises}
 use Rattle.delivery.proofs.Wrong as wrong
@@ -64,18 +65,31 @@ CALLS-ANSWER = calls.calls-answer
 pub payloads-sent : (x : Sending) → payloads (showOf x) ≡ packetsOf (groupsSent (x .mtu) (x .frames))
 payloads-sent x = same-packets (groupsSent (x .mtu) (x .frames))
 
--- Sendings of RFC 6184 by any sender, as crate rfc6184 has them: single units, STAP-As with any F and NRI, and units in fragments with any F. No
--- single unit is shorter than 3 bytes, but for an access unit delimiter of 2; no fragment is empty.
-pub any-sender : (y : Stream) → StreamPremises annexB y → Delivered annexB ourJoiner (streamShow y)
+-- Sendings of RFC 6184 by any sender, as crate rfc6184 has them: single units, STAP-As with any F and NRI, and units in fragments with any F; and F set
+-- by a relay on any of the packets, each on its own. No single unit is shorter than 3 bytes, but for an access unit delimiter of 2; no fragment is empty.
+pub any-sender : DeliversAny annexB ourJoiner
 any-sender y p = all-delivered annexB (streamShow y) refl (p .received) (stream-show annexB y p)
 
 -- Whatever is lawful by RFC 6184 keeps what is asked of its fields.
 pub lawful-sender : (ss : List rfc.Sending) → Each rfc.Lawful ss → Each rfc.FormedSending ss × Each Ruled ss
 lawful-sender = lawful-ruled
 
--- The payloads of its show are those that the RFC has for the sendings, in order.
-pub payloads-streamed : (y : Stream) → payloads (streamShow y) ≡ payloadsOfAll (y .sendings)
-payloads-streamed y = stream-payloads (y .sendings)
+-- The payloads of its show are those that the RFC has for the sendings, in order, as the relay passes them on: as they are where it marks none.
+pub payloads-streamed : (y : Stream) → payloads (streamShow y) ≡ relayed (y .marks) (payloadsOfAll (y .sendings))
+payloads-streamed y = stream-payloads (y .marks) (y .sendings)
+
+pub payloads-unmarked : (ps : List (List ℕ)) → relayed (λ i. false) ps ≡ ps
+payloads-unmarked = relayed-not
+
+-- A unit sent in fragments is handed out with its top bit set exactly where one of them has it as it arrives ..
+pub MARKED-EXACTLY : (marks : ℕ → Bool) (g : rfc.Fragmented) → rfc.FormedSending (rfc.fuA g) →
+    forbidden (getD (handedFor marks (rfc.fuA g)) 0 []) ≡ anyMarked (relayed marks (rfc.payloadsOf (rfc.fuA g)))
+MARKED-EXACTLY = unit-marked
+
+-- .. and our own sender clears it in all fragments, so that demand 3 hands its units out with it clear.
+pub OUR-FRAGMENTS-CLEAR : (head : ℕ) (first : List ℕ) (middle : List (List ℕ)) (last : List ℕ) →
+    Each (λ (p : List ℕ). forbidden p ≡ false) (packetsOfGroup (fragments head first middle last))
+OUR-FRAGMENTS-CLEAR = fragments-clear
 
 -- "Under these premises a packet is accepted exactly when its index is above every index that arrived before it; this, read off the
 -- arrivals alone, is what demand 3 means by accepted."
@@ -90,9 +104,9 @@ accepted-means = accepted-exactly
 pub show-delivered : FromTheCalls annexB show lentTo
 show-delivered = FROM-THE-CALLS show (premises annexB) lentTo (CALLS-ANSWER annexB show (premises annexB) lentTo lent-enough)
 
--- .. and so does a stream with an access unit delimiter, an STAP-A and a unit with F set in fragments
+-- .. and so does a stream with an access unit delimiter, an STAP-A and a unit in fragments, of which a relay marked some
 pub stream-delivered : Delivered annexB ourJoiner (streamShow stream)
-stream-delivered = any-sender stream stream-premises
+stream-delivered = any-sender stream (stream-premises annexB)
 
 -- `Delivers avc m` is demand 3 of the joiner m, whatever it hands units out behind. It "defeats a joiner that hands out nothing" ..
 pub NO-SILENT-JOINER : (avc : Bool) (m : Machine) → Silent m → Delivers avc m → ⊥
@@ -106,3 +120,7 @@ NO-ADVANCER = wrong.no-advancer
 -- .. "and one with an invented missed total, since missed is counted from the arrivals": one that is the same whatever arrives
 pub NO-INVENTED-TOTAL : (avc : Bool) (m : Machine) → Inventing m → Delivers avc m → ⊥
 NO-INVENTED-TOTAL = wrong.no-invented-total
+
+-- `DeliversAny avc m` is the same of any sender's packets as a relay passes them on. It shuts out a joiner that loses the relay's marks.
+pub NO-UNMARKER : (avc : Bool) (m : Machine) → Unmarking m → DeliversAny avc m → ⊥
+NO-UNMARKER = wrong.no-unmarker

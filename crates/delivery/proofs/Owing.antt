@@ -13,10 +13,10 @@ use Rattle.wire.specs.Packets.{joined}
 use Rattle.nal_read.proofs.Shapes.{shape-delimiter}
 use Rattle.sequence.specs.Codec.{Owes, OwesAll}
 use Rattle.joiner_step.specs.General.{Enough, codec}
-use Rattle.joiner_feed.specs.Content.{whole}
+use Rattle.joiner_feed.specs.Content.{whole, topBit}
 use Rattle.joiner_feed.specs.H264.{check}
 use Rattle.joiner.specs.Join.{choice}
-use Rattle.joiner.specs.Sent.{Sent, aggregated, alone, fragmented, body, groupOf, knownGroup, groupsOf, gatheredOf, PlainUnit, Lawful}
+use Rattle.joiner.specs.Sent.{Sent, aggregated, alone, fragmented, body, anyMarked, groupOf, knownGroup, groupsOf, gatheredOf, PlainUnit, Lawful}
 use Rattle.joiner.proofs.SentGroups.{check-shape, owes-one, owes}
 use Rattle.delivery.specs.Show.{gatheredBy, longest}
 
@@ -47,8 +47,8 @@ less-one head s = omega (arith, ap length (append-nil s))
 gathered-same : (s : Sent) → gatheredBy (groupOf s .others) (groupOf s .handed) ≡ gatheredOf s
 gathered-same (aggregated head unit others) = refl
 gathered-same (alone unit) = refl
-gathered-same (fragmented head first [] last) = less-one (head % 128) (body first [] last)
-gathered-same (fragmented head first (p ∷ between) last) = less-one (head % 128) (body first (p ∷ between) last)
+gathered-same (fragmented head first [] last) = less-one (topBit (anyMarked first [] last) (head % 128)) (body first [] last)
+gathered-same (fragmented head first (p ∷ between) last) = less-one (topBit (anyMarked first (p ∷ between) last) (head % 128)) (body first (p ∷ between) last)
 
 pub longest-within : (n : ℕ) (ss : List Sent) → Each (λ (s : Sent). gatheredOf s ≤ n) ss → longest (groupsOf ss) ≤ n
 longest-within n [] w = omega arith

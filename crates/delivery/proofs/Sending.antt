@@ -1,15 +1,16 @@
 -- What a fresh sender sends for frames is a show that the joiner can take: the sender's theorems say that its groups can be sent and
 -- carry the frames' units, and no unit is longer than its frame. Assumes nothing.
 use mathlib.Core.Path.{_≡_, refl, sym, ap, ap₂, subst}
-use mathlib.Core.Bool.{Bool}
+use mathlib.Core.Bool.{Bool, false}
 use mathlib.Core.List.{List, [], _∷_, _++_, map, append-nil}
 use Prim.Native.Nat.{ℕ, _+_, _-_, _*_, _/_, _%_, _≤_}
 use native.Mathlib.Omega.{arith}
 use lib.ListN.{length}
+use borrow.Author.Tests.{ne-eqb}
 use Rattle.wire.specs.Each.{Each}
 use Rattle.wire.specs.Net.{be16}
 use Rattle.wire.specs.Packets.{joined}
-use Rattle.wire.proofs.Each.{each-append, each-by, each-map}
+use Rattle.wire.proofs.Each.{each-any, each-append, each-by, each-map}
 use Rattle.annexb.specs.Units.{unitsAt}
 use Rattle.h264_put.specs.Groups.{Saved, Group, pair, plain, fragments, keepAll, groupsOf, stapA, fragment, packetsOfGroup, packetsOf}
 use Rattle.h264.specs.Conformance.{Divided, Sendable, unitsIn}
@@ -20,6 +21,8 @@ use Rattle.h264.proofs.LeftOut.{left-out}
 use Rattle.h264_put.proofs.Sizes.{packets-append}
 use Rattle.sequence.specs.Group.{packetsIn}
 use Rattle.sequence.specs.Group as any
+use Rattle.joiner_feed.specs.Content.{Fragment, partIn, unmarked, noteOf, topBit}
+use Rattle.joiner_feed.specs.H264.{forbidden}
 use Rattle.joiner.specs.Sent.{Sent, aggregated, alone, fragmented, Lawful, NoneEmpty, PlainUnit, groupOf, gatheredOf, fuA}
 use Rattle.joiner.specs.Sent as sent
 use Rattle.delivery.specs.Show.{payloads}
@@ -28,11 +31,47 @@ use Rattle.delivery.proofs.Owing.{Taken, lawful-taken, longest-within}
 use Rattle.delivery.proofs.Delivering.{AllShort}
 use Rattle.delivery.proofs.Delivering as delivering
 
--- a group of the sender's as one of the joiner's: "STAP-A (0x78)"; its fragments have F 0, whatever the unit's is
+-- ---- the sender's fragments
+
+-- "our sender clears that bit in all fragments": F of each is 0, whatever the unit's is
+fragment-clear : (head bits : ℕ) (part : List ℕ) → forbidden (fragment head bits part) ≡ false
+unfolding fragment
+fragment-clear head bits part = ne-eqb ((head / 32 % 4 * 32 + 28) / 128 % 2) 1 (λ e. omega arith)
+
+pub fragments-clear : (head : ℕ) (first : List ℕ) (middle : List (List ℕ)) (last : List ℕ) →
+    Each (λ (p : List ℕ). forbidden p ≡ false) (packetsOfGroup (fragments head first middle last))
+fragments-clear head first middle last =
+    (
+      fragment-clear head 128 first,
+      each-append Clear (map (fragment head 0) middle) (fragment head 64 last ∷ [])
+          (each-map Clear (fragment head 0) middle (each-any (λ (p : List ℕ). Clear (fragment head 0 p)) (fragment-clear head 0) middle))
+          (fragment-clear head 64 last, tt),
+    )
+  where
+    Clear : List ℕ → Type 0
+    Clear p = forbidden p ≡ false
+
+abbrev clear : List ℕ → Fragment
+clear part = record { note = unmarked; part = part }
+
+none-marked : (middle : List (List ℕ)) (last : List ℕ) → noteOf (map clear middle ++ (clear last ∷ [])) .marked ≡ false
+none-marked [] last = refl
+none-marked (p ∷ middle) last = none-marked middle last
+
+same-middle : (head : ℕ) (ps : List (List ℕ)) → map (fragment head 0) ps ≡ map (fuA head 0) (map clear ps)
+unfolding fragment fuA
+same-middle head [] = refl
+same-middle head (p ∷ ps) = ap (λ (l : List (List ℕ)). fragment head 0 p ∷ l) (same-middle head ps)
+
+same-parts : (ps : List (List ℕ)) → joined ps ≡ joined (map partIn (map clear ps))
+same-parts [] = refl
+same-parts (p ∷ ps) = ap (λ (l : List ℕ). p ++ l) (same-parts ps)
+
+-- a group of the sender's as one of the joiner's: "STAP-A (0x78)"
 abbrev sentOf : Group → Sent
 sentOf (pair sps pps) = aggregated 0x78 sps (pps ∷ [])
 sentOf (plain unit) = alone unit
-sentOf (fragments head first middle last) = fragmented (head % 128) first middle last
+sentOf (fragments head first middle last) = fragmented head (clear first) (map clear middle) (clear last)
 
 -- ---- the units that go out
 
@@ -45,9 +84,10 @@ Good u = PlainUnit u × (length u ≤ 16777216)
 abbrev Fine : Group → Type 0
 Fine g = Lawful (sentOf g) × (gatheredOf (sentOf g) ≤ 16777215)
 
-none-empty : (size : ℕ) → 1 ≤ size → (parts : List (List ℕ)) → Each (λ (p : List ℕ). length p ≡ size) parts → NoneEmpty parts
+none-empty : (size : ℕ) → 1 ≤ size → (parts : List (List ℕ)) → Each (λ (p : List ℕ). length p ≡ size) parts → NoneEmpty (map clear parts)
 none-empty size h parts w =
-    each-by (λ (p : List ℕ). 1 ≤ length p) (λ (p : List ℕ). length p ≡ size) (λ p e. omega (arith, e)) parts w
+    each-map (λ (f : Fragment). 1 ≤ length (f .part)) clear parts
+    (each-by (λ (p : List ℕ). 1 ≤ length p) (λ (p : List ℕ). length p ≡ size) (λ p e. omega (arith, e)) parts w)
 
 fine-groups : (mtu : ℕ) → mtu ≤ 65535 → (gs : List Group) → Each (Sendable mtu) gs → Each Good (unitsIn gs) → Each Fine gs
 fine-groups mtu m [] w good = tt
@@ -57,7 +97,7 @@ fine-groups mtu m (plain u ∷ gs) w good = ((good .0 .0, omega arith), fine-gro
 fine-groups mtu m (fragments head first middle last ∷ gs) w good =
     let d : Divided (mtu - 2) first middle last = w .0 .2 in
     let three : 3 ≤ mtu = w .0 .0 in (
-      (((omega (arith, d .first-full), none-empty (mtu - 2) (omega arith) middle (d .middle-full)), d .last-some), omega (arith, good .0 .1)),
+      (((omega (arith, d .first-full), none-empty (mtu - 2) (omega arith) middle (d .middle-full)), d .last-some), omega (arith, good .0 .1, ap (λ (l : List ℕ). length (first ++ (l ++ last))) (same-parts middle))),
       fine-groups mtu m gs (w .1) (good .1),
     )
 
@@ -91,13 +131,10 @@ same-group (pair sps pps) =
     (sym (append-nil pps))
 same-group (plain unit) = refl
 same-group (fragments head first middle last) =
-    let indicator : head / 32 % 4 * 32 + 28 ≡ head % 128 / 32 % 8 * 32 + 28 = omega arith in
-    let type : head % 32 ≡ head % 128 % 32 = omega arith in
-    let clear : head % 128 ≡ head % 128 % 128 = omega arith in
     λ i. record {
-      first = indicator i ∷ (128 + type i) ∷ first;
-      others = map (λ (p : List ℕ). indicator i ∷ (0 + type i) ∷ p) middle ++ ((indicator i ∷ (64 + type i) ∷ last) ∷ []);
-      handed = (clear i ∷ (first ++ (joined middle ++ last))) ∷ [];
+      first = fragment head 128 first;
+      others = same-middle head middle i ++ (fragment head 64 last ∷ []);
+      handed = (topBit (sym (none-marked middle last) i) (head % 128) ∷ (first ++ (same-parts middle i ++ last))) ∷ [];
     }
 
 same-groups : (gs : List Group) → map groupSent gs ≡ sent.groupsOf (map sentOf gs)

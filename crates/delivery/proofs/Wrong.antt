@@ -1,13 +1,13 @@
 -- Joiners that demand 3 shuts out: of the example show three groups must be handed out, the second longer than two packets, and its
--- missed total is 2, but 0 where everything arrives. Assumes nothing.
+-- missed total is 2, but 0 where everything arrives; of the example stream a unit must be handed out with its top bit set. Assumes nothing.
 use mathlib.Core.Path.{_≡_, refl, sym, ap, subst, _∙_}
 use mathlib.Core.Bool.{Bool, true, false, cond}
 use mathlib.Core.List.{List, [], _∷_, _++_}
 use mathlib.Core.Logic.{_⊎_, inl, inr}
-use Prim.Native.Nat.{ℕ, suc, _*_, _≤_}
+use Prim.Native.Nat.{ℕ, suc, _*_, _≤_, _<_}
 use native.Mathlib.Omega.{arith}
 use lib.Dec.{eqb}
-use lib.ListN.{length, take, drop, replicate}
+use lib.ListN.{length, take, drop, getD, replicate}
 use Rattle.error.specs.Said.{Said, says, refused}
 use Rattle.wire.specs.Each.{Each}
 use Rattle.wire.specs.Net.{be16, be32}
@@ -19,6 +19,7 @@ use Rattle.packet.specs.Plain.{plainPacket}
 use Rattle.nal.proofs.Handing.{length-one}
 use Rattle.annexb.specs.Units.{units, unitsAt}
 use Rattle.h264_put.specs.Groups.{keep, stapA, fragment, pairFor, unitFor, groupsFor}
+use Rattle.rfc6184.specs.Sending as rfc
 use Rattle.sequence.specs.Arrival.{Arrival}
 use Rattle.sequence.proofs.InOrder.{inOrder, in-order-within}
 use Rattle.joiner.specs.declared.Joiner.{Joiner}
@@ -28,8 +29,10 @@ use Rattle.joiner.specs.Join.{Stepped}
 use Rattle.delivery.specs.Show.{packet}
 use Rattle.delivery.specs.Play.{Machine, arriving, played, closing}
 use Rattle.delivery.specs.Frames.{showOf, Delivers}
-use Rattle.delivery.specs.Wrong.{Silent, FromItsOwn, Advancing, Inventing}
+use Rattle.delivery.specs.AnySender.{streamShow, DeliversAny}
+use Rattle.delivery.specs.Wrong.{Silent, FromItsOwn, Advancing, Inventing, Unmarking}
 use Rattle.delivery.proofs.Example.{nine, show, stranger, nine-premises, premises, pairOut, joinedOut, lastOut}
+use Rattle.delivery.proofs.ExampleStream.{stream, stream-premises}
 
 -- ---- what must be handed out
 
@@ -104,3 +107,20 @@ no-invented-total avc m same d =
     let none : closing m (showOf (nine all)) .joiner .missed ≡ 0 =
     d (nine all) (nine-premises avc all tt (in-order-within (List ℕ) 9)) .counts in
     omega (arith, two, none, same (showOf show) all)
+
+-- ---- the mark
+
+-- the third group of the stream is the marked unit
+third-marked : (avc : Bool) (m : Machine) → DeliversAny avc m → (ls : List (List ℕ)) → ls ≡ handedOut (played m (streamShow stream)) → getD (getD ls 2 []) 4 0 ≡ 0xE5
+unfolding stream rfc.octetsOf rfc.fragment rfc.octet be16 be32
+third-marked false m d ls e = ap (λ (l : List (List ℕ)). getD (getD l 2 []) 4 0) (e ∙ d stream (stream-premises false) .handsOut)
+third-marked true m d ls e = ap (λ (l : List (List ℕ)). getD (getD l 2 []) 4 0) (e ∙ d stream (stream-premises true) .handsOut)
+
+pub no-unmarker : (avc : Bool) (m : Machine) → Unmarking m → DeliversAny avc m → ⊥
+no-unmarker avc m clear d = go (handedOut (played m (streamShow stream))) refl (clear (streamShow stream))
+  where
+    go : (ls : List (List ℕ)) → ls ≡ handedOut (played m (streamShow stream)) → Each (λ (l : List ℕ). getD l 4 0 < 128) ls → ⊥
+    go [] e w = omega (arith, third-marked avc m d [] e)
+    go (x ∷ []) e w = omega (arith, third-marked avc m d (x ∷ []) e)
+    go (x ∷ y ∷ []) e w = omega (arith, third-marked avc m d (x ∷ y ∷ []) e)
+    go (x ∷ y ∷ z ∷ ls) e w = omega (arith, third-marked avc m d (x ∷ y ∷ z ∷ ls) e, w .1 .1 .0)

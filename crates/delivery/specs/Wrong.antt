@@ -1,8 +1,8 @@
--- The three joiners that demand 3 "defeats", each said of any machine. Assumes nothing.
+-- The three joiners that demand 3 "defeats", and one that loses marks, each said of any machine. Assumes nothing.
 use mathlib.Core.Path.{_≡_}
 use mathlib.Core.List.{List, [], _∷_}
-use Prim.Native.Nat.{ℕ, _*_, _≤_}
-use lib.ListN.{length, drop}
+use Prim.Native.Nat.{ℕ, _*_, _≤_, _<_}
+use lib.ListN.{length, drop, getD}
 use Rattle.wire.specs.Each.{Each}
 use Rattle.sequence.specs.Arrival.{Arrival}
 use Rattle.joiner_step.specs.Play.{handedIn, handedOut}
@@ -43,3 +43,7 @@ arrivingAs w arrivals =
 abbrev pub Inventing : Machine → Type 0
 Inventing m =
     (w : Show) (arrivals : List (Arrival (List ℕ))) → closing m (arrivingAs w arrivals) .joiner .missed ≡ closing m w .joiner .missed
+
+-- "the mark is lost" (E3): the unit that stands first in what is handed out, behind a prefix of four bytes, has its top bit clear whatever arrives
+abbrev pub Unmarking : Machine → Type 0
+Unmarking m = (w : Show) → Each (λ (l : List ℕ). getD l 4 0 < 128) (handedOut (played m w))

@@ -74,7 +74,7 @@ module _ {P : Type 0} (reads : List ℕ → Said (Arrived P)) (check : P → Sai
       opened f = gathering (f .note) (f .part)
 
       abbrev unit : Fragment → Units
-      unit f = (topped (f .note) head ++ f .part) ∷ []
+      unit f = (topped (f .note .marked) head ++ f .part) ∷ []
 
       cuts : Cuts codecOf (Enough most largest) together opened starts middles finals unit Piece Fits
       cuts =
@@ -94,7 +94,7 @@ module _ {P : Type 0} (reads : List ℕ → Said (Arrived P)) (check : P → Sai
           (record {
             first = starts first;
             others = map middles between ++ (finals last ∷ []);
-            handed = (topped (noteOf (first ∷ between ++ (last ∷ []))) head ++ (first .part ++ (joined (map partIn between) ++ last .part))) ∷ [];
+            handed = (topped (noteOf (first ∷ between ++ (last ∷ [])) .marked) head ++ (first .part ++ (joined (map partIn between) ++ last .part))) ∷ [];
           })
       owes-cut first between last p ps q =
           subst (λ (f : Fragment). Fits f → Owes codecOf (Enough most largest) (record { first = starts first; others = map middles between ++ (finals last ∷ []); handed = unit f }))

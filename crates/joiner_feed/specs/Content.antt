@@ -57,18 +57,19 @@ pub data Content : Type 0 where
 abbrev pub topBit : Bool → ℕ → ℕ
 topBit set b = cond set (128 + b % 128) b
 
--- "the rebuilt top bit is set if any fragment of the unit had it set": of the header's first byte
-abbrev pub topped : Note → List ℕ → List ℕ
-topped note [] = []
-topped note (b ∷ header) = topBit (note .marked) b ∷ header
+-- bytes with the top bit of the first set, or as they are
+abbrev pub topped : Bool → List ℕ → List ℕ
+topped set [] = []
+topped set (b ∷ bytes) = topBit set b ∷ bytes
 
+-- "the rebuilt top bit is set if any fragment of the unit had it set"
 abbrev pub fed : Run Note → Content → Does Note
 fed run (whole units) = hands units
 fed run (start f) = gathers (f .note) (f .part)
 fed none (middle f) = hands []
 fed (gathering note bytes) (middle f) = gathers (both note (f .note)) (bytes ++ f .part)
 fed none (end head f) = hands []
-fed (gathering note bytes) (end head f) = ends (bytes ++ f .part) (topped (both note (f .note)) head ++ (bytes ++ f .part))
+fed (gathering note bytes) (end head f) = ends (bytes ++ f .part) (topped (both note (f .note) .marked) head ++ (bytes ++ f .part))
 
 -- a joiner of this reader, these checks and this prefix
 abbrev pub choosing : {P : Type 0} → (List ℕ → Said (Arrived P)) → (P → Said Content) → Bool → Choice P Content Note
