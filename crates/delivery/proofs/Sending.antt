@@ -40,13 +40,12 @@ fragment-clear head bits part = ne-eqb ((head / 32 % 4 * 32 + 28) / 128 % 2) 1 (
 
 pub fragments-clear : (head : ℕ) (first : List ℕ) (middle : List (List ℕ)) (last : List ℕ) →
     Each (λ (p : List ℕ). forbidden p ≡ false) (packetsOfGroup (fragments head first middle last))
-fragments-clear head first middle last =
-    (
-      fragment-clear head 128 first,
-      each-append Clear (map (fragment head 0) middle) (fragment head 64 last ∷ [])
-          (each-map Clear (fragment head 0) middle (each-any (λ (p : List ℕ). Clear (fragment head 0 p)) (fragment-clear head 0) middle))
-          (fragment-clear head 64 last, tt),
-    )
+fragments-clear head first middle last = (
+  fragment-clear head 128 first,
+  each-append Clear (map (fragment head 0) middle) (fragment head 64 last ∷ [])
+      (each-map Clear (fragment head 0) middle (each-any (λ (p : List ℕ). Clear (fragment head 0 p)) (fragment-clear head 0) middle))
+      (fragment-clear head 64 last, tt),
+)
   where
     Clear : List ℕ → Type 0
     Clear p = forbidden p ≡ false
