@@ -61,9 +61,15 @@ fn with_run(handed: Handed, run: Run) -> Ran
     }
 }
 
-// RFC 6184, section 5.3: a payload's forbidden bit.
+// F, the forbidden bit. RFC 6184, section 5.3:
+//
+// +---------------+
+// |0|1|2|3|4|5|6|7|
+// +-+-+-+-+-+-+-+-+
+// |F|NRI|  Type   |
+// +---------------+
 fn is_marked(payload: &[u8]) -> bool
-    requires { ⌜ 2 ≤ length (now payload) ⌝ }
+    requires { ⌜ 1 ≤ length (now payload) ⌝ }
     ensures { λ r. ⌜ r ≡ forbidden (now (payload .entry)) ⌝ }
 {
     payload[0] / 128 % 2 == 1
@@ -105,7 +111,7 @@ fn feed_fragment(
     let at = run.gathered;
     let n = payload.len() - 2;
     let marked = is_marked(payload);
-    let any = either(run.marked, marked);
+    let any_marked = either(run.marked, marked);
     if first {
         if last {
             return Ran::Refused(Error::StartAndEnd);
@@ -122,7 +128,7 @@ fn feed_fragment(
         };
     }
     if last {
-        let header = [with_top_bit(any, head)];
+        let header = [with_top_bit(any_marked, head)];
         return with_run(
             nal::finish(&payload[2..], at, &header, avc, gather, out),
             no_run(),
@@ -130,7 +136,7 @@ fn feed_fragment(
     }
     with_run(
         nal::gather_on(&payload[2..], at, gather),
-        open_run(at + n, any),
+        open_run(at + n, any_marked),
     )
 }
 
