@@ -6,6 +6,7 @@ use lib.ListN.{getD, set, replicate}
 use Rattle.error.specs.declared.Error.{Error}
 use Rattle.error.specs.Refusal.{numberOf}
 use Rattle.join.specs.declared.account.Account.{Account}
+use Rattle.join.specs.declared.units.Units.{Units}
 
 -- a count and k more
 abbrev pub counted : ℕ → ℕ → ℕ
@@ -20,11 +21,12 @@ nothingYet =
       others = 0;
       refused = replicate 256 0;
       units = 0;
+      marked = 0;
       bytes = 0;
     }
 
 -- an accepted packet, with what it handed out
-unfoldable pub acceptedBy : ℕ → ℕ → Account → Account
+unfoldable pub acceptedBy : Units → ℕ → Account → Account
 acceptedBy units bytes a =
     record {
       packets = counted (a .packets) 1;
@@ -32,7 +34,8 @@ acceptedBy units bytes a =
       late = a .late;
       others = a .others;
       refused = a .refused;
-      units = counted (a .units) units;
+      units = counted (a .units) (units .count);
+      marked = counted (a .marked) (units .marked);
       bytes = counted (a .bytes) bytes;
     }
 
@@ -46,6 +49,7 @@ cameLate a =
       others = a .others;
       refused = a .refused;
       units = a .units;
+      marked = a .marked;
       bytes = a .bytes;
     }
 
@@ -58,6 +62,7 @@ ofAnother a =
       others = counted (a .others) 1;
       refused = a .refused;
       units = a .units;
+      marked = a .marked;
       bytes = a .bytes;
     }
 
@@ -70,6 +75,7 @@ byNumber n a =
       others = a .others;
       refused = set (a .refused) n (counted (getD (a .refused) n 0) 1);
       units = a .units;
+      marked = a .marked;
       bytes = a .bytes;
     }
 

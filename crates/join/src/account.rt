@@ -2,6 +2,7 @@
 ghost use mathlib.Core.Path.{_≡_};
 ghost use Prim.Native.Nat.{_+_, _%_, _^_};
 ghost use Rattle.join.specs.Account.{nothingYet, counted, acceptedBy, cameLate, refusedBy};
+use crate::units::Units;
 use error::Error;
 use stream::Text;
 use stream::status;
@@ -17,8 +18,9 @@ pub struct Account {
     pub others: u64,
     // the other refused packets, by the number of the refusal
     pub refused: [u64; 256],
-    // what was handed out
+    // what was handed out: units, those of them that are marked, bytes
     pub units: u64,
+    pub marked: u64,
     pub bytes: u64,
 }
 
@@ -39,16 +41,18 @@ impl Account {
             others: 0,
             refused: [0; 256],
             units: 0,
+            marked: 0,
             bytes: 0,
         }
     }
 
-    pub fn accept(mut self, units: usize, bytes: usize) -> Account
+    pub fn accept(mut self, units: Units, bytes: usize) -> Account
         ensures { λ r. ⌜ r ≡ acceptedBy units bytes self ⌝ }
     {
         self.packets = more(self.packets, 1);
         self.accepted = more(self.accepted, 1);
-        self.units = more(self.units, units as u64);
+        self.units = more(self.units, units.count as u64);
+        self.marked = more(self.marked, units.marked as u64);
         self.bytes = more(self.bytes, bytes as u64);
         self
     }
@@ -87,6 +91,7 @@ impl Account {
         refusals(text, refused)
             .number(b"\nmissed ", missed as u64)
             .number(b"\nunits ", self.units)
+            .number(b"\nmarked units ", self.marked)
             .number(b"\nbytes ", self.bytes)
             .word(b"\n")
     }

@@ -1,6 +1,7 @@
 // join PACKETS CLIP [SOURCE FIRST [END]]: the H.264 units of a file of packets, as an Annex B file.
 mod account;
 mod show;
+mod units;
 
 use account::Account;
 use joiner::Closed;

@@ -1,12 +1,11 @@
 // A show: the packets of a file, joined.
 use crate::account;
 use crate::account::Account;
+use crate::units::units_of;
 use error::Error;
 use joiner::Joined;
 use joiner::Joiner;
 use joiner::Step;
-use nal_read::Kind;
-use nal_read::Measured;
 use packet::PacketRead;
 use stream::Text;
 use stream::status;
@@ -23,27 +22,6 @@ pub struct Show {
     pub to: i32,
     // DONE while all goes well
     pub status: u8,
-}
-
-// How many units an accepted packet hands out with its bytes.
-fn units_of(packet: &[u8], bytes: usize) -> usize {
-    if bytes == 0 {
-        return 0;
-    }
-    let read = packet::unmarshal(packet).read;
-    let PacketRead::Payload { at, len } = read else {
-        return 0;
-    };
-    let payload = stream::part(packet, at, len);
-    let kind = nal_read::kind_of(payload);
-    let Kind::Aggregate = kind else {
-        return 1;
-    };
-    let measured = nal_read::measure(payload);
-    match measured {
-        Measured::Units { count, bytes: _ } => count,
-        Measured::Refused(_) => 0,
-    }
 }
 
 // A refusal that says that a unit has no room.
@@ -100,8 +78,9 @@ impl Show {
                 count,
                 bytes,
             } => {
-                self.account = account.accept(units_of(packet, bytes), bytes);
-                self.ended(write(self.to, first, count, stream::front(out, bytes)))
+                let handed = stream::front(out, bytes);
+                self.account = account.accept(units_of(packet, handed), bytes);
+                self.ended(write(self.to, first, count, handed))
             }
             Joined::Late => {
                 self.account = account.come_late();

@@ -15,6 +15,7 @@ returns c =
       others = a .others;
       refused = a .refused;
       units = a .units;
+      marked = a .marked;
       bytes = a .bytes;
     }
 

@@ -32,6 +32,7 @@ returns c =
       others = c .more2 .ensures i;
       refused = a .refused;
       units = a .units;
+      marked = a .marked;
       bytes = a .bytes;
     } in
     so ∙ refused-so (start .args .e) a true (eq-eqb _ 20 other)
@@ -49,6 +50,7 @@ returns-2 c =
       others = a .others;
       refused = set (a .refused) (c .before .before .before .number .result) (c .more3 .ensures i);
       units = a .units;
+      marked = a .marked;
       bytes = a .bytes;
     } in
     so
