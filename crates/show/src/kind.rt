@@ -44,6 +44,15 @@ fn h264(text: Text, payload: &[u8]) -> Text {
     }
 }
 
+// RFC 6184, section 5.3: "MANEs SHOULD set the F bit to indicate detected bit errors in the NAL unit." It is the packet's, whatever
+// else the payload is.
+fn mark(text: Text, payload: &[u8]) -> Text {
+    if payload.len() == 0 {
+        return text;
+    }
+    text.when(128 <= payload[0], b" marked")
+}
+
 fn no_fields() -> Vp8Packet {
     Vp8Packet {
         x: 0,
@@ -84,5 +93,5 @@ pub fn kind(text: Text, payload: &[u8], is_vp8: bool) -> Text {
     if is_vp8 {
         return vp8(text.word(b" vp8 "), payload);
     }
-    h264(text.word(b" h264 "), payload)
+    mark(h264(text.word(b" h264 "), payload), payload)
 }
