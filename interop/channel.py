@@ -1,7 +1,8 @@
-"""A bad channel, by a seed, and a damaged packet, so that the checks can be seen to fail.
+"""A bad channel, by a seed, with a relay that marks packets; and a damaged packet, so that the checks can be seen to fail.
 
   channel.py lose PACKETS ARRIVALS SEED COUNT      COUNT packets are left out
   channel.py disturb PACKETS ARRIVALS SEED COUNT   the same; of the others COUNT come twice, and COUNT up to 8 places later
+  channel.py mark PACKETS ARRIVALS SEED COUNT      COUNT packets get the top bit of their payload, behind a header of 12 bytes
   channel.py alter PACKETS ARRIVALS                one byte in the middle of the longest packet is another
 """
 
@@ -30,6 +31,11 @@ def disturb(packets, chance, count):
     return [left[i] for i in order]
 
 
+def mark(packets, chance, count):
+    marked = set(chance.sample(range(len(packets)), count))
+    return [p[:12] + bytes([p[12] | 0x80]) + p[13:] if i in marked else p for i, p in enumerate(packets)]
+
+
 def alter(packets):
     longest = max(range(len(packets)), key=lambda i: len(packets[i]))
     return packets[:longest] + [framing.altered(packets[longest])] + packets[longest + 1 :]
@@ -37,12 +43,12 @@ def alter(packets):
 
 def main():
     arguments = sys.argv[1:]
-    how = arguments[:1]
-    if how in (["lose"], ["disturb"]) and len(arguments) == 5:
-        change = lose if how == ["lose"] else disturb
+    how = arguments[0] if arguments else ""
+    by_chance = {"lose": lose, "disturb": disturb, "mark": mark}
+    if how in by_chance and len(arguments) == 5:
         chance = random.Random(int(arguments[3]))
-        arrivals = change(framing.read(arguments[1]), chance, int(arguments[4]))
-    elif how == ["alter"] and len(arguments) == 3:
+        arrivals = by_chance[how](framing.read(arguments[1]), chance, int(arguments[4]))
+    elif how == "alter" and len(arguments) == 3:
         arrivals = alter(framing.read(arguments[1]))
     else:
         print(__doc__, end="", file=sys.stderr)

@@ -9,7 +9,8 @@
   units.py rewrite CLIP OTHER long|short|ended|altered       CLIP with other start codes or units
 
 LEFT are the types of units that the sender leaves out, as in 9,12; - is none. PROFILE is that of the header's extensions (RFC 8285),
-bede or 1000; - is none. Packets are framed by RFC 4571. ARRIVALS is what came of PACKETS: some of them, in any order, any number of times.
+bede or 1000; - is none. Packets are framed by RFC 4571. ARRIVALS is what came of PACKETS: some of them, in any order, any number of times; a relay
+may have marked some (RFC 6184, 5.3: F).
 
 Exit status: 0 it is so, and the figures are printed; 3 it is not, and the first difference is told.
 """
@@ -37,6 +38,22 @@ def content(path):
 
 def kind(unit):
     return unit[0] % 32
+
+
+def is_marked(unit):
+    return unit[0] & 0x80 != 0
+
+
+def marks(units):
+    return sum(is_marked(unit) for unit in units)
+
+
+def unmarked(unit):
+    return bytes([unit[0] & 0x7F]) + unit[1:]
+
+
+def marked(unit):
+    return bytes([unit[0] | 0x80]) + unit[1:]
 
 
 # Annex B: units behind start codes 00 00 01. Zeros before a code and at the end belong to no unit.
@@ -71,7 +88,6 @@ class Packet:
     def __init__(self, data):
         if len(data) < 13 or data[0] not in (0x80, 0x90):
             differ(f"a packet without a plain header: {data[:12].hex()}")
-        self.data = data
         self.marker = data[1] // 128
         self.type = data[1] % 128
         self.number, self.time, self.source = struct.unpack_from(">HII", data, 2)
@@ -81,9 +97,14 @@ class Packet:
             profile, words = struct.unpack_from(">HH", data, 12)
             self.profile = f"{profile:04x}"
             size = 16 + 4 * words
+        self.header = data[:size]
         self.payload = data[size:]
         if not self.payload:
             differ(f"a packet without a payload: {data[:12].hex()}")
+
+    def is_of(self, sent):
+        """Whether it is what was sent, save for a mark."""
+        return self.header == sent.header and unmarked(self.payload) == unmarked(sent.payload)
 
 
 def packets_of(path):
@@ -98,6 +119,7 @@ class Group:
         # the places of its packets
         self.places = [first]
         self.units = []
+        self.aggregated = False
 
 
 def aggregated(payload):
@@ -124,7 +146,8 @@ def groups_of(packets):
             if unit is not None:
                 differ(f"packet {i} comes within the fragments of a unit")
             group = Group(i)
-            group.units = aggregated(payload) if kind(payload) == STAP_A else [payload]
+            group.aggregated = kind(payload) == STAP_A
+            group.units = aggregated(payload) if group.aggregated else [payload]
             groups.append(group)
             continue
         start, end = payload[1] & 0x80 != 0, payload[1] & 0x40 != 0
@@ -159,6 +182,7 @@ class Show:
     def __init__(self, packets, arrivals, refuses):
         self.arrivals = len(arrivals)
         self.accepted = set()
+        self.marked = set()
         self.late = 0
         self.refused = 0
         # the first and the last place of each jump
@@ -166,7 +190,7 @@ class Show:
         highest = -1
         for arrival in arrivals:
             i = (arrival.number - packets[0].number) % 65536
-            if len(packets) <= i or arrival.data != packets[i].data:
+            if len(packets) <= i or not arrival.is_of(packets[i]):
                 differ(f"number {arrival.number} arrived, and was not sent")
             if i <= highest:
                 self.late += 1
@@ -175,12 +199,20 @@ class Show:
             else:
                 self.jump(highest, i)
                 self.accepted.add(i)
+                if is_marked(arrival.payload):
+                    self.marked.add(i)
                 highest = i
         self.jump(highest, len(packets))
 
     def jump(self, highest, i):
         if highest + 1 < i:
             self.jumps.append((highest + 1, i - 1))
+
+    def handed_out(self, group):
+        """The units of a group that was accepted whole. A STAP-A's have not its mark; any other has that of any of its packets."""
+        if group.aggregated or self.marked.isdisjoint(group.places):
+            return group.units
+        return [marked(unit) for unit in group.units]
 
 
 def is_short(payload):
@@ -195,19 +227,21 @@ def show_of(clip, left, path, arrivals, refuses):
         differ(f"{path}: more packets than their numbers tell apart")
     groups = carried(clip_units(clip, left), packets, path)
     show = Show(packets, packets_of(arrivals), refuses)
-    whole = [unit for group in groups if show.accepted.issuperset(group.places) for unit in group.units]
+    whole = [unit for group in groups if show.accepted.issuperset(group.places) for unit in show.handed_out(group)]
     total = sum(len(group.units) for group in groups)
     figures = f"{len(packets)} packets, {show.arrivals} arrived, {len(show.accepted)} accepted; {len(whole)} of {total} units whole"
+    figures += f", {marks(whole)} marked"
     return packets, show, whole, figures
 
 
-def account(packets, show, units, size):
+def account(packets, show, whole, size):
     first = packets[0].number
     lines = [f"jump from {(first + a) % 65536} to {(first + b) % 65536}" for a, b in show.jumps]
     lines += [f"packets {show.arrivals}", f"accepted {len(show.accepted)}", f"late {show.late}", "other sources 0"]
     if show.refused:
         lines.append(f"refused 4: {show.refused}")
-    lines += [f"missed {len(packets) - len(show.accepted)}", f"units {units}", f"bytes {size}"]
+    lines.append(f"missed {len(packets) - len(show.accepted)}")
+    lines += [f"units {len(whole)}", f"marked units {marks(whole)}", f"bytes {size}"]
     return "".join(line + "\n" for line in lines)
 
 
@@ -304,7 +338,7 @@ def joined(path, left, sent_path, arrivals, other, written):
     wanted = b"".join(CODE + unit for unit in whole)
     if content(other) != wanted:
         differ(f"{other}: the units are right, what stands between them is not")
-    wanted = account(packets, show, len(whole), len(wanted)).splitlines()
+    wanted = account(packets, show, whole, len(wanted)).splitlines()
     got = content(written).decode().splitlines()
     if got != wanted:
         differ(f"{written}: {next((line for line in wanted if line not in got), 'a line')} must be there, and nothing else")
