@@ -7,7 +7,7 @@ use packet::PacketRead;
 
 pub struct Units {
     pub count: usize,
-    // those whose top bit is set: RFC 6184, section 5.3, "the NAL unit type octet and payload may contain bit errors"
+    // those whose top bit is set, by which a relay marks what it saw damaged
     pub marked: usize,
 }
 

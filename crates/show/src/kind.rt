@@ -44,8 +44,7 @@ fn h264(text: Text, payload: &[u8]) -> Text {
     }
 }
 
-// RFC 6184, section 5.3: "MANEs SHOULD set the F bit to indicate detected bit errors in the NAL unit." It is the packet's, whatever
-// else the payload is.
+// RFC 6184, section 5.3: F, which a relay sets "on packets it saw damaged". It is the packet's, whatever else the payload is.
 fn mark(text: Text, payload: &[u8]) -> Text {
     if payload.len() == 0 {
         return text;
