@@ -2,11 +2,22 @@
 
 use crate::{refuse, refuse_with, Refusal};
 
+/// The forbidden bit F: a relay sets it "on packets it saw damaged".
+pub const FORBIDDEN: u8 = 0x80;
+
+/// The fragments of a unit whose last is still to come.
+#[derive(Clone, Debug, Default, PartialEq)]
+pub struct OpenRun {
+    pub bytes: Vec<u8>,
+    /// one of them had its forbidden bit set
+    pub marked: bool,
+}
+
 /// What a payload does.
 #[derive(Debug, PartialEq)]
 pub struct Fate {
     /// the run that is open afterwards
-    pub run: Option<Vec<u8>>,
+    pub run: Option<OpenRun>,
     /// what was gathered of a unit, its last fragment included
     pub gathered: Vec<u8>,
     /// the units handed out
@@ -14,7 +25,7 @@ pub struct Fate {
 }
 
 /// "H.264 reading: 4, 19, 17 or 18 at the first place", "with 21 before 17".
-pub fn feed(run: Option<Vec<u8>>, payload: &[u8]) -> Result<Fate, Refusal> {
+pub fn feed(run: Option<OpenRun>, payload: &[u8]) -> Result<Fate, Refusal> {
     let kind = payload.first().map_or(0, |first| first & 0x1F);
     match payload.len() {
         0 | 1 => return refuse(4),
@@ -53,21 +64,24 @@ fn units_of(mut rest: &[u8]) -> Result<Vec<Vec<u8>>, Refusal> {
 }
 
 /// "A start fragment replaces the run; a continuation without a run yields nothing; the end bit hands the unit out, its first byte
-/// being NRI and type".
-fn fragment(run: Option<Vec<u8>>, payload: &[u8]) -> Result<Fate, Refusal> {
+/// being NRI and type"; E3: "the rebuilt top bit is set if any fragment of the unit had it set".
+fn fragment(run: Option<OpenRun>, payload: &[u8]) -> Result<Fate, Refusal> {
     let (start, end) = (payload[1] & 0x80 != 0, payload[1] & 0x40 != 0);
     if start && end {
         return refuse(21);
     }
-    let before = if start { Some(vec![]) } else { run };
+    let before = if start { Some(OpenRun::default()) } else { run };
     let Some(before) = before else {
         return Ok(handed_out(vec![]));
     };
-    let gathered = [&before[..], &payload[2..]].concat();
+    let gathered = [&before.bytes[..], &payload[2..]].concat();
+    let marked = before.marked || payload[0] & FORBIDDEN != 0;
     if !end {
-        return Ok(Fate { run: Some(gathered.clone()), gathered, units: vec![] });
+        let run = OpenRun { bytes: gathered.clone(), marked };
+        return Ok(Fate { run: Some(run), gathered, units: vec![] });
     }
-    let first = (payload[0] & 0x60) | (payload[1] & 0x1F);
+    let top = if marked { FORBIDDEN } else { 0 };
+    let first = top | (payload[0] & 0x60) | (payload[1] & 0x1F);
     let unit = [&[first], &gathered[..]].concat();
     Ok(Fate { run: None, gathered, units: vec![unit] })
 }

@@ -1,6 +1,6 @@
 //! The joiner, as the paper's section "The joiner" has it.
 
-use crate::h264::{annex_b, feed};
+use crate::h264::{annex_b, feed, OpenRun};
 use crate::{packet, refuse, Refusal};
 
 const LONGEST_RUN: usize = 16_777_215;
@@ -11,7 +11,7 @@ pub struct Joiner {
     pub source: u32,
     pub awaited: u16,
     pub missed: u64,
-    pub run: Option<Vec<u8>>,
+    pub run: Option<OpenRun>,
     pub closed: bool,
 }
 
@@ -49,7 +49,12 @@ impl Joiner {
 
     /// How many bytes of the open run stand in front of the gather buffer.
     pub fn gathered(&self) -> usize {
-        self.run.as_ref().map_or(0, Vec::len)
+        self.run.as_ref().map_or(0, |run| run.bytes.len())
+    }
+
+    /// Whether a fragment of the open run had its forbidden bit set.
+    pub fn marked(&self) -> bool {
+        self.run.as_ref().is_some_and(|run| run.marked)
     }
 
     /// "Each call does, in order: 22; packet reading; 20; distance ..; Late ..; 24; H.264 checks", 8 after 22, and 6 and 5 last.

@@ -4,11 +4,12 @@ use std::collections::BTreeMap;
 
 use ::rows::{Fields, FILL, NOTHING};
 
+use crate::h264::FORBIDDEN;
 use crate::joiner::{Joined, Joiner};
 use crate::random::Random;
 use crate::runs::{run, Call, Run, PLACES};
-use crate::worked;
-use crate::Refusal;
+use crate::sender::START;
+use crate::{packet, worked, Refusal};
 
 pub struct Row {
     pub question: String,
@@ -136,9 +137,10 @@ impl Host {
 
     fn joined(&mut self, packet: &[u8]) -> Row {
         let (open, awaited) = (self.joiner.run.is_some(), self.joiner.awaited);
+        let marked = self.joiner.marked();
         let lent = &mut self.gather[..self.gather_len];
         let answer = self.joiner.join(packet, lent, self.out_len);
-        let mut notes = vec![];
+        let mut notes = of_marks(marked, packet, &answer);
         let said = match answer {
             Ok(Joined::Accepted { first, count, out }) => {
                 note(&mut notes, "a jump", count > 0);
@@ -161,11 +163,12 @@ impl Host {
     }
 
     fn closed(&mut self, number: u16) -> Row {
-        let open = self.joiner.run.is_some();
+        let (open, marked) = (self.joiner.run.is_some(), self.joiner.marked());
         let mut notes = vec![];
         let said = match self.joiner.close(number) {
             Ok(closed) => {
                 note(&mut notes, "a closing that drops a run", open);
+                note(&mut notes, "a closing that drops a mark", marked);
                 Said::numbers(closed.first, closed.count)
             }
             Err(refusal) => Said::refused(&refusal),
@@ -175,15 +178,16 @@ impl Host {
 
     /// What was said, and behind it the record, and all of the gather buffer without the places at its end that are as they were
     /// lent.
-    fn row(&self, question: Question, said: Said, notes: Vec<&'static str>) -> Row {
+    fn row(&self, question: Question, said: Said, mut notes: Vec<&'static str>) -> Row {
         let Joiner { source, awaited, missed, closed, .. } = &self.joiner;
         let written = self.gather.iter().rposition(|byte| *byte != FILL).map_or(0, |last| last + 1);
         let (gathered, gather) = (self.joiner.gathered(), &self.gather[..written]);
-        let closed = u8::from(*closed);
-        let state = format!("{awaited} {missed} {gathered} {closed} {}", hex(gather));
-        let numbers =
-            [(*source).into(), (*awaited).into(), *missed, gathered as u64, closed.into()];
-        let answer = Fields::answer(said.told).bytes(gather).numbers(numbers);
+        note(&mut notes, "a marked record", self.joiner.marked());
+        let (marked, closed) = (u8::from(self.joiner.marked()), u8::from(*closed));
+        let state = format!("{awaited} {missed} {gathered} {marked} {closed} {}", hex(gather));
+        let numbers = [(*source).into(), (*awaited).into(), *missed, gathered as u64];
+        let flags = [marked.into(), closed.into()];
+        let answer = Fields::answer(said.told).bytes(gather).numbers(numbers).numbers(flags);
         let answer = said.out.iter().fold(answer, |fields, out| fields.bytes(out));
         Row {
             question: question.text,
@@ -192,6 +196,29 @@ impl Host {
             notes,
         }
     }
+}
+
+/// What became of a packet's mark, or of that of the run before it.
+fn of_marks(marked: bool, packet: &[u8], answer: &Result<Joined, Refusal>) -> Vec<&'static str> {
+    let payload = packet::read(packet).map_or(vec![], |read| read.payload);
+    let has = |bytes: &[u8], place: usize, bit: u8| bytes.get(place).is_some_and(|b| b & bit != 0);
+    let fragment = payload.first().is_some_and(|first| first & 0x1F == 28);
+    let own = has(&payload, 0, FORBIDDEN);
+    let mut notes = vec![];
+    match answer {
+        Ok(Joined::Accepted { count, out, .. }) => {
+            let handed = fragment && has(out, 4, FORBIDDEN);
+            note(&mut notes, "a marked unit handed out", handed);
+            note(&mut notes, "a mark that the last fragment lacks", handed && !own);
+            note(&mut notes, "a mark on a plain unit or a STAP-A", own && !fragment);
+            note(&mut notes, "a jump that drops a mark", marked && *count > 0);
+            let start = fragment && has(&payload, 1, START);
+            note(&mut notes, "a start that replaces a mark", marked && *count == 0 && start);
+        }
+        Ok(Joined::Late) => note(&mut notes, "a late packet beside a mark", marked),
+        Err(_) => note(&mut notes, "a refusal beside a mark", marked),
+    }
+    notes
 }
 
 fn note(notes: &mut Vec<&'static str>, what: &'static str, is: bool) {

@@ -2,7 +2,10 @@
 
 use crate::joiner::number;
 use crate::random::Random;
-use crate::sender::{dressed, first_number, fragment, group, head, packet, unit, Show, END, START};
+use crate::sender::{
+    dressed, first_number, fragment, fragments, group, head, marked, packet, relayed, unit, Group,
+    Show, END, START,
+};
 
 /// How long a lent buffer is at the most.
 pub const PLACES: usize = 128;
@@ -29,14 +32,15 @@ pub struct Run {
 
 /// A run of one of the kinds, most often a channel.
 pub fn run(random: &mut Random) -> Run {
-    match random.below(20) {
+    match random.below(22) {
         0..=10 => channel(random),
         11 | 12 => jumps(random, 0),
         13 => full(random),
-        14 => rooms(random),
-        15 | 16 => odd(random, payload),
-        17 => odd(random, header),
-        18 => odd(random, stranger),
+        14 | 15 => rooms(random),
+        16 | 17 => odd(random, payload),
+        18 => odd(random, header),
+        19 => odd(random, stranger),
+        20 => marks(random),
         _ => closings(random),
     }
 }
@@ -143,15 +147,16 @@ fn jumps(random: &mut Random, missed: u32) -> Run {
     Run { source, first, missed, gather: 16, out: 40, calls }
 }
 
-/// A fragment of a unit, or at times another payload.
+/// A fragment of a unit, or at times another payload, behind a relay.
 fn piece(random: &mut Random) -> Vec<u8> {
     let part = random.bytes(1..=3);
-    match random.below(9) {
+    let payload = match random.below(9) {
         0..=3 => fragment(head(random), START, &part),
         4 | 5 => fragment(head(random), 0, &part),
         6 | 7 => fragment(head(random), END, &part),
         _ => group(random).payloads[0].clone(),
-    }
+    };
+    relayed(random, payload)
 }
 
 /// "24: missed total would pass 4,294,967,295".
@@ -186,7 +191,8 @@ fn odd(random: &mut Random, odd: fn(&mut Random, u32, u16) -> Vec<u8>) -> Run {
     let head = head(random);
     let sent = |i: usize, bits: u8, random: &mut Random| {
         let part = random.bytes(1..=3);
-        Call::Join(packet(random, source, number(first, i), &fragment(head, bits, &part)))
+        let payload = relayed(random, fragment(head, bits, &part));
+        Call::Join(packet(random, source, number(first, i), &payload))
     };
     let mut calls = vec![sent(0, START, random)];
     for _ in 0..random.within(1..=3) {
@@ -206,6 +212,7 @@ fn payload(random: &mut Random, source: u32, number: u16) -> Vec<u8> {
         3 => [vec![0x78], stap_a(random)].concat(),
         _ => fragment(head(random), random.pick(&[START | END, START | END, END, 0]), &[7]),
     };
+    let payload = relayed(random, payload);
     packet(random, source, number, &payload)
 }
 
@@ -265,6 +272,38 @@ fn stranger(random: &mut Random, source: u32, number: u16) -> Vec<u8> {
     dressed(random, other, number, &payload)
 }
 
+// ---- a mark that goes with its run
+
+/// Marked fragments of a unit whose last never comes, behind them at times a gap or a payload that is no start, and a unit of clean
+/// fragments. A marked copy of the first packet may come again at any time.
+fn marks(random: &mut Random) -> Run {
+    let (source, first) = (random.byte().into(), first_number(random));
+    let mut dropped = fragments(random).payloads;
+    dropped.pop();
+    let place = random.below(dropped.len());
+    dropped[place] = marked(dropped[place].clone());
+    let between = match random.below(6) {
+        0 => vec![unit(random)],
+        1 => Group::aggregated(&[unit(random)]).payloads,
+        2 => vec![marked(fragment(head(random), random.pick(&[0, END]), &[7]))],
+        _ => vec![],
+    };
+    let gap = random.pick(&[0, 0, 1, 2]);
+    let behind = [between, fragments(random).payloads].concat();
+    let numbers = (0..dropped.len()).chain(dropped.len() + gap..);
+    let sent = dropped.iter().chain(&behind).zip(numbers);
+    let mut packets: Vec<Vec<u8>> =
+        sent.map(|(payload, i)| packet(random, source, number(first, i), payload)).collect();
+    let end = number(first, packets.len() + gap);
+    if random.one_in(3) {
+        let copy = packet(random, source, first, &marked(dropped[0].clone()));
+        packets.insert(random.within(1..=packets.len()), copy);
+    }
+    let mut calls: Vec<Call> = packets.into_iter().map(Call::Join).collect();
+    calls.push(Call::Close(end));
+    Run { source, first, missed: 0, gather: 40, out: 40, calls }
+}
+
 // ---- closing
 
 fn closings(random: &mut Random) -> Run {
@@ -272,6 +311,7 @@ fn closings(random: &mut Random) -> Run {
     let missed = random.pick(&[0, 0, 7, u32::MAX, u32::MAX - 1, u32::MAX - 32_767]);
     let part = random.bytes(1..=3);
     let start = fragment(head(random), START, &part);
+    let start = relayed(random, start);
     let mut calls = vec![Call::Join(packet(random, source, first, &start))];
     for _ in 0..random.within(1..=4) {
         calls.push(Call::Close(number(first, 1 + random.pick(&DISTANCES))));

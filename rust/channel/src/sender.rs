@@ -1,10 +1,12 @@
 //! What is sent: groups of payloads, and packets around them.
 
-use crate::h264::annex_b;
+use crate::h264::{annex_b, FORBIDDEN};
 use crate::joiner::number;
 use crate::random::Random;
 
-/// "A group is one STAP-A, one plain unit, or all fragments of one unit (handed out with its top bit clear)."
+/// "A group is one STAP-A, one plain unit, or all fragments of one unit (handed out with its top bit clear)." That is so where no relay
+/// marks a fragment, "because our sender clears that bit in all fragments". E3 adds: "the rebuilt top bit is set if any fragment of the
+/// unit had it set".
 #[derive(Clone)]
 pub struct Group {
     pub payloads: Vec<Vec<u8>>,
@@ -36,6 +38,35 @@ impl Group {
         let unit = [vec![head & 0x7F], parts.concat()].concat();
         Group { payloads: fragments.collect(), gathered: unit.len() - 1, handed: annex_b(&[unit]) }
     }
+
+    /// The group behind a relay.
+    fn relayed(mut self, random: &mut Random) -> Self {
+        let behind = self.payloads.into_iter().map(|payload| relayed(random, payload));
+        self.payloads = behind.collect();
+        // the units of a STAP-A have first bytes of their own
+        let aggregated = self.payloads[0][0] & 0x1F == 24;
+        if !aggregated && self.payloads.iter().any(|payload| payload[0] & FORBIDDEN != 0) {
+            self.handed[4] |= FORBIDDEN;
+        }
+        self
+    }
+}
+
+/// A payload behind a relay, which "sets the forbidden bit of RFC 6184 on packets it saw damaged": one in four.
+pub fn relayed(random: &mut Random, payload: Vec<u8>) -> Vec<u8> {
+    if random.one_in(4) {
+        marked(payload)
+    } else {
+        payload
+    }
+}
+
+/// A payload that a relay saw damaged.
+pub fn marked(mut payload: Vec<u8>) -> Vec<u8> {
+    if let Some(first) = payload.first_mut() {
+        *first |= FORBIDDEN;
+    }
+    payload
 }
 
 pub const START: u8 = 0x80;
@@ -64,13 +95,15 @@ pub fn group(random: &mut Random) -> Group {
             Group::aggregated(&units)
         }
         1 | 2 => Group::alone(unit(random)),
-        _ => {
-            let head = head(random);
-            let parts: Vec<Vec<u8>> =
-                (0..random.within(2..=4)).map(|_| random.bytes(1..=4)).collect();
-            Group::fragmented(head, &parts)
-        }
+        _ => fragments(random),
     }
+}
+
+/// A unit in two to four fragments.
+pub fn fragments(random: &mut Random) -> Group {
+    let head = head(random);
+    let parts: Vec<Vec<u8>> = (0..random.within(2..=4)).map(|_| random.bytes(1..=4)).collect();
+    Group::fragmented(head, &parts)
 }
 
 /// A packet of version 2 with no padding, extensions or CSRCs.
@@ -102,7 +135,7 @@ pub fn dressed(random: &mut Random, source: u32, number: u16, payload: &[u8]) ->
     bytes
 }
 
-/// What a sender sends: packet i bears (first + i) mod 65,536.
+/// What a sender sends, and in half of the shows a relay hands on: packet i bears (first + i) mod 65,536.
 pub struct Show {
     pub source: u32,
     pub first: u16,
@@ -114,7 +147,10 @@ impl Show {
     pub fn new(random: &mut Random, groups: usize) -> Self {
         let source = random.pick(&[3, 0, u32::MAX, 0x1234_5678, 0x0001_0000]);
         let first = first_number(random);
-        let groups: Vec<Group> = (0..groups).map(|_| group(random)).collect();
+        let mut groups: Vec<Group> = (0..groups).map(|_| group(random)).collect();
+        if random.one_in(2) {
+            groups = groups.into_iter().map(|group| group.relayed(random)).collect();
+        }
         let payloads = groups.iter().flat_map(|group| group.payloads.clone()).enumerate();
         let packets =
             payloads.map(|(i, payload)| dressed(random, source, number(first, i), &payload));

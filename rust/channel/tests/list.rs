@@ -38,13 +38,13 @@ fn answer(row: &Row) -> String {
     let a: Vec<u64> = row.answer.iter().map(|field| number(field)).collect();
     let said = match (a[0], row.name()) {
         (0, "joiner.join") => {
-            assert_eq!(a[3], row.answer[10].len() as u64);
-            format!("ok {} {} {}", a[1], a[2], hex(row.answer[10]))
+            assert_eq!(a[3], row.answer[11].len() as u64);
+            format!("ok {} {} {}", a[1], a[2], hex(row.answer[11]))
         }
         (0, "joiner.close") => format!("ok {} {}", a[1], a[2]),
         (0, _) => "ok".to_string(),
         (other, _) => {
-            assert!(row.answer.get(10).is_none_or(|out| out.is_empty()));
+            assert!(row.answer.get(11).is_none_or(|out| out.is_empty()));
             match other {
                 NOTHING => "late".to_string(),
                 17 => format!("refused 17 {} {}", a[1], a[2]),
@@ -53,7 +53,8 @@ fn answer(row: &Row) -> String {
             }
         }
     };
-    format!("{said} {} {} {} {} {}", a[6], a[7], a[8], a[9], hex(row.answer[4]))
+    let state: String = a[6..=10].iter().map(|number| format!(" {number}")).collect();
+    format!("{said}{state} {}", hex(row.answer[4]))
 }
 
 #[test]
@@ -74,6 +75,15 @@ fn every_answer_is_in_it() {
         "with a wrap of the number",
         "with a refusal beside an open run",
         "with a closing that drops a run",
+        "with a marked record",
+        "with a marked unit handed out",
+        "with a mark that the last fragment lacks",
+        "with a mark on a plain unit or a STAP-A",
+        "with a jump that drops a mark",
+        "with a start that replaces a mark",
+        "with a late packet beside a mark",
+        "with a refusal beside a mark",
+        "with a closing that drops a mark",
     ] {
         assert!(has(note), "{note}");
     }

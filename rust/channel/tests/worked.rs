@@ -13,6 +13,7 @@ const MIDDLE: [u8; 4] = [0x7C, 0x05, 3, 4];
 const END: [u8; 3] = [0x7C, 0x45, 5];
 const BOTH: [u8; 3] = [0x7C, 0xC5, 5];
 const UNIT: [u8; 3] = [0x65, 1, 2];
+const STAP_A: [u8; 6] = [0x78, 0, 3, 0x65, 1, 2];
 
 /// "H = `80 60 0001 00000002 00000003`" with this number and payload.
 fn packet(number: u16, payload: &[u8]) -> Vec<u8> {
@@ -33,6 +34,25 @@ fn join(joiner: &mut Joiner, number: u16, payload: &[u8]) -> Result<Joined, Refu
 
 fn accepted(first: u16, count: u16, out: &[u8]) -> Result<Joined, Refusal> {
     Ok(Joined::Accepted { first, count, out: out.to_vec() })
+}
+
+/// A payload with its forbidden bit set.
+fn damaged(payload: &[u8]) -> Vec<u8> {
+    [&[payload[0] | 0x80], &payload[1..]].concat()
+}
+
+/// A unit behind its start code.
+fn handed(first: u8, rest: &[u8]) -> Vec<u8> {
+    [&[0, 0, 0, 1, first], rest].concat()
+}
+
+/// A joiner that awaits 2 of packets 0 and 1: START with the bit, and MIDDLE without.
+fn marked_run() -> Joiner {
+    let mut joiner = Joiner::open(SOURCE, 0);
+    join(&mut joiner, 0, &damaged(&START)).unwrap();
+    join(&mut joiner, 1, &MIDDLE).unwrap();
+    assert_eq!((joiner.gathered(), joiner.marked()), (4, true));
+    joiner
 }
 
 #[test]
@@ -76,6 +96,118 @@ fn units_drop_the_run_and_a_start_replaces_it() {
     let end = joiner.join(&packet(5, &END), &mut gather, 7);
     assert_eq!(end, accepted(5, 0, &[0, 0, 0, 1, 0x65, 9, 5]));
     assert_eq!(gather, [9, 5, 7, 7, 7]);
+}
+
+// E3: "the rebuilt top bit is set if any fragment of the unit had it set."
+#[test]
+fn a_mark_on_any_fragment_marks_the_unit() {
+    for marks in 0..8 {
+        let mut joiner = Joiner::open(SOURCE, 0);
+        let sent = |i: u16, payload: &[u8]| match marks >> i & 1 {
+            0 => packet(i, payload),
+            _ => packet(i, &damaged(payload)),
+        };
+        let mut gather = [0; 5];
+        joiner.join(&sent(0, &START), &mut gather, 10).unwrap();
+        assert_eq!(joiner.marked(), marks & 1 != 0);
+        joiner.join(&sent(1, &MIDDLE), &mut gather, 10).unwrap();
+        assert_eq!(joiner.marked(), marks & 3 != 0);
+        let first = if marks == 0 { 0x65 } else { 0xE5 };
+        let unit = handed(first, &[1, 2, 3, 4, 5]);
+        assert_eq!(joiner.join(&sent(2, &END), &mut gather, 10), accepted(2, 0, &unit));
+        assert_eq!((joiner.run, gather), (None, [1, 2, 3, 4, 5]));
+    }
+}
+
+#[test]
+fn the_last_fragment_gives_nri_and_type() {
+    let mut joiner = Joiner::open(SOURCE, 0);
+    join(&mut joiner, 0, &[0xFC, 0x85, 1]).unwrap();
+    assert_eq!(join(&mut joiner, 1, &[0x3C, 0x41, 2]), accepted(1, 0, &handed(0xA1, &[1, 2])));
+    join(&mut joiner, 2, &[0x5C, 0x85, 1]).unwrap();
+    assert_eq!(join(&mut joiner, 3, &[0x9C, 0x47, 2]), accepted(3, 0, &handed(0x87, &[1, 2])));
+}
+
+#[test]
+fn the_next_unit_has_marks_of_its_own() {
+    let mut joiner = marked_run();
+    assert_eq!(join(&mut joiner, 2, &END), accepted(2, 0, &handed(0xE5, &[1, 2, 3, 4, 5])));
+    join(&mut joiner, 3, &START).unwrap();
+    assert_eq!((joiner.gathered(), joiner.marked()), (2, false));
+    assert_eq!(join(&mut joiner, 4, &END), accepted(4, 0, &handed(0x65, &[1, 2, 5])));
+}
+
+#[test]
+fn a_jump_drops_the_mark() {
+    let mut joiner = marked_run();
+    assert_eq!(join(&mut joiner, 3, &START), accepted(2, 1, &[]));
+    assert_eq!((joiner.gathered(), joiner.marked()), (2, false));
+    assert_eq!(join(&mut joiner, 4, &END), accepted(4, 0, &handed(0x65, &[1, 2, 5])));
+    // and where what comes next is no start, there is no run to mark
+    for payload in [damaged(&MIDDLE), damaged(&END), MIDDLE.to_vec()] {
+        let mut joiner = marked_run();
+        assert_eq!(join(&mut joiner, 3, &payload), accepted(2, 1, &[]));
+        assert_eq!((joiner.run.clone(), joiner.marked()), (None, false));
+        assert_eq!(join(&mut joiner, 4, &END), accepted(4, 0, &[]));
+    }
+}
+
+#[test]
+fn a_start_begins_the_mark_anew() {
+    let mut joiner = marked_run();
+    join(&mut joiner, 2, &[0x7C, 0x85, 9]).unwrap();
+    assert_eq!((joiner.gathered(), joiner.marked()), (1, false));
+    assert_eq!(join(&mut joiner, 3, &END), accepted(3, 0, &handed(0x65, &[9, 5])));
+    join(&mut joiner, 4, &START).unwrap();
+    join(&mut joiner, 5, &damaged(&START)).unwrap();
+    assert_eq!((joiner.gathered(), joiner.marked()), (2, true));
+    assert_eq!(join(&mut joiner, 6, &END), accepted(6, 0, &handed(0xE5, &[1, 2, 5])));
+}
+
+#[test]
+fn units_and_closing_drop_the_mark() {
+    for payload in [&UNIT[..], &STAP_A] {
+        let mut joiner = marked_run();
+        assert_eq!(join(&mut joiner, 2, payload), accepted(2, 0, &handed(0x65, &[1, 2])));
+        assert_eq!((joiner.run.clone(), joiner.marked()), (None, false));
+        join(&mut joiner, 3, &START).unwrap();
+        assert_eq!(join(&mut joiner, 4, &END), accepted(4, 0, &handed(0x65, &[1, 2, 5])));
+    }
+    let mut joiner = marked_run();
+    joiner.close(2).unwrap();
+    assert_eq!((joiner.run.clone(), joiner.marked()), (None, false));
+}
+
+#[test]
+fn units_keep_their_own_first_byte() {
+    let mut joiner = Joiner::open(SOURCE, 0);
+    let unit = handed(0xE5, &[1, 2]);
+    assert_eq!(join(&mut joiner, 0, &damaged(&UNIT)), accepted(0, 0, &unit));
+    assert_eq!(join(&mut joiner, 1, &damaged(&STAP_A)), accepted(1, 0, &handed(0x65, &[1, 2])));
+    assert_eq!(join(&mut joiner, 2, &[0x78, 0, 3, 0xE5, 1, 2]), accepted(2, 0, &unit));
+}
+
+// "A refusal .. changes no buffer and no state"; nor does Late.
+#[test]
+fn a_refused_or_late_packet_leaves_the_mark() {
+    let unit = |first| handed(first, &[1, 2, 3, 4, 5]);
+    let mut clean = Joiner::open(SOURCE, 0);
+    join(&mut clean, 0, &START).unwrap();
+    join(&mut clean, 1, &MIDDLE).unwrap();
+    for (mut joiner, first, marked) in [(marked_run(), 0xE5, true), (clean, 0x65, false)] {
+        let before = joiner.run.clone();
+        assert_eq!(join(&mut joiner, 2, &BOTH), refuse(21));
+        assert_eq!(join(&mut joiner, 2, &damaged(&BOTH)), refuse(21));
+        assert_eq!(join(&mut joiner, 2, &[0xFA, 1, 2]), refuse_with(19, &[26]));
+        assert_eq!(joiner.join(&packet(2, &damaged(&END)), &mut [0; 4], 64), refuse(6));
+        assert_eq!(joiner.join(&packet(2, &damaged(&END)), &mut [0; 5], 9), refuse(5));
+        assert_eq!(join(&mut joiner, 0, &damaged(&START)), Ok(Joined::Late));
+        assert_eq!(join(&mut joiner, 1, &MIDDLE), Ok(Joined::Late));
+        assert_eq!(joiner.close(1), refuse(23));
+        assert_eq!((joiner.run.clone(), joiner.marked()), (before, marked));
+        let end = joiner.join(&packet(2, &END), &mut [1, 2, 3, 4, 0], 10);
+        assert_eq!(end, accepted(2, 0, &unit(first)));
+    }
 }
 
 #[test]
