@@ -72,7 +72,7 @@ impl Host {
         let joiner = step.joiner;
         self.joiner = joiner;
         self.gather = gather;
-        let same = equal::buffer(joined(a, answer), rows::field(a, 10), rows::FILL, &out);
+        let same = equal::buffer(joined(a, answer), rows::field(a, 11), rows::FILL, &out);
         self.stands(same, a)
     }
 
@@ -105,7 +105,8 @@ impl Host {
         } else {
             false
         };
-        self.same = equal::flag(same, a, 9, j.closed);
+        let same = equal::flag(same, a, 9, j.marked);
+        self.same = equal::flag(same, a, 10, j.closed);
         self
     }
 }
