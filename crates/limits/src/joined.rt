@@ -35,6 +35,14 @@ fn holding(running: bool, gathered: usize) -> Joiner {
     joiner
 }
 
+// A mark where no run is open.
+fn marked(closed: bool) -> Joiner {
+    let mut joiner = Joiner::open(3, 1);
+    joiner.marked = true;
+    joiner.closed = closed;
+    joiner
+}
+
 pub fn all() {
     let long = [0x80u8; 65536];
     let packet = *b"\x80\x60\x00\x01\x00\x00\x00\x02\x00\x00\x00\x03\x41\x01\x02";
@@ -50,5 +58,21 @@ pub fn all() {
     tell(
         b"joiner close, a run of 16,777,216 bytes",
         close(holding(true, 16777216)) as u64,
+    );
+    tell(
+        b"joiner join, a mark and no run",
+        join(marked(false), &packet) as u64,
+    );
+    tell(
+        b"joiner close, a mark and no run",
+        close(marked(false)) as u64,
+    );
+    tell(
+        b"joiner join, a mark and no run, closed",
+        join(marked(true), &packet) as u64,
+    );
+    tell(
+        b"joiner close, a mark and no run, closed",
+        close(marked(true)) as u64,
     );
 }
