@@ -476,6 +476,8 @@ struct rtp_joiner {
     bool running;     /* a run is open: fragments of a unit were gathered, and its last is still to come */
     size_t gathered;  /* how many bytes of the open run stand in front of the gather buffer; 0 where no run is open: 0 to 16,777,215. Any
                        * other number where no run is open is refused with 8 */
+    bool marked;      /* a fragment of the open run had its forbidden bit set; false where no run is open. True where no run is open is
+                       * refused with 8 */
     bool closed;      /* closed: every call answers 22 */
 };
 
@@ -497,7 +499,8 @@ struct rtp_closed {
 struct rtp_joiner rtp_joiner_open(uint32_t ssrc, uint16_t first);
 
 /* Brings the joiner up to date by a packet. The gather buffer is left alone between calls; units are handed out in out, each behind
- * 00 00 00 01. */
+ * 00 00 00 01. The first byte of a unit that came in fragments has NRI and type of the last of them, and the forbidden bit where any of them
+ * had it; every other unit is handed out as it came. */
 struct rtp_joined rtp_joiner_join(struct rtp_joiner *joiner, const uint8_t *packet, size_t packet_len, uint8_t *gather, size_t gather_len,
                                   uint8_t *out, size_t out_len);
 
@@ -508,8 +511,9 @@ struct rtp_closed rtp_joiner_close(struct rtp_joiner joiner, uint16_t number);
 
 /* How many bytes each record above has, as the calls were compiled: a host whose `sizeof (struct rtp_header)` is not
  * `rtp_sizes().header` was compiled with another header, and must not call. Equal sizes alone do not show that the headers are equal: `running`
- * of a joiner stands where there would be padding without it. This record too grows where one is added, and is then longer than an older
- * host's: compile with the header that came with the archive before you ask. */
+ * and `marked` of a joiner take bytes that would be padding without them, and where a header without `marked` has `closed`, there `marked`
+ * stands now. This record too grows where one is added, and is then longer than an older host's: compile with the header that came with the
+ * archive before you ask. */
 struct rtp_sizes {
     size_t refused;
     size_t test;
