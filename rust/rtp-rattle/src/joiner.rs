@@ -16,7 +16,8 @@ pub struct Joiner {
 #[derive(Clone, Copy, Debug, Eq, PartialEq)]
 pub enum Joined<'a> {
     /// The packet was accepted. Before it `count` numbers were passed over, `first` the first of them. `units` are those
-    /// that it completed, each behind `00 00 00 01`.
+    /// that it completed, each behind `00 00 00 01`. The first byte of a unit that came in fragments has NRI and type of the last
+    /// of them, and the forbidden bit where any of them had it; every other unit is as it came.
     Accepted { first: u16, count: u16, units: &'a [u8] },
     /// Its number is 32,768 or more ahead: nothing was done with it.
     Late,
@@ -37,6 +38,7 @@ impl fmt::Debug for Joiner {
             .field("missed", &self.missed())
             .field("running", &self.record.running)
             .field("gathered", &self.record.gathered)
+            .field("marked", &self.record.marked)
             .field("closed", &self.is_closed())
             .finish()
     }

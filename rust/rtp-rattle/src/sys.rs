@@ -222,6 +222,7 @@ pub struct Joiner {
     pub missed: u32,
     pub running: bool,
     pub gathered: usize,
+    pub marked: bool,
     pub closed: bool,
 }
 
@@ -593,42 +594,64 @@ mod tests {
         }
     }
 
-    /// A length where no run is open: 8, behind 22, and nothing is changed. Beside an open run it is taken.
-    #[test]
-    fn length_without_a_run() {
+    /// What a record says of its run.
+    fn run(joiner: &Joiner) -> (bool, usize, bool) {
+        (joiner.running, joiner.gathered, joiner.marked)
+    }
+
+    const NO_RUN: (bool, usize, bool) = (false, 0, false);
+
+    /// A length or a mark where no run is open: 8, behind 22, and nothing is changed. Beside an open run it is taken.
+    fn without_a_run(gathered: usize, marked: bool) {
         let (mut gather, mut out) = ([0xEE; 64], [0xEE; 64]);
         // SAFETY: the call takes no slice.
         let open = unsafe { rtp_joiner_open(3, 1) };
-        assert_eq!((open.running, open.gathered), (false, 0));
+        assert_eq!(run(&open), NO_RUN);
         for (running, closed, number) in
             [(false, false, 8), (false, true, 22), (true, true, 22), (true, false, 0)]
         {
-            let record = Joiner { running, gathered: 2, closed, ..open };
+            let record = Joiner { running, gathered, marked, closed, ..open };
             // SAFETY: the record goes by value.
             let shut = unsafe { rtp_joiner_close(record, 1) };
             assert_eq!(shut.refused.number, number);
             let mut after = record;
             assert_eq!(join(&mut after, PLAIN, &mut gather, &mut out).refused.number, number);
-            if number != 0 {
-                for left in [shut.joiner, after] {
-                    assert_eq!((left.running, left.gathered, left.awaited), (running, 2, 1));
-                }
-                assert_eq!((gather, out), ([0xEE; 64], [0xEE; 64]));
+            if number == 0 {
+                assert_eq!((run(&shut.joiner), run(&after)), (NO_RUN, NO_RUN));
+                continue;
             }
+            for left in [shut.joiner, after] {
+                assert_eq!(run(&left), run(&record));
+                assert_eq!((left.awaited, left.closed), (1, closed));
+            }
+            assert_eq!((gather, out), ([0xEE; 64], [0xEE; 64]));
         }
     }
 
-    /// A start fragment opens the run, and closing drops it.
+    #[test]
+    fn length_without_a_run() {
+        without_a_run(2, false);
+    }
+
+    #[test]
+    fn mark_without_a_run() {
+        without_a_run(0, true);
+        without_a_run(2, true);
+    }
+
+    /// A start fragment opens the run, with its mark, and closing drops both.
     #[test]
     fn open_run() {
-        let (mut gather, mut out) = ([0xEE; 64], [0xEE; 64]);
-        let start = [&PLAIN[..12], b"\x7C\x85\x01\x02"].concat();
-        // SAFETY: the call takes no slice.
-        let mut joiner = unsafe { rtp_joiner_open(3, 1) };
-        assert_eq!(join(&mut joiner, &start, &mut gather, &mut out).refused.number, 0);
-        assert_eq!((joiner.running, joiner.gathered), (true, 2));
-        // SAFETY: the record goes by value.
-        let shut = unsafe { rtp_joiner_close(joiner, 2) };
-        assert_eq!((shut.joiner.running, shut.joiner.gathered), (false, 0));
+        for (first, marked) in [(0x7C, false), (0xFC, true)] {
+            let (mut gather, mut out) = ([0xEE; 64], [0xEE; 64]);
+            let start = [&PLAIN[..12], &[first, 0x85, 1, 2]].concat();
+            // SAFETY: the call takes no slice.
+            let mut joiner = unsafe { rtp_joiner_open(3, 1) };
+            assert_eq!(join(&mut joiner, &start, &mut gather, &mut out).refused.number, 0);
+            assert_eq!(run(&joiner), (true, 2, marked));
+            // SAFETY: the record goes by value.
+            let shut = unsafe { rtp_joiner_close(joiner, 2) };
+            assert_eq!(run(&shut.joiner), NO_RUN);
+        }
     }
 }

@@ -281,7 +281,8 @@ static void vp8(void) {
     CHECK(rtp_vp8_is_partition_head(out, 4).holds && rtp_vp8_is_partition_tail(true));
 }
 
-static void joining(void) {
+/* The three fragments, of which the first bears this mark. */
+static void joining(uint8_t mark) {
     static const struct {
         uint16_t number;
         const char *payload;
@@ -296,12 +297,13 @@ static void joining(void) {
         packet[2] = (uint8_t)(sent[i].number >> 8);
         packet[3] = (uint8_t)sent[i].number;
         memcpy(packet + 12, sent[i].payload, sent[i].len);
+        packet[12] |= i == 0 ? mark : 0;
         joined = rtp_joiner_join(&joiner, packet, 12 + sent[i].len, gather, sizeof gather, out, sizeof out);
         CHECK(joined.refused.number == 0 && !joined.late && joined.first == sent[i].number && joined.count == 0);
-        CHECK(joiner.running == (i < 2));
+        CHECK(joiner.running == (i < 2) && joiner.marked == (i < 2 && mark != 0));
     }
-    CHECK(joined.bytes == 10 && SAME(out, "\0\0\0\1\x65\1\2\3\4\5"));
-    CHECK(joiner.awaited == 2 && joiner.missed == 0 && !joiner.running && joiner.gathered == 0);
+    CHECK(joined.bytes == 10 && SAME(out, "\0\0\0\1") && out[4] == (0x65 | mark) && SAME(out + 5, "\1\2\3\4\5"));
+    CHECK(joiner.awaited == 2 && joiner.missed == 0 && !joiner.running && joiner.gathered == 0 && !joiner.marked);
     struct rtp_closed closed = rtp_joiner_close(joiner, 4);
     CHECK(closed.refused.number == 0 && closed.first == 2 && closed.count == 2 && closed.joiner.closed && closed.joiner.missed == 2);
     CHECK(rtp_joiner_close(closed.joiner, 4).refused.number == RTP_ALREADY_CLOSED);
@@ -309,6 +311,10 @@ static void joining(void) {
     joiner.missed = UINT32_MAX;
     CHECK(rtp_joiner_join(&joiner, H, 12, gather, sizeof gather, out, sizeof out).refused.number == RTP_MISSED_TOTAL_FULL);
     CHECK(joiner.awaited == 0 && joiner.missed == UINT32_MAX);
+    joiner = rtp_joiner_open(3, 1);
+    joiner.marked = true;
+    CHECK(rtp_joiner_join(&joiner, H, 12, gather, sizeof gather, out, sizeof out).refused.number == RTP_OUTSIDE_DOMAIN);
+    CHECK(joiner.awaited == 1 && joiner.marked && rtp_joiner_close(joiner, 1).refused.number == RTP_OUTSIDE_DOMAIN);
 }
 
 /* What takes 16 MiB, more than the gate's programs have room for: a frame of one byte too many, and runs around the longest. */
@@ -350,7 +356,8 @@ int main(void) {
     lent();
     lent_refused();
     vp8();
-    joining();
+    joining(0);
+    joining(0x80);
     limits();
     return 0;
 }

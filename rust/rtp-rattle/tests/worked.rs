@@ -273,13 +273,60 @@ fn joined() {
         assert_eq!(joiner.join(&numbered(number, payload), &mut out), Ok(accepted));
     }
     assert_eq!(out, [0xEE; 10]);
-    let shown =
-        "Joiner { source: 3, awaited: 1, missed: 0, running: true, gathered: 4, closed: false }";
+    let shown = "Joiner { source: 3, awaited: 1, missed: 0, running: true, gathered: 4, \
+                 marked: false, closed: false }";
     assert_eq!(format!("{joiner:?}"), shown);
     let units = b"\x00\x00\x00\x01\x65\x01\x02\x03\x04\x05";
     let accepted = Joined::Accepted { first: 1, count: 0, units };
     assert_eq!(joiner.join(&numbered(1, FRAGMENTS[2]), &mut out), Ok(accepted));
     assert_eq!((joiner.source(), joiner.awaited(), joiner.missed()), (3, 2, 0));
+}
+
+// E3: "the rebuilt top bit is set if any fragment of the unit had it set."
+#[test]
+fn joined_with_a_mark() {
+    for marks in 0..8_u8 {
+        let (mut joiner, mut out, mut top) = (Joiner::open(3, 0, 5), [0xEE; 10], 0);
+        for (number, payload) in (0..).zip(FRAGMENTS) {
+            let mark = (marks >> number & 1) << 7;
+            let mut packet = numbered(number, payload);
+            packet[12] |= mark;
+            top |= mark;
+            let unit = [0, 0, 0, 1, 0x65 | top, 1, 2, 3, 4, 5];
+            let units = if number == 2 { &unit[..] } else { &[] };
+            let accepted = Joined::Accepted { first: number, count: 0, units };
+            assert_eq!(joiner.join(&packet, &mut out), Ok(accepted));
+            let marked = number < 2 && top != 0;
+            assert!(format!("{joiner:?}").contains(&format!("marked: {marked}, ")));
+        }
+    }
+}
+
+// A jump drops the mark with its run, and a start fragment begins it anew; NRI and type are the last fragment's.
+#[test]
+fn marked_run_dropped() {
+    for second in [1, 2] {
+        let mut joiner = Joiner::open(3, 0, 5);
+        let mut out = [0xEE; 10];
+        joiner.join(&numbered(0, b"\xFC\x85\x01\x02"), &mut out).unwrap();
+        joiner.join(&numbered(second, FRAGMENTS[0]), &mut out).unwrap();
+        let units = b"\x00\x00\x00\x01\x27\x01\x02\x05";
+        let accepted = Joined::Accepted { first: second + 1, count: 0, units };
+        assert_eq!(joiner.join(&numbered(second + 1, b"\x3C\x47\x05"), &mut out), Ok(accepted));
+    }
+}
+
+// Plain units and those of a STAP-A are handed out as they came.
+#[test]
+fn marked_units() {
+    let mut joiner = Joiner::open(3, 0, 0);
+    let mut out = [0xEE; 10];
+    let units = b"\x00\x00\x00\x01\xE5\x01\x02";
+    let accepted = Joined::Accepted { first: 0, count: 0, units };
+    assert_eq!(joiner.join(&numbered(0, b"\xE5\x01\x02"), &mut out), Ok(accepted));
+    let units = b"\x00\x00\x00\x01\x65\x01\x02";
+    let accepted = Joined::Accepted { first: 1, count: 0, units };
+    assert_eq!(joiner.join(&numbered(1, b"\xF8\x00\x03\x65\x01\x02"), &mut out), Ok(accepted));
 }
 
 // "65535, 1, close 2: none, missed 1."
