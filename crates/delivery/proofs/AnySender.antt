@@ -1,13 +1,12 @@
--- Sendings of RFC 6184 are groups that the joiner takes: their octets, field by field, are those of the joiner's own groups. Assumes nothing.
+-- Sendings of RFC 6184, as a relay passes them on, are groups that the joiner takes: their octets, field by field, are those of the joiner's own
+-- groups, and a mark is an F of its own. Assumes nothing.
 use mathlib.Core.Path.{_≡_, refl, sym, ap, ap₂, _∙_}
 use mathlib.Core.Bool.{Bool, true, false, _||_}
 use mathlib.Core.List.{List, [], _∷_, _++_, map}
 use mathlib.Core.Logic.{_⊎_, inl, inr}
 use Prim.Native.Nat.{ℕ, suc, _+_, _*_, _/_, _%_, _≤_, _<_}
 use native.Mathlib.Omega.{arith}
-use native.Mathlib.Decide.{ℕ-discrete}
 use lib.ListN.{length, getD}
-use borrow.Author.Tests.{eq-eqb, ne-eqb}
 use Rattle.wire.specs.Each.{Each}
 use Rattle.wire.specs.Net.{bit}
 use Rattle.wire.specs.Packets.{joined}
@@ -20,34 +19,13 @@ use Rattle.sequence.specs.Group.{Group, packetsIn, packetsOf}
 use Rattle.joiner_step.specs.Run.{Units}
 use Rattle.joiner_feed.specs.Content.{Fragment, partIn, noteOf, topBit, topped}
 use Rattle.joiner_feed.specs.H264.{forbidden, fragmentIn}
+use Rattle.joiner_feed.proofs.Topping.{top-low, top-type, top-octet, top-is, own-top}
 use Rattle.joiner.specs.Sent.{Sent, alone, fragmented, groupOf, groupsOf, PlainUnit}
 use Rattle.joiner.specs.Sent as sent
 use Rattle.delivery.specs.AnySender.{relayed, behind, anyMarked, handedFor, groupBy, groupsBy, Stream, streamShow, ReservedClear, Ruled, Taken, StreamPremises}
 use Rattle.delivery.proofs.Owing.{Delimiter}
 use Rattle.delivery.proofs.Owing as owing
 use Rattle.delivery.proofs.Delivering.{Sendable}
-
--- ---- a mark changes the top bit alone
-
-top-type : (m : Bool) (b : ℕ) → topBit m b % 32 ≡ b % 32
-top-type true b = omega arith
-top-type false b = refl
-
-top-low : (m : Bool) (b : ℕ) → topBit m b % 128 ≡ b % 128
-top-low true b = omega arith
-top-low false b = refl
-
-top-octet : (m : Bool) (b : ℕ) → b < 256 → topBit m b < 256
-top-octet true b h = omega arith
-top-octet false b h = h
-
--- an octet is its low seven bits and its own top bit
-own-top : (b : ℕ) → b < 256 → topBit (bit (b / 128)) (b % 128) ≡ b
-own-top b h = go (ℕ-discrete (b / 128 % 2) 1)
-  where
-    go : Dec (b / 128 % 2 ≡ 1) → topBit (bit (b / 128)) (b % 128) ≡ b
-    go (yes e) = rw (eq-eqb (b / 128 % 2) 1 e) (omega arith)
-    go (no n) = rw (ne-eqb (b / 128 % 2) 1 n) (omega (arith, n))
 
 -- ---- a fragment, as it is sent and as a relay passes it on
 
@@ -213,10 +191,6 @@ relayed-not [] = refl
 relayed-not (p ∷ ps) = ap₂ (λ (q : List ℕ) (qs : List (List ℕ)). q ∷ qs) (topped-not p) (relayed-not ps)
 
 -- ---- the top bit of a fragmented unit
-
-top-is : (m : Bool) (b : ℕ) → b < 128 → bit (topBit m b / 128) ≡ m
-top-is true b h = eq-eqb (topBit true b / 128 % 2) 1 (omega arith)
-top-is false b h = ne-eqb (topBit false b / 128 % 2) 1 (λ e. omega arith)
 
 pub unit-marked : (marks : ℕ → Bool) (g : Fragmented) → FormedSending (fuA g) →
     forbidden (getD (handedFor marks (fuA g)) 0 []) ≡ anyMarked (relayed marks (payloadsOf (fuA g)))

@@ -6,7 +6,6 @@ use mathlib.Core.List.{List, [], _∷_, _++_, map, append-nil}
 use Prim.Native.Nat.{ℕ, _+_, _-_, _*_, _/_, _%_, _≤_}
 use native.Mathlib.Omega.{arith}
 use lib.ListN.{length}
-use borrow.Author.Tests.{ne-eqb}
 use Rattle.wire.specs.Each.{Each}
 use Rattle.wire.specs.Net.{be16}
 use Rattle.wire.specs.Packets.{joined}
@@ -23,6 +22,7 @@ use Rattle.sequence.specs.Group.{packetsIn}
 use Rattle.sequence.specs.Group as any
 use Rattle.joiner_feed.specs.Content.{Fragment, partIn, unmarked, noteOf, topBit}
 use Rattle.joiner_feed.specs.H264.{forbidden}
+use Rattle.joiner_feed.proofs.Topping.{top-is}
 use Rattle.joiner.specs.Sent.{Sent, aggregated, alone, fragmented, Lawful, NoneEmpty, PlainUnit, groupOf, gatheredOf, fuA}
 use Rattle.joiner.specs.Sent as sent
 use Rattle.delivery.specs.Show.{payloads}
@@ -36,7 +36,7 @@ use Rattle.delivery.proofs.Delivering as delivering
 -- "our sender clears that bit in all fragments": F of each is 0, whatever the unit's is
 fragment-clear : (head bits : ℕ) (part : List ℕ) → forbidden (fragment head bits part) ≡ false
 unfolding fragment
-fragment-clear head bits part = ne-eqb ((head / 32 % 4 * 32 + 28) / 128 % 2) 1 (λ e. omega arith)
+fragment-clear head bits part = top-is false (head / 32 % 4 * 32 + 28) (omega arith)
 
 pub fragments-clear : (head : ℕ) (first : List ℕ) (middle : List (List ℕ)) (last : List ℕ) →
     Each (λ (p : List ℕ). forbidden p ≡ false) (packetsOfGroup (fragments head first middle last))

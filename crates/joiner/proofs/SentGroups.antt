@@ -19,6 +19,7 @@ use Rattle.joiner_step.specs.General.{Enough, codec}
 use Rattle.joiner_feed.specs.Content.{Fragment, whole, start, middle, end, topBit}
 use Rattle.joiner_feed.specs.H264.{wholeSaid, fragmented, checkBy, check}
 use Rattle.joiner_feed.proofs.Owing.{owes-whole, owes-cut}
+use Rattle.joiner_feed.proofs.Topping.{top-low, top-type, top-is}
 use Rattle.joiner.specs.Join.{Known, known, arrivedIn, choice}
 use Rattle.joiner.specs.Sent.{Sent, aggregated, alone, stapA, fuA, body, anyMarked, groupOf, knownGroup, gatheredOf, PlainUnit, Lawful}
 use Rattle.joiner.specs.Sent as sent
@@ -34,18 +35,12 @@ shape-stapA head u us t = shape-aggregate (head ∷ sizedUnits (u ∷ us)) (omeg
 abbrev indicator : Bool → ℕ → ℕ
 indicator m head = topBit m (head / 32 % 4 * 32 + 28)
 
--- its type, and the first byte of the unit, "NRI and type", whatever F; and F
+-- its type, and the first byte of the unit, "NRI and type", whatever F
 type-of : (m : Bool) (head : ℕ) → indicator m head % 32 ≡ 28
-type-of true head = omega arith
-type-of false head = omega arith
+type-of m head = omega (arith, top-type m (head / 32 % 4 * 32 + 28))
 
 head-of : (m : Bool) (head bits : ℕ) → bits % 32 ≡ 0 → headOf (indicator m head) (bits + head % 32) ≡ head % 128
-head-of true head bits e = omega arith
-head-of false head bits e = omega arith
-
-f-of : (m : Bool) (head : ℕ) → bit (indicator m head / 128) ≡ m
-f-of true head = eq-eqb (indicator true head / 128 % 2) 1 (omega arith)
-f-of false head = ne-eqb (indicator false head / 128 % 2) 1 (λ e. omega arith)
+head-of m head bits e = omega (arith, top-low m (head / 32 % 4 * 32 + 28))
 
 shape-fuA : (head bits : ℕ) (p : Fragment) (first last : Bool) → 1 ≤ length (p .part) → bits % 32 ≡ 0 →
     bit ((bits + head % 32) / 128) ≡ first → bit ((bits + head % 32) / 64) ≡ last →
@@ -91,7 +86,7 @@ module _ (head : ℕ) (f : Fragment) (h : 1 ≤ length (f .part)) where
   unfolding fuA
   check-fuA bits first last e =
       check-shape (fuA head bits f) _ e
-      ∙ ap (λ (m : Bool). fragmented first last (head % 128) (record { note = record { marked = m }; part = f .part })) (f-of (f .note .marked) head)
+      ∙ ap (λ (m : Bool). fragmented first last (head % 128) (record { note = record { marked = m }; part = f .part })) (top-is (f .note .marked) (head / 32 % 4 * 32 + 28) (omega arith))
 
   check-start : check (fuA head 128 f) ≡ says (start f)
   check-start = check-fuA 128 true false (shape-start head f h)

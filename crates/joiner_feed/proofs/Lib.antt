@@ -1,4 +1,5 @@
 pub mod Feeding
 pub mod Owing
 pub mod Sayable
+pub mod Topping
 pub mod Toy

@@ -1,7 +1,7 @@
 -- A packet that holds units hands them out whatever run is open, and one that goes on with a unit is silent where the run was dropped: so
 -- units by themselves, and a unit cut into pieces, are groups that are owed, whatever the reader and the checks. Assumes nothing.
 use mathlib.Core.Path.{_≡_, refl, sym, ap, ap₂, subst, _∙_}
-use mathlib.Core.Bool.{Bool, true, false, _||_}
+use mathlib.Core.Bool.{Bool, _||_, or-false, or-assoc}
 use mathlib.Core.List.{List, [], _∷_, _++_, map, append-assoc}
 use Prim.Native.Nat.{ℕ, _≤_}
 use native.Mathlib.Omega.{arith}
@@ -19,14 +19,6 @@ use Rattle.joiner_step.specs.General.{Room, Enough, groupIn, checkedAs, codec}
 use Rattle.joiner_feed.specs.Content.{Note, Fragment, partIn, together, noteOf, Content, whole, start, middle, end, topped, fed, choosing}
 
 -- ---- a unit's fragments together
-
-or-false : (a : Bool) → (a || false) ≡ a
-or-false true = refl
-or-false false = refl
-
-or-assoc : (a b c : Bool) → ((a || b) || c) ≡ (a || (b || c))
-or-assoc true b c = refl
-or-assoc false b c = refl
 
 -- gathered one after the other: their parts in order, and the mark of any
 all-together : (before : Fragment) (between : List Fragment) (last : Fragment) →
