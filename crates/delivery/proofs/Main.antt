@@ -5,10 +5,10 @@
 -- The words. A `Show` is the groups sent, each its payloads and the units that it is handed out as; the source, the first number and the
 -- stamps that its packets bear; the buffers; and what arrives, a packet of ours by its index or any other bytes. `Received` is what the paper
 -- asks of numbers, room and channel. A `Sending` is frames for a fresh sender, `showOf` the show of them, `SendingPremises` what the paper asks
--- of it. A `Stream` is sendings of RFC 6184, of whatever sender. A `Machine` is any joiner: how it is opened, its call and its closing;
--- `ourJoiner` is `opened`, `joinStep` and `closeStep`, which the contracts of the joiner's code cite. `Delivered` is the five parts (a) to (e)
--- over a machine's calls (`played`) and its `closing`, for units behind a start code or a 4-byte length; `annexB` is the start code, which our
--- joiner's units follow.
+-- of it. A `Stream` is sendings of RFC 6184, of whatever sender, and which packets a relay marked (`relayed`). A `Machine` is any joiner: how it is
+-- opened, its call and its closing; `ourJoiner` is `opened`, `joinStep` and `closeStep`, which the contracts of the joiner's code cite. `Delivered`
+-- is the five parts (a) to (e) over a machine's calls (`played`) and its `closing`, for units behind a start code or a 4-byte length; `annexB` is
+-- the start code, which our joiner's units follow.
 use mathlib.Core.Path.{_≡_, refl}
 use mathlib.Core.Bool.{Bool, true, false}
 use mathlib.Core.List.{List, [], _∷_, _++_, map}
