@@ -81,7 +81,8 @@ payloads-streamed y = stream-payloads (y .marks) (y .sendings)
 pub payloads-unmarked : (ps : List (List ℕ)) → relayed (λ i. false) ps ≡ ps
 payloads-unmarked = relayed-not
 
--- A unit sent in fragments is handed out with its top bit set exactly where one of them has it as it arrives ..
+-- What a unit sent in fragments is to be handed out as, and so is by `any-sender`, has its top bit set exactly where one of them has it as it
+-- arrives ..
 pub MARKED-EXACTLY : (marks : ℕ → Bool) (g : rfc.Fragmented) → rfc.FormedSending (rfc.fuA g) →
     forbidden (getD (handedFor marks (rfc.fuA g)) 0 []) ≡ anyMarked (relayed marks (rfc.payloadsOf (rfc.fuA g)))
 MARKED-EXACTLY = unit-marked

@@ -1,8 +1,8 @@
 -- What a fresh sender sends for frames is a show that the joiner can take: the sender's theorems say that its groups can be sent and
 -- carry the frames' units, and no unit is longer than its frame. Assumes nothing.
-use mathlib.Core.Path.{_≡_, refl, sym, ap, ap₂, subst}
+use mathlib.Core.Path.{_≡_, refl, sym, ap, ap₂, subst, _∙_}
 use mathlib.Core.Bool.{Bool, false}
-use mathlib.Core.List.{List, [], _∷_, _++_, map, append-nil}
+use mathlib.Core.List.{List, [], _∷_, _++_, map, map-map, map-id, append-nil}
 use Prim.Native.Nat.{ℕ, _+_, _-_, _*_, _/_, _%_, _≤_}
 use native.Mathlib.Omega.{arith}
 use lib.ListN.{length}
@@ -59,12 +59,10 @@ none-marked (p ∷ middle) last = none-marked middle last
 
 same-middle : (head : ℕ) (ps : List (List ℕ)) → map (fragment head 0) ps ≡ map (fuA head 0) (map clear ps)
 unfolding fragment fuA
-same-middle head [] = refl
-same-middle head (p ∷ ps) = ap (λ (l : List (List ℕ)). fragment head 0 p ∷ l) (same-middle head ps)
+same-middle head ps = sym (map-map (fuA head 0) clear ps)
 
 same-parts : (ps : List (List ℕ)) → joined ps ≡ joined (map partIn (map clear ps))
-same-parts [] = refl
-same-parts (p ∷ ps) = ap (λ (l : List ℕ). p ++ l) (same-parts ps)
+same-parts ps = ap joined (sym (map-map partIn clear ps ∙ map-id ps))
 
 -- a group of the sender's as one of the joiner's: "STAP-A (0x78)"
 abbrev sentOf : Group → Sent

@@ -20,11 +20,11 @@ use Rattle.joiner_step.specs.Choice.{Arrived}
 use Rattle.joiner_step.specs.Step.{laidBy, fedTo, byCheck, runAt}
 use Rattle.joiner_feed.specs.declared.Run.{Run}
 use Rattle.joiner_feed.specs.Content.{Content, Note, fed, fedAfter}
-use Rattle.joiner_feed.specs.Ran.{recorded, layDoes}
+use Rattle.joiner_feed.specs.Ran.{runFrom, recorded, noRun, layDoes}
 use Rattle.joiner_feed.specs.Ran as feed
 use Rattle.joiner.specs.declared.Joiner.{Joiner}
 use Rattle.joiner.specs.Join.{keptOf, Stepped, asStep, Known, known, arrivedIn, choiceOf, avcOf}
-use Rattle.joiner.specs.Said.{acceptedJoiner, acceptedAnswer}
+use Rattle.joiner.specs.Said.{heldAt, acceptedJoiner, acceptedAnswer}
 
 -- ---- a packet that was read
 
@@ -76,15 +76,11 @@ module _ (j : Joiner) (d number : ℕ) (gather out : List ℕ) where
 
 -- ---- the run that is open
 
--- "d > 0 drops the open run"
-abbrev pub heldAt : Joiner → ℕ → Run
-heldAt j d = cond (eqb d 0) (record { running = j .running; gathered = j .gathered; marked = j .marked }) (record { running = false; gathered = 0; marked = false })
-
 pub held-is : (j : Joiner) (d : ℕ) (gather : List ℕ) → feed.runOf (heldAt j d) gather ≡ runAt (choiceOf j) (keptOf j) d gather
 held-is j d gather = go (eqb d 0)
   where
     go : (b : Bool) →
-        feed.runOf (cond b (record { running = j .running; gathered = j .gathered; marked = j .marked }) (record { running = false; gathered = 0; marked = false })) gather
+        feed.runOf (cond b (runFrom (keptOf j .run)) noRun) gather
         ≡ cond b (runOf (keptOf j .run) gather) none
     go true = refl
     go false = refl
@@ -93,6 +89,6 @@ pub held-le : (j : Joiner) (d : ℕ) → heldAt j d .gathered ≤ j .gathered
 held-le j d = go (eqb d 0)
   where
     go : (b : Bool) →
-        cond {A = Run} b (record { running = j .running; gathered = j .gathered; marked = j .marked }) (record { running = false; gathered = 0; marked = false }) .gathered ≤ j .gathered
+        cond b (runFrom (keptOf j .run)) noRun .gathered ≤ j .gathered
     go true = omega arith
     go false = omega arith

@@ -1,12 +1,14 @@
 -- What each answer says, in the paper's numbers and values. Assumes nothing.
-use mathlib.Core.Bool.{false}
+use mathlib.Core.Bool.{false, cond}
 use mathlib.Core.List.{List}
 use Prim.Native.Nat.{ℕ}
+use lib.Dec.{eqb}
 use Rattle.error.specs.Refusal.{refusalOf}
 use Rattle.error.specs.Said.{Said, says, refused}
 use Rattle.sequence.specs.Number.{nextOf}
 use Rattle.nal.specs.Ran.{RanOn}
 use Rattle.joiner_feed.specs.declared.Run.{Run}
+use Rattle.joiner_feed.specs.Ran.{runFrom, noRun}
 use Rattle.joiner_step.specs.Step.{Accepted, Answer, accepted, late}
 use Rattle.joiner.specs.declared.Joiner.{Joiner}
 use Rattle.joiner.specs.declared.Joined.{Joined}
@@ -15,7 +17,7 @@ use Rattle.joiner.specs.declared.Step.{Step}
 use Rattle.joiner.specs.declared.Closed.{Closed}
 use Rattle.joiner.specs.declared.Closed.the-variants as closed
 use Rattle.joiner.specs.declared.Closing.{Closing}
-use Rattle.joiner.specs.Join.{Stepped, ClosingStepped}
+use Rattle.joiner.specs.Join.{keptOf, Stepped, ClosingStepped}
 
 abbrev pub saidJoined : Joined → Said Answer
 saidJoined (joined.Accepted first count bytes) = says (accepted (record { first = first; count = count; bytes = bytes }))
@@ -28,6 +30,10 @@ stepHeard s gather out = record { joiner = s .joiner; answer = saidJoined (s .an
 -- the same where the record is lent
 abbrev pub placeHeard : Joiner → Joined → List ℕ → List ℕ → Stepped
 placeHeard j r gather out = record { joiner = j; answer = saidJoined r; gather = gather; out = out }
+
+-- "d > 0 drops the open run": the run that a payload is fed to
+abbrev pub heldAt : Joiner → ℕ → Run
+heldAt j d = cond (eqb d 0) (runFrom (keptOf j .run)) noRun
 
 -- what an accepted packet's fate makes of the record and of the answer
 abbrev pub acceptedJoiner : Joiner → ℕ → ℕ → Said (RanOn Run) → Joiner

@@ -1,15 +1,14 @@
 // The joiner's calls.
 ghost use mathlib.Core.Path.{_≡_};
-ghost use mathlib.Core.Bool.{true, false, cond};
+ghost use mathlib.Core.Bool.{true, false};
 ghost use Prim.Native.Nat.{_+_, _≤_};
-ghost use lib.Dec.{eqb};
 ghost use lib.ListN.{length};
 ghost use Rattle.error.specs.Refusal.{refusalOf};
 ghost use Rattle.error.specs.Said.{refused};
 ghost use Rattle.joiner_step.specs.Step.{bySource, stray};
 ghost use Rattle.joiner_feed.specs.Ran.{ranSaid};
 ghost use Rattle.joiner.specs.Join.{keptOf, asStep, known, choiceOf, opened, joinStep, closeStep};
-ghost use Rattle.joiner.specs.Said.{saidJoined, stepHeard, acceptedJoiner, acceptedAnswer, closingHeard};
+ghost use Rattle.joiner.specs.Said.{saidJoined, stepHeard, heldAt, acceptedJoiner, acceptedAnswer, closingHeard};
 use crate::Closed;
 use crate::Closing;
 use crate::Joined;
@@ -72,7 +71,7 @@ impl Joiner {
 
     // "d > 0 drops the open run"
     fn run_at(self, d: u16) -> Run
-        ensures { λ r. ⌜ r ≡ cond (eqb d 0) (record { running = self .running; gathered = self .gathered; marked = self .marked }) (record { running = false; gathered = 0; marked = false }) ⌝ }
+        ensures { λ r. ⌜ r ≡ heldAt self d ⌝ }
     {
         if d == 0 {
             return Run {

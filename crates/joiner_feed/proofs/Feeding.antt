@@ -12,19 +12,19 @@ use Rattle.joiner_step.specs.Run.{Units, none, hands}
 use Rattle.joiner_feed.specs.declared.Run.{Run}
 use Rattle.joiner_feed.specs.Content.{fedAfter}
 use Rattle.joiner_feed.specs.H264.{wholeSaid}
-use Rattle.joiner_feed.specs.Ran.{runOf, recorded, layDoes}
+use Rattle.joiner_feed.specs.Ran.{recorded, noRun, runOf, layDoes}
 
 -- nothing is handed out either
 pub run-idle : (avc : Bool) (gather out : List ℕ) →
     layDoes avc gather out (says (hands []))
-    ≡ record { answer = says (record { run = record { running = false; gathered = 0; marked = false }; bytes = 0 }); gather = gather; out = out }
+    ≡ record { answer = says (record { run = noRun; bytes = 0 }); gather = gather; out = out }
 run-idle avc gather out =
     run-beside recorded avc gather out 0 none [] (omega arith) (omega arith)
     ∙ ap (λ (l : OutLaid). record { answer = withRun (recorded none) (l .answer); gather = gather; out = l .out }) (nothing-out out)
 
 -- units by themselves, or why there are none; `k` is the run as the code says it
 pub units-alone : (avc : Bool) (run : Run) (gather out : List ℕ) (x : Said Units) (k : Run) (answer : Said (RanOn Run)) (handed : Said ℕ) (out′ : List ℕ) →
-    answer ≡ withRun k handed → k ≡ record { running = false; gathered = 0; marked = false } →
+    answer ≡ withRun k handed → k ≡ noRun →
     _≡_ {A = OutLaid} (record { answer = handed; out = out′ }) (layUnits avc out x) →
     _≡_ {A = Laid (RanOn Run)} (record { answer = answer; gather = gather; out = out′ })
     (layDoes avc gather out (fedAfter (runOf run gather) (wholeSaid x)))

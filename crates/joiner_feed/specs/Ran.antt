@@ -24,6 +24,9 @@ runFrom h = record { running = h .running; gathered = h .gathered; marked = h .n
 abbrev pub recorded : step.Run Note → Run
 recorded run = runFrom (heldOf unmarked run)
 
+abbrev pub noRun : Run
+noRun = recorded step.none
+
 -- the run that it and the gather buffer stand for
 abbrev pub runOf : Run → List ℕ → step.Run Note
 runOf run gather = step.runOf (heldIn run) gather

@@ -9,7 +9,7 @@ ghost use Rattle.nal.specs.Said.{saidHanded};
 ghost use Rattle.nal.specs.Ran.{withRun};
 ghost use Rattle.joiner_feed.specs.Content.{topBit, fedAfter};
 ghost use Rattle.joiner_feed.specs.H264.{forbidden, fragmentIn, fragmented, check};
-ghost use Rattle.joiner_feed.specs.Ran.{runOf, ranSaid, ranHeard, layDoes};
+ghost use Rattle.joiner_feed.specs.Ran.{noRun, runOf, ranSaid, ranHeard, layDoes};
 use error::Error;
 use nal::Handed;
 use nal_read::Kind;
@@ -32,7 +32,7 @@ pub enum Ran {
 
 // No run is open.
 pub fn no_run() -> Run
-    ensures { λ r. ⌜ r ≡ record { running = false; gathered = 0; marked = false } ⌝ }
+    ensures { λ r. ⌜ r ≡ noRun ⌝ }
 {
     Run {
         running: false,
