@@ -6,7 +6,7 @@ use Prim.Native.Nat.{ℕ}
 use lib.Dec.{eqb}
 use lib.ListN.{getD}
 use Rattle.error.specs.declared.Error.{Error}
-use Rattle.error.specs.declared.Error.the-variants.{ErrHeaderSizeInsufficient, ErrHeaderSizeInsufficientForExtension, ElementPastPacket, ErrShortPacket, ErrBufferTooSmall, GatherTooSmall, OverLimits, OutsideDomain, HeaderExtensionPayloadNot32BitWords, ErrRfc3550headerIdrange, ErrRfc8285oneByteHeaderIdrange, ErrRfc8285oneByteHeaderSize, ErrRfc8285twoByteHeaderIdrange, ErrRfc8285twoByteHeaderSize, ErrHeaderExtensionNotFound, ErrHeaderExtensionsNotEnabled, StapASizeLargerThanBuffer, StapASizeCut, NaluTypeIsNotHandled, OtherSource, StartAndEnd, AlreadyClosed, ClosingTooFar, MissedTotalFull}
+use Rattle.error.specs.declared.Error.the-variants.{ErrHeaderSizeInsufficient, ErrHeaderSizeInsufficientForExtension, ElementPastPacket, ErrShortPacket, ErrBufferTooSmall, GatherTooSmall, OverLimits, OutsideDomain, HeaderExtensionPayloadNot32BitWords, ErrRfc3550headerIdrange, ErrRfc8285oneByteHeaderIdrange, ErrRfc8285oneByteHeaderSize, ErrRfc8285twoByteHeaderIdrange, ErrRfc8285twoByteHeaderSize, ErrHeaderExtensionNotFound, ErrHeaderExtensionsNotEnabled, StapASizeLargerThanBuffer, StapASizeCut, NaluTypeIsNotHandled, OtherSource, StartAndEnd, AlreadyClosed, ClosingTooFar, MissedTotalFull, OtherTime}
 use Rattle.error.specs.Refusal.{Refusal, refusalOf}
 
 -- the refusal of a number, carrying a and b where it carries any
@@ -34,7 +34,8 @@ numbered n a b =
     cond (eqb n 20) OtherSource (
     cond (eqb n 21) StartAndEnd (
     cond (eqb n 22) AlreadyClosed (
-    cond (eqb n 23) ClosingTooFar MissedTotalFull))))))))))))))))))))))
+    cond (eqb n 23) ClosingTooFar (
+    cond (eqb n 24) MissedTotalFull OtherTime)))))))))))))))))))))))
 
 abbrev pub errorOf : Refusal → Error
 errorOf r = numbered (r .number) (getD (r .carried) 0 0) (getD (r .carried) 1 0)
@@ -64,3 +65,4 @@ errorOf-refusalOf StartAndEnd = refl
 errorOf-refusalOf AlreadyClosed = refl
 errorOf-refusalOf ClosingTooFar = refl
 errorOf-refusalOf MissedTotalFull = refl
+errorOf-refusalOf OtherTime = refl

@@ -3,14 +3,14 @@
 use mathlib.Core.List.{List, [], _∷_}
 use Prim.Native.Nat.{ℕ}
 use Rattle.error.specs.declared.Error.{Error}
-use Rattle.error.specs.declared.Error.the-variants.{ErrHeaderSizeInsufficient, ErrHeaderSizeInsufficientForExtension, ElementPastPacket, ErrShortPacket, ErrBufferTooSmall, GatherTooSmall, OverLimits, OutsideDomain, HeaderExtensionPayloadNot32BitWords, ErrRfc3550headerIdrange, ErrRfc8285oneByteHeaderIdrange, ErrRfc8285oneByteHeaderSize, ErrRfc8285twoByteHeaderIdrange, ErrRfc8285twoByteHeaderSize, ErrHeaderExtensionNotFound, ErrHeaderExtensionsNotEnabled, StapASizeLargerThanBuffer, StapASizeCut, NaluTypeIsNotHandled, OtherSource, StartAndEnd, AlreadyClosed, ClosingTooFar, MissedTotalFull}
+use Rattle.error.specs.declared.Error.the-variants.{ErrHeaderSizeInsufficient, ErrHeaderSizeInsufficientForExtension, ElementPastPacket, ErrShortPacket, ErrBufferTooSmall, GatherTooSmall, OverLimits, OutsideDomain, HeaderExtensionPayloadNot32BitWords, ErrRfc3550headerIdrange, ErrRfc8285oneByteHeaderIdrange, ErrRfc8285oneByteHeaderSize, ErrRfc8285twoByteHeaderIdrange, ErrRfc8285twoByteHeaderSize, ErrHeaderExtensionNotFound, ErrHeaderExtensionsNotEnabled, StapASizeLargerThanBuffer, StapASizeCut, NaluTypeIsNotHandled, OtherSource, StartAndEnd, AlreadyClosed, ClosingTooFar, MissedTotalFull, OtherTime}
 
 -- a refusal as the paper has it: a number, and what it carries
 pub record Refusal : Type 0 where
   pub number : ℕ
   pub carried : List ℕ
 
--- the paper's table "Refusal numbers", by the Rust's names where it has one
+-- the paper's table "Refusal numbers", by the Rust's names where it has one, and 25 of E4
 abbrev pub numberOf : Error → ℕ
 numberOf ErrHeaderSizeInsufficient = 1
 numberOf ErrHeaderSizeInsufficientForExtension = 2
@@ -36,6 +36,7 @@ numberOf StartAndEnd = 21
 numberOf AlreadyClosed = 22
 numberOf ClosingTooFar = 23
 numberOf MissedTotalFull = 24
+numberOf OtherTime = 25
 
 -- "17 .. (carries size and bytes left)", "19 .. (carries it)"; no other carries anything
 abbrev pub carriedBy : Error → List ℕ
@@ -63,6 +64,7 @@ carriedBy StartAndEnd = []
 carriedBy AlreadyClosed = []
 carriedBy ClosingTooFar = []
 carriedBy MissedTotalFull = []
+carriedBy OtherTime = []
 
 abbrev pub refusalOf : Error → Refusal
 refusalOf e = record { number = numberOf e; carried = carriedBy e }

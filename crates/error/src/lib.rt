@@ -1,4 +1,4 @@
-// Every refusal, 1 to 24, under the name that error.rs of rtp 0.17.2 gives it where it has one.
+// Every refusal, 1 to 25, under the name that error.rs of rtp 0.17.2 gives it where it has one.
 //
 // specs/Refusal.antt gives each its number and what it carries. All other crates answer a refusal
 // as a value of this one enum.
@@ -54,6 +54,8 @@ pub enum Error {
     ClosingTooFar,
     // 24: missed total would pass 4,294,967,295
     MissedTotalFull,
+    // 25: joiner: fragment of another time
+    OtherTime,
 }
 
 impl Error {
@@ -86,6 +88,7 @@ impl Error {
             Error::AlreadyClosed => 22,
             Error::ClosingTooFar => 23,
             Error::MissedTotalFull => 24,
+            Error::OtherTime => 25,
         }
     }
 }

@@ -11,7 +11,7 @@ use lib.Seq.{take-all}
 use lib.ListN.{length, take, drop, length-drop}
 use borrow.Author.Tests.{le-leb, lt-leb, lt-ltb, le-ltb, ne-eqb}
 use Rattle.error.specs.declared.Error.{Error}
-use Rattle.error.specs.declared.Error.the-variants.{ErrHeaderSizeInsufficient, ErrHeaderSizeInsufficientForExtension, ElementPastPacket, ErrShortPacket, ErrBufferTooSmall, GatherTooSmall, OverLimits, OutsideDomain, HeaderExtensionPayloadNot32BitWords, ErrRfc3550headerIdrange, ErrRfc8285oneByteHeaderIdrange, ErrRfc8285oneByteHeaderSize, ErrRfc8285twoByteHeaderIdrange, ErrRfc8285twoByteHeaderSize, ErrHeaderExtensionNotFound, ErrHeaderExtensionsNotEnabled, StapASizeLargerThanBuffer, StapASizeCut, NaluTypeIsNotHandled, OtherSource, StartAndEnd, AlreadyClosed, ClosingTooFar, MissedTotalFull}
+use Rattle.error.specs.declared.Error.the-variants.{ErrHeaderSizeInsufficient, ErrHeaderSizeInsufficientForExtension, ElementPastPacket, ErrShortPacket, ErrBufferTooSmall, GatherTooSmall, OverLimits, OutsideDomain, HeaderExtensionPayloadNot32BitWords, ErrRfc3550headerIdrange, ErrRfc8285oneByteHeaderIdrange, ErrRfc8285oneByteHeaderSize, ErrRfc8285twoByteHeaderIdrange, ErrRfc8285twoByteHeaderSize, ErrHeaderExtensionNotFound, ErrHeaderExtensionsNotEnabled, StapASizeLargerThanBuffer, StapASizeCut, NaluTypeIsNotHandled, OtherSource, StartAndEnd, AlreadyClosed, ClosingTooFar, MissedTotalFull, OtherTime}
 use Rattle.error.specs.Refusal.{refusalOf}
 use Rattle.error.specs.Said.{says, refused}
 use Rattle.elements.specs.Named.{absent}
@@ -97,6 +97,7 @@ refusal-told StartAndEnd x = refl
 refusal-told AlreadyClosed x = refl
 refusal-told ClosingTooFar x = refl
 refusal-told MissedTotalFull x = refl
+refusal-told OtherTime x = refl
 
 -- a number other than 17 and 19 tells the refusal whole
 number-told : {A : Type 0} (e : Error) (x : A) → carries (refusalOf e .number) ≡ 0 → saidWith (refusalOf e .number) x ≡ refused (refusalOf e)

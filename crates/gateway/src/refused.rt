@@ -7,7 +7,7 @@ use error::Error;
 
 #[repr(C)]
 pub struct Refused {
-    // 0 where the call answers; else which refusal it is, 1 to 24
+    // 0 where the call answers; else which refusal it is, 1 to 25
     pub number: u8,
     // 17: the size and the bytes left; 19: the NAL type and a zero; else zeros
     pub carried: [usize; 2],
@@ -41,6 +41,7 @@ fn carried(e: Error) -> [usize; 2]
         Error::AlreadyClosed => [0, 0],
         Error::ClosingTooFar => [0, 0],
         Error::MissedTotalFull => [0, 0],
+        Error::OtherTime => [0, 0],
     }
 }
 
