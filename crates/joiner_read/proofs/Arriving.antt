@@ -19,14 +19,14 @@ use Rattle.packet.specs.Fronts.{FrontHeard, frontHeard}
 use Rattle.packet.specs.Read.{Payload, PacketReading, behind, readPacket}
 use Rattle.packet.specs.Said.{readingHeard}
 use Rattle.packet.proofs.Reading.{payload-inside}
-use Rattle.joiner_read.specs.Arrive.{Arrived, arrivalOf}
+use Rattle.joiner_read.specs.Arrive.{Arrived, arrivedBy, arrivalOf}
 
 -- the reader's answer, shrunk to what the joiner needs
 abbrev pub shrunk : FrontHeard → Said Arrived
 shrunk h = shrink (h .answer) (h .front .fixed)
   where
     shrink : Said Payload → Fixed → Said Arrived
-    shrink (says p) f = says (record { source = f .ssrc; number = f .«sequence_number»; place = p .place; len = p .len })
+    shrink (says p) f = says (record { source = f .ssrc; number = f .«sequence_number»; time = f .timestamp; place = p .place; len = p .len })
     shrink (refused e) f = refused e
 
 pub shrunk-is : (x : Said PacketReading) → shrunk (frontHeard (readingHeard x)) ≡ arrivalOf x
@@ -37,7 +37,7 @@ shrunk-is (refused r) = refl
 -- a packet whose padding and extension bits are clear
 pub arrival-plain : (s : List ℕ) → 12 ≤ length s → length s ≤ 65535 → fixedLength (countOf s) ≤ length s → getD s 0 0 / 16 % 4 ≡ 0 →
     arrivalOf (readPacket s)
-    ≡ says (record { source = u32At s 8; number = u16At s 2; place = fixedLength (countOf s); len = length s - fixedLength (countOf s) })
+    ≡ says (record { source = u32At s 8; number = u16At s 2; time = u32At s 4; place = fixedLength (countOf s); len = length s - fixedLength (countOf s) })
 unfolding readPacket fieldsAt
 arrival-plain s long within fits flags =
     let n : ℕ = fixedLength (countOf s) in
@@ -46,22 +46,19 @@ arrival-plain s long within fits flags =
     let place : length s - length (drop n s) ≡ n = rw (length-drop n s) (omega arith) in
     ap (λ (r : _). arrivalOf (behind s r)) (header-plain s within (omega arith) fits no-x)
     ∙ rw (ne-eqb (getD s 0 0 / 32 % 2) 1 no-p)
-    (ap (λ (k : ℕ). says (record { source = u32At s 8; number = u16At s 2; place = k; len = length s - k })) place)
+    (ap (λ (k : ℕ). says (record { source = u32At s 8; number = u16At s 2; time = u32At s 4; place = k; len = length s - k })) place)
 
 -- what was read of a packet, had back from what arrived
 module _ (x : Said PacketReading) where
   pub came-from : (a : Arrived) → arrivalOf x ≡ says a →
-      (r : PacketReading) × (x ≡ says r)
-      × (a ≡ record { source = r .fields .source; number = r .fields .number; place = r .payload .place; len = r .payload .len })
+      (r : PacketReading) × (x ≡ says r) × (a ≡ arrivedBy r)
   came-from a e = go x refl
     where
       go : (y : Said PacketReading) → x ≡ y →
-          (r : PacketReading) × (x ≡ says r)
-          × (a ≡ record { source = r .fields .source; number = r .fields .number; place = r .payload .place; len = r .payload .len })
+          (r : PacketReading) × (x ≡ says r) × (a ≡ arrivedBy r)
       go (says r) is =
-          let q : says a ≡ says (record { source = r .fields .source; number = r .fields .number; place = r .payload .place; len = r .payload .len }) =
-          sym e ∙ ap arrivalOf is in
-          let same : a ≡ record { source = r .fields .source; number = r .fields .number; place = r .payload .place; len = r .payload .len } = cc in
+          let q : says a ≡ says (arrivedBy r) = sym e ∙ ap arrivalOf is in
+          let same : a ≡ arrivedBy r = cc in
           (r, is, same)
       go (refused n) is = absurd (not-says (sym (ap arrivalOf is) ∙ e))
 

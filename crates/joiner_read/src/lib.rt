@@ -1,4 +1,4 @@
-// What the joiner needs of a packet: its source, its number, and where its payload is.
+// What the joiner needs of a packet: its source, its number, its timestamp, and where its payload is.
 ghost use mathlib.Core.Path.{_≡_};
 ghost use Rattle.packet.specs.Read.{readPacket};
 ghost use Rattle.joiner_read.specs.Arrive.{arrivalSaid, arrivalOf};
@@ -10,6 +10,7 @@ pub enum Arrival {
     Packet {
         source: u32,
         number: u16,
+        time: u32,
         at: usize,
         len: usize,
     },
@@ -26,6 +27,7 @@ fn read(packet: &[u8]) -> Arrival
         PacketRead::Payload { at, len } => Arrival::Packet {
             source: answer.front.fixed.ssrc,
             number: answer.front.fixed.sequence_number,
+            time: answer.front.fixed.timestamp,
             at,
             len,
         },
@@ -54,6 +56,7 @@ pub fn arrive(packet: &[u8]) -> Arrival
     Arrival::Packet {
         source: wire::get_u32(packet, 8),
         number: wire::get_u16(packet, 2),
+        time: wire::get_u32(packet, 4),
         at,
         len: packet.len() - at,
     }
