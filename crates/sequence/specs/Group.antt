@@ -1,6 +1,6 @@
 -- Packets that belong together, and what they are handed out as. Assumes nothing.
 use mathlib.Core.Bool.{Bool, true, false, _&&_}
-use mathlib.Core.List.{List, [], _∷_, _++_, map}
+use mathlib.Core.List.{List, [], _∷_, _++_}
 use Prim.Native.Nat.{ℕ, suc, _+_}
 use lib.ListN.{length}
 use Rattle.wire.specs.Each.{Each}
@@ -23,9 +23,18 @@ module _ {P O : Type 0} where
   handedOf [] = []
   handedOf (g ∷ gs) = g .handed ∷ handedOf gs
 
--- the same group, of whose packets something else is known
-abbrev pub mapGroup : {P Q O : Type 0} → (P → Q) → Group P O → Group Q O
-mapGroup f g = record { first = f (g .first); others = map f (g .others); handed = g .handed }
+-- the same packets, the first of index i, of each of which something else is known, by its index
+abbrev pub mapFrom : {P Q : Type 0} → (ℕ → P → Q) → ℕ → List P → List Q
+mapFrom f i [] = []
+mapFrom f i (p ∷ ps) = f i p ∷ mapFrom f (suc i) ps
+
+-- the same groups
+abbrev pub mapGroup : {P Q O : Type 0} → (ℕ → P → Q) → ℕ → Group P O → Group Q O
+mapGroup f i g = record { first = f i (g .first); others = mapFrom f (suc i) (g .others); handed = g .handed }
+
+abbrev pub mapGroups : {P Q O : Type 0} → (ℕ → P → Q) → ℕ → List (Group P O) → List (Group Q O)
+mapGroups f i [] = []
+mapGroups f i (g ∷ gs) = mapGroup f i g ∷ mapGroups f (i + length (packetsIn g)) gs
 
 -- what each group is handed out as is so
 abbrev pub EachHanded : {P O : Type 0} → (O → Type 0) → List (Group P O) → Type 0
