@@ -19,7 +19,7 @@ use Rattle.joiner_step.specs.Run as step
 use Rattle.joiner_step.specs.Choice.{Arrived}
 use Rattle.joiner_step.specs.Step.{laidBy, fedTo, byCheck, runAt}
 use Rattle.joiner_feed.specs.declared.Run.{Run}
-use Rattle.joiner_feed.specs.Content.{Content, Note, fed, fedAfter}
+use Rattle.joiner_feed.specs.Content.{Content, timed, Note, fed, fedAfter}
 use Rattle.joiner_feed.specs.Ran.{runFrom, recorded, noRun, layDoes}
 use Rattle.joiner_feed.specs.Ran as feed
 use Rattle.joiner.specs.declared.Joiner.{Joiner}
@@ -31,7 +31,7 @@ use Rattle.joiner.specs.Said.{heldAt, acceptedJoiner, acceptedAnswer}
 -- what the joiner needs of it, from where its payload is
 abbrev pub arrivedAt : List ℕ → read.Arrived → Arrived Known
 arrivedAt packet a =
-    record { source = a .source; number = a .number; known = known (part packet (a .place) (a .len)) }
+    record { source = a .source; number = a .number; known = known (a .time) (part packet (a .place) (a .len)) }
 
 module _ (packet : List ℕ) where
   pub came : (a : read.Arrived) → arrivalOf (readPacket packet) ≡ says a → arrivedIn packet (readPacket packet) ≡ says (arrivedAt packet a)
@@ -68,11 +68,11 @@ module _ (j : Joiner) (d number : ℕ) (gather out : List ℕ) where
       go l (says n) = refl
       go l (refused r) = refl
 
-  pub checked-is : (x : Said Content) →
-      asStep (byCheck (choiceOf j) (keptOf j) d number gather out x)
-      ≡ stepped j number (j .missed + d) d (layDoes (avcOf j) gather out (fedAfter (runAt (choiceOf j) (keptOf j) d gather) x))
-  checked-is (refused r) = refl
-  checked-is (says x) = fed-is (says (fed (runAt (choiceOf j) (keptOf j) d gather) x))
+  pub checked-is : (time : ℕ) (x : Said Content) →
+      asStep (byCheck (choiceOf j) (keptOf j) d number gather out (timed time x))
+      ≡ stepped j number (j .missed + d) d (layDoes (avcOf j) gather out (fedAfter (runAt (choiceOf j) (keptOf j) d gather) time x))
+  checked-is time (refused r) = refl
+  checked-is time (says x) = fed-is (fed (runAt (choiceOf j) (keptOf j) d gather) time x)
 
 -- ---- the run that is open
 

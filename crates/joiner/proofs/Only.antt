@@ -13,7 +13,8 @@ use Rattle.packet.proofs.Only.{packet-sayable}
 use Rattle.sequence.specs.Number.{distanceOf, nextOf}
 use Rattle.joiner_step.specs.Step.{Accepted, Answer, accepted, late}
 use Rattle.joiner_step.proofs.Sayable.{Speaks, step-sayable, closing-cases}
-use Rattle.joiner_feed.proofs.Sayable.{check-sayable}
+use Rattle.joiner_feed.specs.H264.{check}
+use Rattle.joiner_feed.proofs.Sayable.{check-sayable, timed-sayable, fed-sayable}
 use Rattle.joiner.specs.declared.Joiner.{Joiner}
 use Rattle.joiner.specs.declared.Joined.{Joined}
 use Rattle.joiner.specs.declared.Joined.the-variants as joined
@@ -48,8 +49,8 @@ speaks : (avc : Bool) → Speaks (choice avc)
 speaks avc =
     record {
       reads = λ packet. reads-sayable packet (readPacket packet) (packet-sayable packet);
-      checks = λ p. check-sayable (p .payload);
-      feeds = λ run x. refl;
+      checks = λ p. timed-sayable (p .time) (check (p .payload)) (check-sayable (p .payload));
+      feeds = λ run x. fed-sayable run (x .time) (x .content);
     }
 
 abbrev Fine : Stepped → Type 0

@@ -16,7 +16,7 @@ use Rattle.sequence.specs.Group.{Group}
 use Rattle.sequence.specs.Codec.{Owes}
 use Rattle.joiner_step.specs.Run.{Units}
 use Rattle.joiner_step.specs.General.{Enough, codec}
-use Rattle.joiner_feed.specs.Content.{Fragment, whole, start, middle, end, topBit}
+use Rattle.joiner_feed.specs.Content.{Fragment, whole, start, middle, end, timed, topBit}
 use Rattle.joiner_feed.specs.H264.{wholeSaid, fragmented, checkBy, check}
 use Rattle.joiner_feed.proofs.Owing.{owes-whole, owes-cut}
 use Rattle.joiner_feed.proofs.Topping.{top-low, top-type, top-is}
@@ -47,8 +47,8 @@ shape-fuA : (head bits : ℕ) (p : Fragment) (first last : Bool) → 1 ≤ lengt
     shape (fuA head bits p) ≡ fragment first last (head % 128)
 unfolding fuA
 shape-fuA head bits p first last h e f l =
-    shape-fragment (indicator (p .note .marked) head ∷ (bits + head % 32) ∷ p .part) (omega arith) (type-of (p .note .marked) head)
-    ∙ rw (f, l, head-of (p .note .marked) head bits e)
+    shape-fragment (indicator (p .marked) head ∷ (bits + head % 32) ∷ p .part) (omega arith) (type-of (p .marked) head)
+    ∙ rw (f, l, head-of (p .marked) head bits e)
 
 module _ (head : ℕ) (p : Fragment) (h : 1 ≤ length (p .part)) where
   shape-start : shape (fuA head 128 p) ≡ fragment true false (head % 128)
@@ -86,7 +86,7 @@ module _ (head : ℕ) (f : Fragment) (h : 1 ≤ length (f .part)) where
   unfolding fuA
   check-fuA bits first last e =
       check-shape (fuA head bits f) _ e
-      ∙ ap (λ (m : Bool). fragmented first last (head % 128) (record { note = record { marked = m }; part = f .part })) (top-is (f .note .marked) (head / 32 % 4 * 32 + 28) (omega arith))
+      ∙ ap (λ (m : Bool). fragmented first last (head % 128) (record { marked = m; part = f .part })) (top-is (f .marked) (head / 32 % 4 * 32 + 28) (omega arith))
 
   check-start : check (fuA head 128 f) ≡ says (start f)
   check-start = check-fuA 128 true false (shape-start head f h)
@@ -100,21 +100,23 @@ module _ (head : ℕ) (f : Fragment) (h : 1 ≤ length (f .part)) where
 -- ---- in a room that is enough
 
 module _ (avc : Bool) (most largest : ℕ) (bounded : most ≤ 16777215) where
-  abbrev Owed : Group (List ℕ) Units → Type 0
-  Owed g = Owes (codec (choice avc)) (Enough most largest) (knownGroup g)
+  -- where all its packets carry the time t
+  abbrev Owed : ℕ → Group (List ℕ) Units → Type 0
+  Owed t g = Owes (codec (choice avc)) (Enough most largest) (knownGroup t g)
 
   -- one payload by itself
-  pub owes-one : (payload : List ℕ) (u : List ℕ) (us : Units) → check payload ≡ says (whole (u ∷ us)) →
-      Owed (record { first = payload; others = []; handed = u ∷ us })
-  owes-one payload u us e =
-      owes-whole (λ packet. arrivedIn packet (readPacket packet)) (λ p. check (p .payload)) avc most largest bounded (known payload) u us e
+  pub owes-one : (t : ℕ) (payload : List ℕ) (u : List ℕ) (us : Units) → check payload ≡ says (whole (u ∷ us)) →
+      Owed t (record { first = payload; others = []; handed = u ∷ us })
+  owes-one t payload u us e =
+      owes-whole (λ packet. arrivedIn packet (readPacket packet)) (λ p. p .time) (λ p. check (p .payload)) avc most largest bounded (known t payload) u us e
 
-  pub owes : (s : Sent) → Lawful s → gatheredOf s ≤ most → Owed (groupOf s)
-  owes (aggregated head unit others) w h = owes-one (stapA head (unit ∷ others)) unit others (check-stapA head unit others (w .0) (w .1))
-  owes (alone unit) w h = owes-one unit unit [] (check-alone unit w)
-  owes (sent.fragmented head first between last) w h =
-      subst (λ (l : List Known). Owes (codec (choice avc)) (Enough most largest) (record { first = known (fuA head 128 first); others = l; handed = (topBit (anyMarked first between last) (head % 128) ∷ body first between last) ∷ [] }))
-      (sym (map-append known (map (fuA head 0) between) (fuA head 64 last ∷ []) ∙ ap (λ (l : List Known). l ++ (known (fuA head 64 last) ∷ [])) (map-map known (fuA head 0) between)))
-      (owes-cut (λ packet. arrivedIn packet (readPacket packet)) (λ p. check (p .payload)) avc most largest bounded
-      (λ f. known (fuA head 128 f)) (λ f. known (fuA head 0 f)) (λ f. known (fuA head 64 f)) (head % 128 ∷ []) (λ f. 1 ≤ length (f .part))
-      (check-start head) (check-middle head) (check-end head) first between last (w .0 .0) (w .0 .1) (w .1) h)
+  pub owes : (t : ℕ) (s : Sent) → Lawful s → gatheredOf s ≤ most → Owed t (groupOf s)
+  owes t (aggregated head unit others) w h = owes-one t (stapA head (unit ∷ others)) unit others (check-stapA head unit others (w .0) (w .1))
+  owes t (alone unit) w h = owes-one t unit unit [] (check-alone unit w)
+  owes t (sent.fragmented head first between last) w h =
+      subst (λ (l : List Known). Owes (codec (choice avc)) (Enough most largest) (record { first = known t (fuA head 128 first); others = l; handed = (topBit (anyMarked first between last) (head % 128) ∷ body first between last) ∷ [] }))
+      (sym (map-append (known t) (map (fuA head 0) between) (fuA head 64 last ∷ []) ∙ ap (λ (l : List Known). l ++ (known t (fuA head 64 last) ∷ [])) (map-map (known t) (fuA head 0) between)))
+      (owes-cut (λ packet. arrivedIn packet (readPacket packet)) (λ p. p .time) (λ p. check (p .payload)) avc most largest bounded t
+      (λ f. known t (fuA head 128 f)) (λ f. known t (fuA head 0 f)) (λ f. known t (fuA head 64 f)) (head % 128 ∷ []) (λ f. 1 ≤ length (f .part))
+      (λ f p. ap (timed t) (check-start head f p)) (λ f p. ap (timed t) (check-middle head f p)) (λ f p. ap (timed t) (check-end head f p))
+      first between last (w .0 .0) (w .0 .1) (w .1) h)

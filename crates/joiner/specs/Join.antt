@@ -8,7 +8,7 @@ use Rattle.packet.specs.Read.{PacketReading, readPacket}
 use Rattle.joiner_step.specs.Choice.{Arrived, Choice}
 use Rattle.joiner_step.specs.Step.{Kept, step, closing, opening}
 use Rattle.joiner_step.specs.Step as any
-use Rattle.joiner_feed.specs.Content.{Content, Note, choosing}
+use Rattle.joiner_feed.specs.Content.{Timed, Note, choosing}
 use Rattle.joiner_feed.specs.H264.{check}
 use Rattle.joiner.specs.declared.Joiner.{Joiner}
 
@@ -20,7 +20,7 @@ keptOf j =
       source = j .source;
       awaited = j .awaited;
       missed = j .missed;
-      run = record { running = j .running; gathered = j .gathered; note = record { marked = j .marked } };
+      run = record { running = j .running; gathered = j .gathered; note = record { marked = j .marked; time = j .time } };
       closed = j .closed;
     }
 
@@ -33,6 +33,7 @@ joinerOf k =
       running = k .run .running;
       gathered = k .run .gathered;
       marked = k .run .note .marked;
+      time = k .run .note .time;
       closed = k .closed;
     }
 
@@ -52,10 +53,12 @@ asClosing st = record { joiner = joinerOf (st .joiner); answer = st .answer }
 
 -- what is known of a packet
 pub record Known : Type 0 where
+  -- its timestamp
+  pub time : ℕ
   pub payload : List ℕ
 
-abbrev pub known : List ℕ → Known
-known payload = record { payload = payload }
+abbrev pub known : ℕ → List ℕ → Known
+known time payload = record { time = time; payload = payload }
 
 abbrev pub arrivedIn : List ℕ → Said PacketReading → Said (Arrived Known)
 arrivedIn packet (refused r) = refused r
@@ -64,18 +67,18 @@ arrivedIn packet (says r) =
     (record {
       source = r .fields .source;
       number = r .fields .number;
-      known = known (part packet (r .payload .place) (r .payload .len));
+      known = known (r .fields .time) (part packet (r .payload .place) (r .payload .len));
     })
 
 -- by the packet's reader and H.264's checks, with this prefix
-abbrev pub choice : Bool → Choice Known Content Note
-choice avc = choosing (λ packet. arrivedIn packet (readPacket packet)) (λ p. check (p .payload)) avc
+abbrev pub choice : Bool → Choice Known Timed Note
+choice avc = choosing (λ packet. arrivedIn packet (readPacket packet)) (λ p. p .time) (λ p. check (p .payload)) avc
 
 -- "handed out as Annex B": the one prefix that a record can ask for
 abbrev pub avcOf : Joiner → Bool
 avcOf j = false
 
-abbrev pub choiceOf : Joiner → Choice Known Content Note
+abbrev pub choiceOf : Joiner → Choice Known Timed Note
 choiceOf j = choice (avcOf j)
 
 -- ---- its calls

@@ -45,6 +45,7 @@ acceptedJoiner j number missed (says r) =
       running = r .run .running;
       gathered = r .run .gathered;
       marked = r .run .marked;
+      time = r .run .time;
       closed = false;
     }
 acceptedJoiner j number missed (refused r) = j

@@ -7,9 +7,9 @@ use lib.ListN.{length, getD}
 use Rattle.wire.specs.Each.{Each}
 use Rattle.wire.specs.Packets.{joined}
 use Rattle.nal.specs.Unpack.{sizedUnits, Sized}
-use Rattle.sequence.specs.Group.{Group, mapGroup}
+use Rattle.sequence.specs.Group.{Group}
 use Rattle.joiner_step.specs.Run.{Units}
-use Rattle.joiner_feed.specs.Content.{Fragment, partIn, noteOf, topBit}
+use Rattle.joiner_feed.specs.Content.{Fragment, partIn, markedIn, topBit}
 use Rattle.joiner.specs.Join.{Known, known}
 
 -- "A group is one STAP-A, one plain unit, or all fragments of one unit"
@@ -27,7 +27,7 @@ stapA head us = head ∷ sizedUnits us
 -- RFC 6184, section 5.8: F, and the unit's NRI, beside type 28; then start bit (128), end bit (64) and the unit's type; then a part of
 -- the unit
 unfoldable pub fuA : ℕ → ℕ → Fragment → List ℕ
-fuA head bits f = topBit (f .note .marked) (head / 32 % 4 * 32 + 28) ∷ (bits + head % 32) ∷ f .part
+fuA head bits f = topBit (f .marked) (head / 32 % 4 * 32 + 28) ∷ (bits + head % 32) ∷ f .part
 
 -- a fragmented unit's bytes behind the first
 abbrev pub body : Fragment → List Fragment → Fragment → List ℕ
@@ -35,7 +35,7 @@ body first between last = first .part ++ (joined (map partIn between) ++ last .p
 
 -- whether one of its fragments has its F set
 abbrev pub anyMarked : Fragment → List Fragment → Fragment → Bool
-anyMarked first between last = noteOf (first ∷ between ++ (last ∷ [])) .marked
+anyMarked first between last = markedIn (first ∷ between ++ (last ∷ []))
 
 -- The payloads of a group, and the units it is handed out as. Of a fragmented one: "the rebuilt top bit is set if any fragment of the unit had it
 -- set" (E3).
@@ -49,9 +49,9 @@ groupOf (fragmented head first between last) =
       handed = (topBit (anyMarked first between last) (head % 128) ∷ body first between last) ∷ [];
     }
 
--- of which the joiner knows this
-abbrev pub knownGroup : Group (List ℕ) Units → Group Known Units
-knownGroup g = mapGroup known g
+-- of which the joiner knows this, where all of them carry the time t
+abbrev pub knownGroup : ℕ → Group (List ℕ) Units → Group Known Units
+knownGroup t g = record { first = known t (g .first); others = map (known t) (g .others); handed = g .handed }
 
 abbrev pub groupsOf : List Sent → List (Group (List ℕ) Units)
 groupsOf sents = map groupOf sents

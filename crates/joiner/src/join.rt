@@ -42,6 +42,7 @@ impl Joiner {
             running: false,
             gathered: 0,
             marked: false,
+            time: 0,
             closed: false,
         }
     }
@@ -53,10 +54,13 @@ impl Joiner {
         if self.running {
             return false;
         }
-        if self.gathered == 0 {
-            return self.marked;
+        if self.gathered != 0 {
+            return true;
         }
-        true
+        if self.marked {
+            return true;
+        }
+        self.time != 0
     }
 
     // "A refusal .. changes no buffer and no state"; nor does Late.
@@ -78,6 +82,7 @@ impl Joiner {
                 running: self.running,
                 gathered: self.gathered,
                 marked: self.marked,
+                time: self.time,
             };
         }
         no_run()
@@ -96,6 +101,7 @@ impl Joiner {
                     running: run.running,
                     gathered: run.gathered,
                     marked: run.marked,
+                    time: run.time,
                     closed: false,
                 },
                 answer: Joined::Accepted {
@@ -108,17 +114,18 @@ impl Joiner {
         }
     }
 
-    // A packet that was read, by its source and number.
+    // A packet that was read, by its source, number and timestamp.
     fn arrived(
         self,
         source: u32,
         number: u16,
+        time: u32,
         payload: &[u8],
         gather: &mut [u8],
         out: &mut [u8],
     ) -> Step
         requires { ⌜ (length (now payload) ≤ 65535) × (self .gathered ≤ length (now gather)) × (self .closed ≡ false) ⌝ }
-        ensures { λ r. ⌜ stepHeard r (now (gather .exit)) (now (out .exit)) ≡ asStep (bySource (choiceOf self) (keptOf self) (record { source = source; number = number; known = known (now (payload .entry)) }) (now (gather .entry)) (now (out .entry))) ⌝ }
+        ensures { λ r. ⌜ stepHeard r (now (gather .exit)) (now (out .exit)) ≡ asStep (bySource (choiceOf self) (keptOf self) (record { source = source; number = number; known = known time (now (payload .entry)) }) (now (gather .entry)) (now (out .entry))) ⌝ }
     {
         if source != self.source {
             return self.unchanged(Joined::Refused(Error::OtherSource));
@@ -131,7 +138,7 @@ impl Joiner {
         if 4294967295 < missed {
             return self.unchanged(Joined::Refused(Error::MissedTotalFull));
         }
-        let ran = feed(self.run_at(d), IS_AVC, payload, gather, out);
+        let ran = feed(self.run_at(d), IS_AVC, time, payload, gather, out);
         self.accept(d, number, missed as u32, ran)
     }
 
@@ -156,9 +163,10 @@ impl Joiner {
             Arrival::Packet {
                 source,
                 number,
+                time,
                 at,
                 len,
-            } => self.arrived(source, number, &packet[at..at + len], gather, out),
+            } => self.arrived(source, number, time, &packet[at..at + len], gather, out),
             Arrival::Refused(e) => self.unchanged(Joined::Refused(e)),
         }
     }
@@ -191,6 +199,7 @@ impl Joiner {
                 running: false,
                 gathered: 0,
                 marked: false,
+                time: 0,
                 closed: true,
             },
             answer: Closed::Closed {

@@ -22,6 +22,8 @@ pub struct Joiner {
     pub gathered: usize,
     // a fragment of the open run had its forbidden bit set; false where no run is open
     pub marked: bool,
+    // the timestamp that the fragments of the open run share; 0 where no run is open
+    pub time: u32,
     // closed: every call answers 22
     pub closed: bool,
 }

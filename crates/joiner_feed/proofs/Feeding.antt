@@ -23,15 +23,15 @@ run-idle avc gather out =
     ∙ ap (λ (l : OutLaid). record { answer = withRun (recorded none) (l .answer); gather = gather; out = l .out }) (nothing-out out)
 
 -- units by themselves, or why there are none; `k` is the run as the code says it
-pub units-alone : (avc : Bool) (run : Run) (gather out : List ℕ) (x : Said Units) (k : Run) (answer : Said (RanOn Run)) (handed : Said ℕ) (out′ : List ℕ) →
+pub units-alone : (avc : Bool) (run : Run) (time : ℕ) (gather out : List ℕ) (x : Said Units) (k : Run) (answer : Said (RanOn Run)) (handed : Said ℕ) (out′ : List ℕ) →
     answer ≡ withRun k handed → k ≡ noRun →
     _≡_ {A = OutLaid} (record { answer = handed; out = out′ }) (layUnits avc out x) →
     _≡_ {A = Laid (RanOn Run)} (record { answer = answer; gather = gather; out = out′ })
-    (layDoes avc gather out (fedAfter (runOf run gather) (wholeSaid x)))
-units-alone avc run gather out x k answer handed out′ e f l =
+    (layDoes avc gather out (fedAfter (runOf run gather) time (wholeSaid x)))
+units-alone avc run time gather out x k answer handed out′ e f l =
     units-heard recorded avc gather out 0 none x answer handed out′ (e ∙ ap (λ (r : Run). withRun r handed) f) l (omega arith) (omega arith)
     ∙ go x
   where
-    go : (y : Said Units) → layRun recorded avc gather out (handing none [] y) ≡ layDoes avc gather out (fedAfter (runOf run gather) (wholeSaid y))
+    go : (y : Said Units) → layRun recorded avc gather out (handing none [] y) ≡ layDoes avc gather out (fedAfter (runOf run gather) time (wholeSaid y))
     go (says units) = refl
     go (refused r) = refl

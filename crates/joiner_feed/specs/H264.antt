@@ -1,4 +1,4 @@
--- The checks of an H.264 payload alone, and what it then holds: 4, 19, 17 or 18, 21. Assumes nothing.
+-- The checks of an H.264 payload alone, and what it then holds: 4, 19, 21, 17 or 18. Assumes nothing.
 use mathlib.Core.Bool.{Bool, true, false}
 use mathlib.Core.List.{List, [], _∷_}
 use Prim.Native.Nat.{ℕ, _/_}
@@ -20,7 +20,7 @@ forbidden payload = bit (getD payload 0 0 / 128)
 
 -- an FU-A, whose part of the unit stands behind two bytes
 abbrev pub fragmentIn : List ℕ → Fragment
-fragmentIn payload = record { note = record { marked = forbidden payload }; part = drop 2 payload }
+fragmentIn payload = record { marked = forbidden payload; part = drop 2 payload }
 
 -- "21: FU-A with start and end both set"; "its first byte being NRI and type as in 002"
 abbrev pub fragmented : Bool → Bool → ℕ → Fragment → Said Content

@@ -11,18 +11,18 @@ use Rattle.joiner_step.specs.Run.{Held, heldOf, Does, fedSaid}
 use Rattle.joiner_feed.specs.declared.Run.{Run}
 use Rattle.joiner_feed.specs.declared.Ran.{Ran}
 use Rattle.joiner_feed.specs.declared.Ran.the-variants as ran
-use Rattle.joiner_feed.specs.Content.{Note, unmarked}
+use Rattle.joiner_feed.specs.Content.{Note, blank}
 
 -- what a record keeps of a run
 abbrev pub heldIn : Run → Held Note
-heldIn run = record { running = run .running; gathered = run .gathered; note = record { marked = run .marked } }
+heldIn run = record { running = run .running; gathered = run .gathered; note = record { marked = run .marked; time = run .time } }
 
 -- and how the code says it
 abbrev pub runFrom : Held Note → Run
-runFrom h = record { running = h .running; gathered = h .gathered; marked = h .note .marked }
+runFrom h = record { running = h .running; gathered = h .gathered; marked = h .note .marked; time = h .note .time }
 
 abbrev pub recorded : step.Run Note → Run
-recorded run = runFrom (heldOf unmarked run)
+recorded run = runFrom (heldOf blank run)
 
 abbrev pub noRun : Run
 noRun = recorded step.none

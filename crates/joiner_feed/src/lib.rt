@@ -2,7 +2,7 @@
 //
 // Only proved code calls this crate, so its function may ask that the run lies in the gather buffer.
 ghost use mathlib.Core.Path.{_≡_};
-ghost use mathlib.Core.Bool.{true, false, _||_};
+ghost use mathlib.Core.Bool.{true, false, _&&_, _||_};
 ghost use Prim.Native.Nat.{_≤_};
 ghost use lib.ListN.{length};
 ghost use Rattle.nal.specs.Said.{saidHanded};
@@ -22,6 +22,8 @@ pub struct Run {
     pub gathered: usize,
     // a fragment of the open run had its forbidden bit set; false where no run is open
     pub marked: bool,
+    // the timestamp of its fragments; 0 where no run is open
+    pub time: u32,
 }
 
 // What became of a payload: the run that is now open, and how many bytes were handed out.
@@ -38,16 +40,18 @@ pub fn no_run() -> Run
         running: false,
         gathered: 0,
         marked: false,
+        time: 0,
     }
 }
 
-fn open_run(gathered: usize, marked: bool) -> Run
-    ensures { λ r. ⌜ r ≡ record { running = true; gathered = gathered; marked = marked } ⌝ }
+fn open_run(gathered: usize, marked: bool, time: u32) -> Run
+    ensures { λ r. ⌜ r ≡ record { running = true; gathered = gathered; marked = marked; time = time } ⌝ }
 {
     Run {
         running: true,
         gathered,
         marked,
+        time,
     }
 }
 
@@ -84,6 +88,15 @@ fn either(a: bool, b: bool) -> bool
     b
 }
 
+fn both(a: bool, b: bool) -> bool
+    ensures { λ r. ⌜ r ≡ (a && b) ⌝ }
+{
+    if a {
+        return b;
+    }
+    false
+}
+
 fn with_top_bit(set: bool, head: u8) -> u8
     ensures { λ r. ⌜ r ≡ topBit set head ⌝ }
 {
@@ -93,11 +106,10 @@ fn with_top_bit(set: bool, head: u8) -> u8
     head
 }
 
-// A fragment, whose data follow two bytes.
-fn feed_fragment(
+// A later fragment of the open run's time, or one without a run; its data follow two bytes.
+fn feed_later(
     run: Run,
     avc: bool,
-    first: bool,
     last: bool,
     head: u8,
     payload: &[u8],
@@ -105,23 +117,12 @@ fn feed_fragment(
     out: &mut [u8],
 ) -> Ran
     requires { ⌜ (2 ≤ length (now payload)) × (length (now payload) ≤ 65535) × (run .gathered ≤ length (now gather)) ⌝ }
-    ensures { λ r. ⌜ ranHeard r (now (gather .exit)) (now (out .exit)) ≡ layDoes avc (now (gather .entry)) (now (out .entry)) (fedAfter (runOf run (now (gather .entry))) (fragmented first last head (fragmentIn (now (payload .entry))))) ⌝ }
+    ensures { λ r. ⌜ ranHeard r (now (gather .exit)) (now (out .exit)) ≡ layDoes avc (now (gather .entry)) (now (out .entry)) (fedAfter (runOf run (now (gather .entry))) (run .time) (fragmented false last head (fragmentIn (now (payload .entry))))) ⌝ }
 {
-    let running = run.running;
     let at = run.gathered;
     let n = payload.len() - 2;
-    let marked = is_marked(payload);
-    let any_marked = either(run.marked, marked);
-    if first {
-        if last {
-            return Ran::Refused(Error::StartAndEnd);
-        }
-        return with_run(
-            nal::gather_on(&payload[2..], 0, gather),
-            open_run(n, marked),
-        );
-    }
-    if !running {
+    let any_marked = either(run.marked, is_marked(payload));
+    if !run.running {
         return Ran::On {
             run: no_run(),
             bytes: 0,
@@ -136,13 +137,54 @@ fn feed_fragment(
     }
     with_run(
         nal::gather_on(&payload[2..], at, gather),
-        open_run(at + n, any_marked),
+        open_run(at + n, any_marked, run.time),
     )
 }
 
-pub fn feed(run: Run, avc: bool, payload: &[u8], gather: &mut [u8], out: &mut [u8]) -> Ran
+// A fragment: 21, then 25, then what it does. "A start fragment replaces the run", whatever its time.
+fn feed_fragment(
+    run: Run,
+    avc: bool,
+    time: u32,
+    first: bool,
+    last: bool,
+    head: u8,
+    payload: &[u8],
+    gather: &mut [u8],
+    out: &mut [u8],
+) -> Ran
+    requires { ⌜ (2 ≤ length (now payload)) × (length (now payload) ≤ 65535) × (run .gathered ≤ length (now gather)) ⌝ }
+    ensures { λ r. ⌜ ranHeard r (now (gather .exit)) (now (out .exit)) ≡ layDoes avc (now (gather .entry)) (now (out .entry)) (fedAfter (runOf run (now (gather .entry))) time (fragmented first last head (fragmentIn (now (payload .entry))))) ⌝ }
+{
+    let n = payload.len() - 2;
+    let marked = is_marked(payload);
+    let other_time = both(run.running, time != run.time);
+    let continues = either(!first, last);
+    if both(first, last) {
+        return Ran::Refused(Error::StartAndEnd);
+    }
+    if both(continues, other_time) {
+        return Ran::Refused(Error::OtherTime);
+    }
+    if first {
+        return with_run(
+            nal::gather_on(&payload[2..], 0, gather),
+            open_run(n, marked, time),
+        );
+    }
+    feed_later(run, avc, last, head, payload, gather, out)
+}
+
+pub fn feed(
+    run: Run,
+    avc: bool,
+    time: u32,
+    payload: &[u8],
+    gather: &mut [u8],
+    out: &mut [u8],
+) -> Ran
     requires { ⌜ (length (now payload) ≤ 65535) × (run .gathered ≤ length (now gather)) ⌝ }
-    ensures { λ r. ⌜ ranHeard r (now (gather .exit)) (now (out .exit)) ≡ layDoes avc (now (gather .entry)) (now (out .entry)) (fedAfter (runOf run (now (gather .entry))) (check (now (payload .entry)))) ⌝ }
+    ensures { λ r. ⌜ ranHeard r (now (gather .exit)) (now (out .exit)) ≡ layDoes avc (now (gather .entry)) (now (out .entry)) (fedAfter (runOf run (now (gather .entry))) time (check (now (payload .entry)))) ⌝ }
 {
     let none = no_run();
     let kind = nal_read::kind_of(payload);
@@ -152,7 +194,7 @@ pub fn feed(run: Run, avc: bool, payload: &[u8], gather: &mut [u8], out: &mut [u
         Kind::Plain => with_run(nal::hand_plain(payload, avc, out), none),
         Kind::Aggregate => with_run(nal_read::hand_stap_a(payload, avc, out), none),
         Kind::Fragment { first, last, head } => {
-            feed_fragment(run, avc, first, last, head, payload, gather, out)
+            feed_fragment(run, avc, time, first, last, head, payload, gather, out)
         }
     }
 }

@@ -23,7 +23,7 @@ use Rattle.joiner_feed.proofs.feed.Tie as tie
 abbrev laid : tie.Start → Shape → Laid (RanOn Run)
 laid c shape =
     layDoes (c .args .avc) (c .args .gather .now) (c .args .out .now)
-    (fedAfter (runOf (c .args .run) (c .args .gather .now)) (checkBy shape (c .args .payload .now)))
+    (fedAfter (runOf (c .args .run) (c .args .gather .now)) (c .args .time) (checkBy shape (c .args .payload .now)))
 
 -- ---- the places on the way: the kind is known, and where the call began
 
@@ -34,7 +34,7 @@ start-of c = c .before .before .before .before .before
 by-shape : (c : tie.After-kind-of) (k : Kind) → c .kind-of .result ≡ k →
     laid (start-of c) (shapeSaid k)
     ≡ layDoes (start-of c .args .avc) (start-of c .args .gather .now) (start-of c .args .out .now)
-    (fedAfter (runOf (start-of c .args .run) (start-of c .args .gather .now)) (check (start-of c .args .payload .now)))
+    (fedAfter (runOf (start-of c .args .run) (start-of c .args .gather .now)) (start-of c .args .time) (check (start-of c .args .payload .now)))
 unfolding check
 by-shape c k e = ap (laid (start-of c)) (sym (sym (c .kind-of .ensures) ∙ ap shapeSaid e))
 
@@ -64,7 +64,7 @@ returns-3 : tie.Need-returns-3
 returns-3 c =
     let known = c .before .before .before .before .before .before .before in
     let a = start-of known .args in
-    units-alone (a .avc) (a .run) (a .gather .now) (a .out .now) (says (a .payload .now ∷ [])) _ _ _ _
+    units-alone (a .avc) (a .run) (a .time) (a .gather .now) (a .out .now) (says (a .payload .now ∷ [])) _ _ _ _
     (c .with-run .ensures) (known .before .no-run .ensures) (c .before .before .before .hand-plain .ensures)
     ∙ by-shape known _ (c .before .before .before .before .before .enum-told2 .given .1)
 
@@ -72,7 +72,7 @@ returns-4 : tie.Need-returns-4
 returns-4 c =
     let known = c .before .before .before .before .before .before .before in
     let a = start-of known .args in
-    units-alone (a .avc) (a .run) (a .gather .now) (a .out .now) (unpack (a .payload .now)) _ _ _ _
+    units-alone (a .avc) (a .run) (a .time) (a .gather .now) (a .out .now) (unpack (a .payload .now)) _ _ _ _
     (c .with-run2 .ensures) (known .before .no-run .ensures) (c .before .before .before .hand-stap-a .ensures)
     ∙ by-shape known _ (c .before .before .before .before .before .enum-told3 .given .1)
 

@@ -1,126 +1,127 @@
--- Each way is one of the ways of `fragmented`, and of `fed` behind it, with the fragment's own mark and that of the run.
+-- 21 and 25 are told by the bits and the times; a start fragment opens a run with its own mark and time; and a later one that is left is of the
+-- run's time, or there is no run.
 use mathlib.Core.Path.{_≡_, refl, sym, ap, ap₂, _∙_}
-use mathlib.Core.Bool.{Bool, true, false, not, _||_, Bool·not-not}
-use mathlib.Core.List.{List, [], _∷_, _++_}
-use Prim.Native.Nat.{ℕ, _+_, _-_}
-use native.Mathlib.Omega.{arith}
-use lib.ListN.{length, take, drop, length-drop}
+use mathlib.Core.Bool.{Bool, true, false, not, _&&_, _||_, true≢false, false≢true, and-eq-true-iff}
+use mathlib.Core.List.{List}
+use Prim.Native.Nat.{ℕ}
+use lib.Dec.{eqb}
+use lib.ListN.{length, drop, length-drop}
 use borrow.Author.Needs.{needs}
-use Rattle.error.specs.Said.{says}
-use Rattle.nal.specs.Fed.{layGather, layBoth, Laid}
-use Rattle.nal.specs.Said.{saidHanded}
-use Rattle.nal.specs.Ran.{RanOn, withRun}
-use Rattle.nal.proofs.Handing.{rest-of, length-gathered}
-use Rattle.nal.proofs.Running.{ongoing-heard, finished-heard}
-use Rattle.joiner_step.specs.Run.{none, gathering, hands}
+use borrow.Author.Tests.{eqb-true, not-true, not-false}
+use Rattle.error.specs.Said.{Said, refuse}
+use Rattle.nal.specs.Fed.{layGather, Laid}
+use Rattle.nal.specs.Ran.{RanOn}
+use Rattle.nal.proofs.Handing.{rest-of}
+use Rattle.nal.proofs.Running.{ongoing-heard}
+use Rattle.joiner_step.specs.Run.{gathering, Does}
 use Rattle.joiner_feed.specs.declared.Run.{Run}
-use Rattle.joiner_feed.specs.Content.{Note, topBit, fedAfter}
+use Rattle.joiner_feed.specs.Content.{Note, fedAfter}
 use Rattle.joiner_feed.specs.H264.{forbidden, fragmentIn, fragmented}
 use Rattle.joiner_feed.specs.Ran.{runOf, recorded, layDoes}
-use Rattle.joiner_feed.proofs.Feeding.{run-idle}
 use Rattle.joiner_feed.proofs.feed_fragment.Statement.{statement}
 use Rattle.joiner_feed.proofs.feed_fragment.Tie as tie
 
--- what a fragment does, laid into both buffers, by the three things that the code tests
-abbrev laid : tie.Start → (first last running : Bool) → Laid (RanOn Run)
-laid c first last running =
-    layDoes (c .args .avc) (c .args .gather .now) (c .args .out .now)
-    (fedAfter (runOf (record { running = running; gathered = c .args .run .gathered; marked = c .args .run .marked }) (c .args .gather .now)) (fragmented first last (c .args .head) (fragmentIn (c .args .payload .now))))
+abbrev laidAs : tie.Start → Said (Does Note) → Laid (RanOn Run)
+laidAs c x = layDoes (c .args .avc) (c .args .gather .now) (c .args .out .now) x
+
+-- what a fragment of this time does, laid into both buffers, by the three flags that the code tests
+abbrev laid : tie.Start → (time : ℕ) (first last running : Bool) → Laid (RanOn Run)
+laid c time first last running =
+    laidAs c
+    (fedAfter
+    (runOf (record { running = running; gathered = c .args .run .gathered; marked = c .args .run .marked; time = c .args .run .time }) (c .args .gather .now))
+    time (fragmented first last (c .args .head) (fragmentIn (c .args .payload .now))))
 
 tested : (c : tie.Start) (first last running : Bool) → c .args .first ≡ first → c .args .last ≡ last → c .args .run .running ≡ running →
-    laid c first last running ≡ laid c (c .args .first) (c .args .last) (c .args .run .running)
-tested c first last running e f g = sym (λ i. laid c (e i) (f i) (g i))
+    laid c (c .args .time) first last running ≡ laid c (c .args .time) (c .args .first) (c .args .last) (c .args .run .running)
+tested c first last running e f g = sym (λ i. laid c (c .args .time) (e i) (f i) (g i))
 
--- a later fragment without a run, the last or not
-without-run : (c : tie.Start) (last : Bool) →
-    laid c false last false ≡ layDoes (c .args .avc) (c .args .gather .now) (c .args .out .now) (says (hands []))
-without-run c true = refl
-without-run c false = refl
+-- ---- what the code computes first
 
-not-back : {a b : Bool} → not a ≡ b → a ≡ not b
-not-back {a} e = sym (Bool·not-not a) ∙ ap not e
+abbrev start-of : tie.After-both2 → tie.Start
+start-of c = c .before .before .before .before .before .before .before .before
 
--- ---- the marks are known
+-- the open run is of another time
+abbrev isOther : tie.Start → Bool
+isOther s = s .args .run .running && not (eqb (s .args .time) (s .args .run .time))
 
-abbrev start-of : tie.After-either → tie.Start
-start-of c = c .before .before .before .before .before
+-- 25 is due
+abbrev isDue : tie.Start → Bool
+isDue s = (not (s .args .first) || s .args .last) && isOther s
 
--- the fragment's own
-abbrev own : tie.Start → Note
-own s = record { marked = forbidden (s .args .payload .now) }
+due-is : (c : tie.After-both3) → c .both3 .result ≡ isDue (start-of (c .before .before))
+due-is c = c .both3 .ensures ∙ ap₂ (λ (a b : Bool). a && b) (c .before .before .before .either .ensures) (c .before .before .before .before .both .ensures)
 
-own-is : (c : tie.After-either) → c .before .is-marked .result ≡ own (start-of c) .marked
-own-is c = c .before .is-marked .ensures
+-- not both bits are set
+not-both : (c : tie.Else1) → (start-of (c .before) .args .first && start-of (c .before) .args .last) ≡ false
+not-both c = sym (c .before .both2 .ensures) ∙ c .if1 .left
 
--- that of the run with it
-abbrev any : tie.Start → Note
-any s = record { marked = s .args .run .marked || own s .marked }
-
-any-is : (c : tie.After-either) → c .either .result ≡ any (start-of c) .marked
-any-is c = c .either .ensures ∙ ap (λ (b : Bool). start-of c .args .run .marked || b) (own-is c)
-
--- ---- a start fragment
+-- ---- 21
 
 returns : tie.Need-returns
-returns c = tested (start-of (c .before .before)) true true _ (c .before .if1 .taken) (c .if2 .taken) refl
+returns c =
+    let s = start-of (c .before) in
+    let set = and-eq-true-iff (s .args .first) (s .args .last) .0 (sym (c .before .both2 .ensures) ∙ c .if1 .taken) in
+    tested s true true _ (set .0) (set .1) refl
+
+-- ---- 25
+
+-- it is due to a later fragment
+later : (first last other : Bool) → ((not first || last) && other) ≡ true → (first && last) ≡ false → (first ≡ false) × (other ≡ true)
+later true true other e f = absurd (true≢false f)
+later true false other e f = absurd (false≢true e)
+later false last other e f = (refl, e)
+
+of-other-time : (s : tie.Start) (last : Bool) → eqb (s .args .time) (s .args .run .time) ≡ false →
+    laid s (s .args .time) false last true ≡ laidAs s (refuse 25)
+of-other-time s true e = rw e
+of-other-time s false e = rw e
 
 returns-2 : tie.Need-returns-2
 returns-2 c =
-    let noted = c .before .before .before .before .before .before .before .before .before in
-    let s = start-of noted in
-    let g = s .args .gather .now in
-    let p = s .args .payload .now in
-    let part = drop 2 p in
-    ongoing-heard recorded (s .args .avc) g (s .args .out .now) (gathering (own s) part) part _ _ _ _ (c .with-run .ensures)
-    (c .before .before .before .before .gather-on .ensures ∙ ap (layGather g) (rest-of 2 p))
-    (c .before .open-run .ensures ∙ ap₂ (λ (n : ℕ) (m : Bool). record { running = true; gathered = n; marked = m }) (sym (length-drop 2 p)) (own-is noted))
-    ∙ tested s true false _ (c .before .before .before .before .before .before .before .before .if1 .taken) (c .before .before .before .before .before .before .before .if2 .left) refl
+    let s = start-of (c .before .before .before) in
+    let due = later (s .args .first) (s .args .last) (isOther s) (sym (due-is (c .before)) ∙ c .if2 .taken) (not-both (c .before .before)) in
+    let other = and-eq-true-iff (s .args .run .running) (not (eqb (s .args .time) (s .args .run .time))) .0 (due .1) in
+    sym (of-other-time s (s .args .last) (not-true _ (other .1)))
+    ∙ tested s false _ true (due .0) refl (other .0)
 
--- ---- a later fragment
+-- ---- a start fragment
 
 returns-3 : tie.Need-returns-3
 returns-3 c =
-    let later = c .before .before in
-    let s = start-of (later .before) in
-    ap (λ (k : Run). record { answer = says (record { run = k; bytes = 0 }); gather = s .args .gather .now; out = s .args .out .now }) (c .no-run .ensures)
-    ∙ sym (run-idle (s .args .avc) (s .args .gather .now) (s .args .out .now))
-    ∙ sym (without-run s (s .args .last))
-    ∙ tested s false _ false (later .if1 .left) refl (not-back (c .before .if3 .taken))
+    let first = c .before .before .before .before .before .before .before in
+    let alone = first .before .before .before in
+    let is-marked = alone .before .before .before .before .before .is-marked in
+    let s = start-of (alone .before) in
+    let g = s .args .gather .now in
+    let p = s .args .payload .now in
+    ongoing-heard recorded (s .args .avc) g (s .args .out .now) (gathering (record { marked = forbidden p; time = s .args .time }) (drop 2 p)) (drop 2 p) _ _ _ _ (c .with-run .ensures)
+    (c .before .before .before .before .gather-on .ensures ∙ ap (layGather g) (rest-of 2 p))
+    (c .before .open-run .ensures ∙ ap₂ (λ (n : ℕ) (m : Bool). record { running = true; gathered = n; marked = m; time = s .args .time }) (sym (length-drop 2 p)) (is-marked .ensures))
+    ∙ tested s true false _ (first .if3 .taken) (sym (ap (λ (b : Bool). b && s .args .last) (first .if3 .taken)) ∙ not-both alone) refl
+
+-- ---- a later fragment
+
+not-due : (first last other : Bool) → first ≡ false → ((not first || last) && other) ≡ false → other ≡ false
+not-due true last other e f = absurd (true≢false e)
+not-due false last other e f = f
+
+-- without a run its time is nothing to it
+in-own-time : (s : tie.Start) (last running : Bool) → (running && not (eqb (s .args .time) (s .args .run .time))) ≡ false →
+    laid s (s .args .run .time) false last running ≡ laid s (s .args .time) false last running
+in-own-time s true false e = refl
+in-own-time s false false e = refl
+in-own-time s last true e = sym (ap (λ (t : ℕ). laid s t false last true) (eqb-true _ _ (not-false _ e)))
 
 returns-4 : tie.Need-returns-4
 returns-4 c =
-    let done = c .before .before .before .before .before .before in
-    let top = done .before .before .before .before .before in
-    let last = top .before in
-    let open-run = last .before in
-    let noted = open-run .before .before in
-    let s = start-of noted in
-    let g = s .args .gather .now in
-    let o = s .args .out .now in
-    let p = s .args .payload .now in
-    let at = s .args .run .gathered in
-    let head : top .with-top-bit .result ≡ topBit (any s .marked) (s .args .head) =
-    top .with-top-bit .ensures ∙ ap (λ (b : Bool). topBit b (s .args .head)) (any-is noted) in
-    finished-heard recorded (s .args .avc) g o none (topBit (any s .marked) (s .args .head) ∷ []) (take at g ++ drop 2 p) _ (saidHanded (done .finish .result)) _ _
-    (c .with-run2 .ensures ∙ ap (λ (k : Run). withRun k (saidHanded (done .finish .result))) (c .before .no-run2 .ensures))
-    (done .finish .ensures ∙ ap₂ (λ (b : ℕ) (l : List ℕ). layBoth (s .args .avc) g o (take at g ++ l) ((b ∷ take at g ++ l) ∷ [])) head (rest-of 2 p))
-    ∙ tested s false true true (open-run .before .if1 .left) (last .if4 .taken) (not-back (open-run .if3 .left))
-
-returns-5 : tie.Need-returns-5
-returns-5 c =
-    let middle = c .before .before .before .before .before .before .before in
-    let open-run = middle .before in
-    let noted = open-run .before .before in
-    let s = start-of noted in
-    let g = s .args .gather .now in
-    let p = s .args .payload .now in
-    let at = s .args .run .gathered in
-    let bytes = take at g ++ drop 2 p in
-    let longer : at + (length p - 2) ≡ length bytes = omega (arith, length-gathered g (drop 2 p) at (search needs), length-drop 2 p) in
-    ongoing-heard recorded (s .args .avc) g (s .args .out .now) (gathering (any s) bytes) bytes _ _ _ _ (c .with-run3 .ensures)
-    (c .before .before .before .before .gather-on2 .ensures ∙ ap (λ (l : List ℕ). layGather g (take at g ++ l)) (rest-of 2 p))
-    (c .before .open-run2 .ensures ∙ ap₂ (λ (n : ℕ) (m : Bool). record { running = true; gathered = n; marked = m }) longer (any-is noted))
-    ∙ tested s false false true (open-run .before .if1 .left) (middle .if4 .left) (not-back (open-run .if3 .left))
+    let later = c .before .before .before .before .before .before .before in
+    let alone = later .before .before .before in
+    let s = start-of (alone .before) in
+    let own = not-due (s .args .first) (s .args .last) (isOther s) (later .if3 .left) (sym (due-is (later .before .before)) ∙ later .before .if2 .left) in
+    c .before .before .before .before .feed-later .ensures
+    ∙ in-own-time s (s .args .last) (s .args .run .running) own
+    ∙ tested s false _ _ (later .if3 .left) refl refl
 
 pub feed-fragment-spec : {M : Type 1} → statement M
 feed-fragment-spec =
@@ -129,34 +130,20 @@ feed-fragment-spec =
     (λ c. search needs)
     (λ c κs. search needs)
     (λ c κs. search needs)
+    (λ c κs. search needs)
+    (λ c κs. search needs)
     returns
-    (λ c. search needs)
-    (λ c. search needs)
-    (λ c. search needs)
     (λ c κs. search needs)
-    (λ c κs. search needs)
-    (λ c κs. search needs)
-    (λ c. search needs)
     returns-2
+    (λ c. search needs)
+    (λ c. search needs)
+    (λ c. search needs)
     (λ c κs. search needs)
+    (λ c κs. search needs)
+    (λ c κs. search needs)
+    (λ c. search needs)
     returns-3
     (λ c κs. search needs)
     (λ c. search needs)
     (λ c. search needs)
-    (λ c. search needs)
-    (λ c. search needs)
-    (λ c κs. search needs)
-    (λ c κs. search needs)
-    (λ c κs. search needs)
-    (λ c. search needs)
-    (λ c. search needs)
-    returns-4
-    (λ c. search needs)
-    (λ c. search needs)
-    (λ c. search needs)
-    (λ c κs. search needs)
-    (λ c. search needs)
-    (λ c κs. search needs)
-    (λ c κs. search needs)
-    (λ c. search needs)
-    returns-5)
+    returns-4)

@@ -42,7 +42,7 @@ joiner s = s .args .self
 
 -- what is known of the packet
 abbrev came : tie.Start → Arrived Known
-came s = record { source = s .args .source; number = s .args .number; known = known (s .args .payload .now) }
+came s = record { source = s .args .source; number = s .args .number; known = known (s .args .time) (s .args .payload .now) }
 
 abbrev far : tie.Start → ℕ
 far s = distanceOf (s .args .number) (joiner s .awaited)
@@ -53,7 +53,7 @@ asked s = asStep (bySource (choiceOf (joiner s)) (keptOf (joiner s)) (came s) (s
 
 abbrev by-distance : tie.Start → ℕ → Stepped
 by-distance s d =
-    asStep (byDistance (choiceOf (joiner s)) (keptOf (joiner s)) d (s .args .number) (known (s .args .payload .now)) (s .args .gather .now) (s .args .out .now))
+    asStep (byDistance (choiceOf (joiner s)) (keptOf (joiner s)) d (s .args .number) (known (s .args .time) (s .args .payload .now)) (s .args .gather .now) (s .args .out .now))
 
 abbrev heard : tie.Start → Step → Stepped
 heard s r = stepHeard r (s .args .gather .now) (s .args .out .now)
@@ -84,7 +84,7 @@ returns-2 c =
     ∙ sym
     (own (c .before .before .before)
     ∙ ap asStep
-    (distance-late (choiceOf (joiner s)) (keptOf (joiner s)) (s .args .gather .now) (s .args .out .now) (far s) (s .args .number) (known (s .args .payload .now)) (omega (arith, c .before .before .distance .ensures, c .before .if2 .taken))))
+    (distance-late (choiceOf (joiner s)) (keptOf (joiner s)) (s .args .gather .now) (s .args .out .now) (far s) (s .args .number) (known (s .args .time) (s .args .payload .now)) (omega (arith, c .before .before .distance .ensures, c .before .if2 .taken))))
 
 returns-3 : tie.Need-returns-3
 returns-3 c =
@@ -94,7 +94,7 @@ returns-3 c =
     ∙ sym
     (own (near-own n)
     ∙ ap asStep
-    (distance-full (choiceOf (joiner s)) (keptOf (joiner s)) (s .args .gather .now) (s .args .out .now) (far s) (s .args .number) (known (s .args .payload .now)) (near n) (omega (arith, n .before .distance .ensures, c .before .before .sum .ensures, c .before .if3 .taken))))
+    (distance-full (choiceOf (joiner s)) (keptOf (joiner s)) (s .args .gather .now) (s .args .out .now) (far s) (s .args .number) (known (s .args .time) (s .args .payload .now)) (near n) (omega (arith, n .before .distance .ensures, c .before .before .sum .ensures, c .before .if3 .taken))))
 
 -- ---- the payload
 
@@ -121,15 +121,15 @@ returns-4 c =
     ap (λ (r : feed.Run). runOf r g) (held .run-at .ensures)
     ∙ held-is j (dist .result) g
     ∙ ap (λ (k : ℕ). runAt (choiceOf j) (keptOf j) k g) (dist .ensures) in
-    ap₂ (λ (x : Joiner) (y : Said Answer). record { joiner = x; answer = y; gather = fed .last .1 .1 .1 .0; out = fed .last .1 .1 .1 .1 .0 })
+    ap₂ (λ (x : Joiner) (y : Said Answer). record { joiner = x; answer = y; gather = fed .last .1 .1 .1 .1 .0; out = fed .last .1 .1 .1 .1 .1 .0 })
     (c .accept .ensures .0) (c .accept .ensures .1)
     ∙ ap (stepped j number (room .before .sum .result) (dist .result)) (fed .ensures)
-    ∙ ap₂ (λ (k e : ℕ). stepped j number k e (layDoes false g o (fedAfter (runOf (held .run-at .result) g) (check payload)))) (total room) (dist .ensures)
-    ∙ ap (λ (r : Run Note). stepped j number (j .missed + n) n (layDoes false g o (fedAfter r (check payload)))) run
+    ∙ ap₂ (λ (k e : ℕ). stepped j number k e (layDoes false g o (fedAfter (runOf (held .run-at .result) g) (s .args .time) (check payload)))) (total room) (dist .ensures)
+    ∙ ap (λ (r : Run Note). stepped j number (j .missed + n) n (layDoes false g o (fedAfter r (s .args .time) (check payload)))) run
     ∙ sym
     (own (near-own (room-near room))
-    ∙ ap asStep (distance-near (choiceOf j) (keptOf j) g o n number (known payload) (near (room-near room)) (omega (arith, total room, room .if3 .left)))
-    ∙ checked-is j n number g o (check payload))
+    ∙ ap asStep (distance-near (choiceOf j) (keptOf j) g o n number (known (s .args .time) payload) (near (room-near room)) (omega (arith, total room, room .if3 .left)))
+    ∙ checked-is j n number g o (s .args .time) (check payload))
 
 pub arrived-spec : {M : Type 1} → statement M
 arrived-spec =

@@ -88,7 +88,7 @@ returns-5 c =
 shutAt : Joiner → ℕ → ℕ → ClosingStepped
 shutAt j n d =
     record {
-      joiner = record { source = j .source; awaited = j .awaited; missed = n; running = false; gathered = 0; marked = false; closed = true };
+      joiner = record { source = j .source; awaited = j .awaited; missed = n; running = false; gathered = 0; marked = false; time = 0; closed = true };
       answer = says (record { first = j .awaited; count = d; bytes = 0 });
     }
 

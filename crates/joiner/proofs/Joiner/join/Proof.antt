@@ -112,8 +112,9 @@ arrived c =
     record {
       source = c .before .arrival .given .0 .0;
       number = c .before .arrival .given .0 .1 .0;
-      place = c .before .arrival .given .0 .1 .1 .0;
-      len = c .before .arrival .given .0 .1 .1 .1 .0;
+      time = c .before .arrival .given .0 .1 .1 .0;
+      place = c .before .arrival .given .0 .1 .1 .1 .0;
+      len = c .before .arrival .given .0 .1 .1 .1 .1 .0;
     }
 
 came : (c : tie.After-known-told) → arrivalOf (readPacket (bytes c)) ≡ says (arrived c)
@@ -156,7 +157,7 @@ returns-5 c =
     let s = in-start (came-in told) in
     let j = joiner s in
     c .before .before .before .before .arrived .ensures
-    ∙ ap (λ (l : List ℕ). asStep (bySource (choiceOf j) (keptOf j) (record { source = arrived told .source; number = arrived told .number; known = known l }) (s .args .gather .now) (s .args .out .now))) (payload told)
+    ∙ ap (λ (l : List ℕ). asStep (bySource (choiceOf j) (keptOf j) (record { source = arrived told .source; number = arrived told .number; known = known (arrived told .time) l }) (s .args .gather .now) (s .args .out .now))) (payload told)
     ∙ sym (reads (came-in told) _ (joining.came (packet s) (arrived told) (came told)))
 
 -- a packet that the reader refused
