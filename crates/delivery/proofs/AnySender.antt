@@ -17,7 +17,7 @@ use Rattle.rfc6184.proofs.Octets.{fields-of-octet}
 use Rattle.h264_rfc.proofs.Complete.{aggregated-sized, sized}
 use Rattle.sequence.specs.Group.{Group, packetsIn, packetsOf}
 use Rattle.joiner_step.specs.Run.{Units}
-use Rattle.joiner_feed.specs.Content.{Fragment, partIn, noteOf, topBit, topped}
+use Rattle.joiner_feed.specs.Content.{Fragment, partIn, markedIn, topBit, topped}
 use Rattle.joiner_feed.specs.H264.{forbidden, fragmentIn}
 use Rattle.joiner_feed.proofs.Topping.{top-low, top-type, top-octet, top-is, own-top}
 use Rattle.joiner.specs.Sent.{Sent, alone, fragmented, groupOf, groupsOf, PlainUnit}
@@ -70,7 +70,7 @@ module _ (g : Fragmented) where
       go marks (p ∷ ps) = ap₂ (λ (l r : List ℕ). l ++ r) (part-of (marks 0) 0 0 p) (go (later marks) ps)
 
   same-mark : (marks : ℕ → Bool) (ps : List Part) →
-      noteOf (between marks ps ++ (fragmentIn (final marks ps) ∷ [])) .marked
+      markedIn (between marks ps ++ (fragmentIn (final marks ps) ∷ []))
       ≡ anyMarked (relayed marks (map (fragment g 0 0) ps ++ (fragment g 0 1 (g .last) ∷ [])))
   same-mark marks [] = refl
   same-mark marks (p ∷ ps) = ap (λ (b : Bool). forbidden (arriving (marks 0) 0 0 p) || b) (same-mark (later marks) ps)

@@ -6,7 +6,7 @@ use mathlib.Core.List.{List, [], _∷_, _++_, map, append-nil}
 use Prim.Native.Nat.{ℕ, zero, suc, _≤_, _<_}
 use native.Mathlib.Omega.{arith}
 use lib.Dec.{ltb, leb·suc-zero}
-use lib.ListN.{length, getD, List·getD-map}
+use lib.ListN.{length, getD}
 use borrow.Author.Tests.{ltb-false, eq-eqb, ne-eqb}
 use Rattle.error.specs.Refusal.{Refusal}
 use Rattle.error.specs.Said.{Said, says, refused}
@@ -19,12 +19,12 @@ use Rattle.sequence.specs.Number.{numberOf}
 use Rattle.sequence.specs.Arrival.{Arrival, ours, other, acceptedCalls, accepted, raised, Window}
 use Rattle.sequence.specs.Event.{seen}
 use Rattle.sequence.specs.Rule.{plain, Follows}
-use Rattle.sequence.specs.Group.{Group, packetsOf, EachHanded}
+use Rattle.sequence.specs.Group.{Group, packetsOf, mapGroups, EachHanded}
 use Rattle.sequence.specs.Codec.{OwesAll}
 use Rattle.sequence.specs.Joiner.{Parts, turnedAway, numbered, shut, close, answers}
 use Rattle.sequence.specs.Joiner as any
 use Rattle.sequence.proofs.Ruling.{plain-follows}
-use Rattle.sequence.proofs.Knowing.{packets-known, count-known, handed-known, whole-known, each-known}
+use Rattle.sequence.proofs.Knowing.{from-at, packets-known, count-known, handed-known, whole-known, each-known}
 use Rattle.sequence.specs.Demand.{Told}
 use Rattle.sequence.specs.Demand as any-demand
 use Rattle.sequence.proofs.Joining.{Passes, owed-pass, delivered}
@@ -35,14 +35,14 @@ use Rattle.joiner_step.specs.Play.{handedOut, joinerAfter}
 use Rattle.wire.proofs.Bools.{or-false-left}
 use Rattle.joiner_step.proofs.Rooms.{Small, small-enough}
 use Rattle.joiner_step.proofs.Playing.{accepted-as, refused-as, handed-as, rooms, Plays, plays}
-use Rattle.joiner_feed.specs.Content.{Content, Note}
+use Rattle.joiner_feed.specs.Content.{Timed, Note}
 use Rattle.joiner.specs.Join.{Stepped, Known, known, arrivedIn, choice, keptOf, avcOf, joinStep, opened}
-use Rattle.joiner.specs.Sent.{Sent, knownGroup, groupsOf}
+use Rattle.joiner.specs.Sent.{Sent, groupsOf}
 use Rattle.joiner.proofs.General.{standing, closingSeen, Good, one-call, one-close, closed-after, shut-is}
 use Rattle.delivery.specs.Show.{Show, payloads, count, payload, packet, longest, largest}
 use Rattle.delivery.specs.Play.{ourJoiner, arriving, played, closing}
-use Rattle.delivery.specs.Demand.{Foreign, OthersForeign, Received, Delivered, wasAccepted, missed}
-use Rattle.delivery.proofs.Owing.{Taken, owes-all}
+use Rattle.delivery.specs.Demand.{Foreign, OthersForeign, OneTimeEach, Received, Delivered, wasAccepted, missed}
+use Rattle.delivery.proofs.Owing.{Taken, knownBy, owes-all}
 
 -- ---- what arrives
 
@@ -88,6 +88,10 @@ pub record Sendable (w : Show) : Type 0 where
   pub short : AllShort (payloads w)
   pub domain : longest (w .groups) ≤ 16777215
 
+-- what stands for a packet that was not sent
+abbrev nowhere : Known
+nowhere = known 0 []
+
 -- of `w` over a joiner that is opened with this prefix
 module _ (avc : Bool) (w : Show) (prefix : avcOf (opened (w .source) (w .first)) ≡ avc) (p : Received avc w) (z : Sendable w) where
   abbrev number : ℕ → ℕ
@@ -95,23 +99,26 @@ module _ (avc : Bool) (w : Show) (prefix : avcOf (opened (w .source) (w .first))
 
   -- the groups, with what the joiner knows of their packets
   abbrev groups : List (Group Known Units)
-  groups = map knownGroup (w .groups)
+  groups = mapGroups (knownBy (w .stamps)) 0 (w .groups)
 
   abbrev knownAt : ℕ → Known
-  knownAt i = getD (packetsOf groups) i (known [])
+  knownAt i = getD (packetsOf groups) i nowhere
 
-  known-is : (i : ℕ) → known (payload w i) ≡ knownAt i
-  known-is i =
-      sym (List·getD-map known (payloads w) i []) ∙ ap (λ (ps : List Known). getD ps i (known [])) (sym (packets-known known (w .groups)))
+  known-is : (i : ℕ) → i < count w → knownBy (w .stamps) i (payload w i) ≡ knownAt i
+  known-is i h =
+      sym
+      (ap (λ (ps : List Known). getD ps i nowhere) (packets-known (knownBy (w .stamps)) 0 (w .groups))
+      ∙ from-at (knownBy (w .stamps)) 0 i (payloads w) [] nowhere h
+      ∙ ap (λ (k : ℕ). knownBy (w .stamps) k (payload w i)) (omega arith))
 
-  -- a packet of ours reads back as its number and payload
+  -- a packet of ours reads back as its number, timestamp and payload
   reads : (i : ℕ) → i < count w → reader (choice avc) (w .source) (packet w i) ≡ numbered (number i) (knownAt i)
   reads i h =
       ap (λ (x : Said PacketReading). heardFrom (choice avc) (w .source) (arrivedIn (packet w i) x))
       (packet-back (w .stamps i) (number i) (w .source) (payload w i) (p .stamps i) (omega arith) (p .source) (short-at (payloads w) i (z .short)))
-      ∙ ap₂ (λ (b : Bool) (s : List ℕ). cond b (numbered (number i) (known s)) (turnedAway (refusing 20))) (eq-eqb (w .source) (w .source) refl)
+      ∙ ap₂ (λ (b : Bool) (s : List ℕ). cond b (numbered (number i) (knownBy (w .stamps) i s)) (turnedAway (refusing 20))) (eq-eqb (w .source) (w .source) refl)
       (payload-back (w .stamps i) (number i) (w .source) (payload w i) (p .stamps i) (omega arith) (p .source) (short-at (payloads w) i (z .short)))
-      ∙ ap (numbered (number i)) (known-is i)
+      ∙ ap (numbered (number i)) (known-is i h)
 
   abbrev most : ℕ
   most = longest (w .groups)
@@ -120,7 +127,7 @@ module _ (avc : Bool) (w : Show) (prefix : avcOf (opened (w .source) (w .first))
   big = largest avc (w .groups)
 
   -- the joiner for any rule, reader and codec, at this rule, reader and codec
-  abbrev general : Parts (List ℕ) Room Refusal Known Content (Run Note) Units
+  abbrev general : Parts (List ℕ) Room Refusal Known Timed (Run Note) Units
   general = parts (choice avc) (plain Known) (w .source)
 
   abbrev start : any.State ℕ (Run Note)
@@ -134,21 +141,24 @@ module _ (avc : Bool) (w : Show) (prefix : avcOf (opened (w .source) (w .first))
 
   owed : OwesAll (codec (choice avc)) (Enough most big) groups
   owed =
-      subst (λ (gs : List (Group (List ℕ) Units)). OwesAll (codec (choice avc)) (Enough most big) (map knownGroup gs)) (sym (z .are))
-      (owes-all avc most big (z .domain) (z .sents) (z .taken) (omega (arith, ap longest (z .are))))
+      subst
+      (λ (gs : List (Group (List ℕ) Units)). OneTimeEach (w .stamps) 0 gs → OwesAll (codec (choice avc)) (Enough most big) (mapGroups (knownBy (w .stamps)) 0 gs))
+      (sym (z .are))
+      (λ times. owes-all avc most big (z .domain) (w .stamps) 0 (z .sents) (z .taken) times (omega (arith, ap longest (z .are))))
+      (p .one-time)
 
   counted : length (packetsOf groups) ≡ count w
-  counted = count-known known (w .groups)
+  counted = count-known (knownBy (w .stamps)) 0 (w .groups)
 
   passes : (i : ℕ) → i < count w → Passes (codec (choice avc)) (knownAt i)
-  passes i h = owed-pass (codec (choice avc)) (Enough most big) (rooms-of 0) (enough 0) none groups owed (known []) i (omega (arith, counted))
+  passes i h = owed-pass (codec (choice avc)) (Enough most big) (rooms-of 0) (enough 0) none groups owed nowhere i (omega (arith, counted))
 
   follows : Follows (plain Known) number knownAt (count w) 1 (w .first) (w .arrivals) (seen (accepted (w .arrivals)) 0 (packetsOf groups))
       (acceptedCalls [] (w .arrivals))
   follows =
       subst
       (λ (n : ℕ). Window n 0 (w .arrivals) → Follows (plain Known) number knownAt n 1 (w .first) (w .arrivals) (seen (accepted (w .arrivals)) 0 (packetsOf groups)) (acceptedCalls [] (w .arrivals)))
-      counted (plain-follows (w .first) (packetsOf groups) (known []) (List ℕ) (w .arrivals) (p .first)) (p .window)
+      counted (plain-follows (w .first) (packetsOf groups) nowhere (List ℕ) (w .arrivals) (p .first)) (p .window)
 
   abbrev any-outcome : Type 0
   any-outcome =
@@ -160,7 +170,7 @@ module _ (avc : Bool) (w : Show) (prefix : avcOf (opened (w .source) (w .first))
   any-delivered =
       delivered general (Enough most big) number (packet w) knownAt (count w) 1 (Small avc big) reads passes
       (small-enough (choice avc) most big) groups counted (p .few) owed
-      (each-known known (Small avc big) (w .groups) (handed-all avc (w .groups) big (omega arith)))
+      (each-known (knownBy (w .stamps)) (Small avc big) 0 (w .groups) (handed-all avc (w .groups) big (omega arith)))
       rooms-of enough start refl (w .arrivals) (wasAccepted w) (acceptedCalls [] (w .arrivals)) follows
       (told-of avc (w .source) (count w) 0 (w .arrivals) (p .window) (p .foreign))
 
@@ -215,7 +225,7 @@ module _ (avc : Bool) (w : Show) (prefix : avcOf (opened (w .source) (w .first))
         accepts = accepted-as avc (played ourJoiner w) said (as-played .tells) ∙ any-delivered .accepts;
         handsOut =
             handed-as avc (played ourJoiner w) said (as-played .tells)
-            ∙ ap (map (prefixed avc)) (handed-before ∙ any-delivered .handsOut ∙ whole-known known (wasAccepted w) 0 (w .groups));
+            ∙ ap (map (prefixed avc)) (handed-before ∙ any-delivered .handsOut ∙ whole-known (knownBy (w .stamps)) (wasAccepted w) 0 0 (w .groups));
         answer = shuts .0;
         closes = shuts .1;
         closed =
@@ -224,7 +234,7 @@ module _ (avc : Bool) (w : Show) (prefix : avcOf (opened (w .source) (w .first))
         counts = shuts .2;
         complete =
             λ none. handed-as avc (played ourJoiner w) said (as-played .tells)
-            ∙ ap (map (prefixed avc)) (handed-before ∙ any-delivered .complete (sym (shuts .2) ∙ none) ∙ handed-known known (w .groups));
+            ∙ ap (map (prefixed avc)) (handed-before ∙ any-delivered .complete (sym (shuts .2) ∙ none) ∙ handed-known (knownBy (w .stamps)) 0 (w .groups));
         within =
             each-by (λ (st : Stepped). (st .joiner .gathered ≤ length (w .gather)) × (length (st .gather) ≡ length (w .gather)))
             (λ (st : Stepped). Good avc (w .source) (st .joiner) (st .gather) × (length (st .gather) ≡ length (w .gather)))

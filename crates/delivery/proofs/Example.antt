@@ -1,10 +1,11 @@
 -- The premises can be met: a show with a loss, a repeat, a reordering, a wrap of the number and a packet of another source, whose
 -- outcome the checker computes. Assumes nothing.
 use mathlib.Core.Path.{_≡_, refl, ap}
-use mathlib.Core.Bool.{Bool, true, false}
+use mathlib.Core.Bool.{Bool, true, false, cond, _||_}
 use mathlib.Core.List.{List, [], _∷_, map}
-use Prim.Native.Nat.{ℕ, _≤_}
+use Prim.Native.Nat.{ℕ, _≤_, _<_}
 use native.Mathlib.Omega.{arith}
+use lib.Dec.{eqb, ltb}
 use lib.ListN.{replicate}
 use Rattle.error.specs.Said.{Said, says, refused}
 use Rattle.wire.specs.Net.{u16At, u32At, be16, be32}
@@ -39,6 +40,13 @@ use Rattle.delivery.specs.Calls.{Lent, LentEnough}
 unfoldable pub stranger : List ℕ
 stranger = 0x80 ∷ 0x60 ∷ 0 ∷ 1 ∷ 0 ∷ 0 ∷ 0 ∷ 2 ∷ 0 ∷ 0 ∷ 0 ∷ 9 ∷ 0x65 ∷ 1 ∷ 2 ∷ []
 
+-- the timestamp of packet i: one for each frame, 3,600 ticks apart, with a wrap behind the first; the marker stands on each frame's last packet
+abbrev timeOf : ℕ → ℕ
+timeOf i = cond (ltb i 2) 4294963696 (cond (ltb i 5) 0 (cond (ltb i 8) 3600 7200))
+
+abbrev isLast : ℕ → Bool
+isLast i = eqb i 1 || (eqb i 4 || (eqb i 7 || eqb i 8))
+
 -- nine packets: a pair of sets and a unit, a unit in three fragments, another in three, a unit. The sixth bears the number 0.
 unfoldable pub nine : List (Arrival (List ℕ)) → Sending
 nine arrivals =
@@ -52,7 +60,7 @@ nine arrivals =
       mtu = 30;
       source = 3;
       first = 65531;
-      stamps = λ i. record { marker = false; type = 96; time = 2 };
+      stamps = λ i. record { marker = isLast i; type = 96; time = timeOf i };
       gather = replicate 84 0;
       outs = λ i. replicate 89 0;
       arrivals = arrivals;
@@ -71,6 +79,12 @@ of-another r e same = let nine : 9 ≡ r .fields .source = ap source-of e in ome
     source-of : Said PacketReading → ℕ
     source-of (says x) = x .fields .source
     source-of (refused x) = 0
+
+of-32-bits : (a b c : Bool) → cond a 4294963696 (cond b 0 (cond c 3600 7200)) < 4294967296
+of-32-bits true b c = omega arith
+of-32-bits false true c = omega arith
+of-32-bits false false true = omega arith
+of-32-bits false false false = omega arith
 
 -- whatever the prefix, the largest group takes 89 bytes
 largest-out : (avc : Bool) (arrivals : List (Arrival (List ℕ))) → largest avc (showOf (nine arrivals) .groups) ≤ 89
@@ -93,7 +107,8 @@ nine-premises avc arrivals foreign window =
             out-room = λ i. largest-out avc arrivals;
             source = omega arith;
             first = omega arith;
-            stamps = λ i. record { type = omega arith; time = omega arith };
+            stamps = λ i. record { type = omega arith; time = of-32-bits (ltb i 2) (ltb i 5) (ltb i 8) };
+            one-time = omega arith;
             foreign = foreign;
             window = window;
           };

@@ -1,12 +1,12 @@
 -- The premises on a stream by RFC 6184 can be met: an access unit delimiter of two octets, an STAP-A and the second of three fragments that a relay
 -- marked, and a unit that is lost. Assumes nothing.
 use mathlib.Core.Path.{_≡_, refl}
-use mathlib.Core.Bool.{Bool, true, false, _||_}
+use mathlib.Core.Bool.{Bool, true, false, cond, _||_}
 use mathlib.Core.List.{List, [], _∷_}
 use mathlib.Core.Logic.{inl, inr}
-use Prim.Native.Nat.{ℕ, _≤_}
+use Prim.Native.Nat.{ℕ, _≤_, _<_}
 use native.Mathlib.Omega.{arith}
-use lib.Dec.{eqb}
+use lib.Dec.{eqb, ltb}
 use lib.ListN.{replicate}
 use Rattle.wire.specs.Net.{u16At, u32At, be16, be32}
 use Rattle.wire.specs.Part.{splice}
@@ -52,11 +52,15 @@ stream =
       marks = λ i. eqb i 1 || eqb i 3;
       source = 3;
       first = 65534;
-      stamps = λ i. record { marker = false; type = 96; time = 2 };
+      stamps = λ i. record { marker = false; type = 96; time = cond (ltb i 5) 4294967295 3599 };
       gather = replicate 4 0;
       outs = λ i. replicate 12 0;
       arrivals = ours 0 ∷ ours 1 ∷ ours 2 ∷ ours 3 ∷ ours 4 ∷ [];
     }
+
+of-32-bits : (b : Bool) → cond b 4294967295 3599 < 4294967296
+of-32-bits true = omega arith
+of-32-bits false = omega arith
 
 -- whatever the prefix, the largest group takes 12 bytes
 largest-out : (avc : Bool) → largest avc (streamShow stream .groups) ≤ 12
@@ -80,7 +84,8 @@ stream-premises avc =
             out-room = λ i. largest-out avc;
             source = omega arith;
             first = omega arith;
-            stamps = λ i. record { type = omega arith; time = omega arith };
+            stamps = λ i. record { type = omega arith; time = of-32-bits (ltb i 5) };
+            one-time = omega arith;
             foreign = tt;
             window = omega arith;
           };

@@ -20,7 +20,7 @@ use Rattle.h264.proofs.LeftOut.{left-out}
 use Rattle.h264_put.proofs.Sizes.{packets-append}
 use Rattle.sequence.specs.Group.{packetsIn}
 use Rattle.sequence.specs.Group as any
-use Rattle.joiner_feed.specs.Content.{Fragment, partIn, unmarked, noteOf, topBit}
+use Rattle.joiner_feed.specs.Content.{Fragment, partIn, markedIn, topBit}
 use Rattle.joiner_feed.specs.H264.{forbidden}
 use Rattle.joiner_feed.proofs.Topping.{top-is}
 use Rattle.joiner.specs.Sent.{Sent, aggregated, alone, fragmented, Lawful, NoneEmpty, PlainUnit, groupOf, gatheredOf, fuA}
@@ -51,9 +51,9 @@ fragments-clear head first middle last = (
     Clear p = forbidden p ≡ false
 
 abbrev clear : List ℕ → Fragment
-clear part = record { note = unmarked; part = part }
+clear part = record { marked = false; part = part }
 
-none-marked : (middle : List (List ℕ)) (last : List ℕ) → noteOf (map clear middle ++ (clear last ∷ [])) .marked ≡ false
+none-marked : (middle : List (List ℕ)) (last : List ℕ) → markedIn (map clear middle ++ (clear last ∷ [])) ≡ false
 none-marked [] last = refl
 none-marked (p ∷ middle) last = none-marked middle last
 

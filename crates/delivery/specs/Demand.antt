@@ -1,17 +1,18 @@
--- Demand 3: its premises on numbers, room and channel, in the paper's words, and what follows. Assumes nothing.
+-- Demand 3: its premises on numbers, times, room and channel, in the paper's words, and what follows. Assumes nothing.
 use mathlib.Core.Path.{_≡_}
 use mathlib.Core.Bool.{Bool, true}
 use mathlib.Core.List.{List, [], _∷_, map}
-use Prim.Native.Nat.{ℕ, _≤_, _<_}
+use Prim.Native.Nat.{ℕ, suc, _+_, _≤_, _<_}
 use lib.ListN.{length}
 use Rattle.error.specs.Said.{says}
 use Rattle.wire.specs.Each.{Each}
-use Rattle.packet.specs.Plain.{Stampable}
+use Rattle.packet.specs.Plain.{Stamp, Stampable}
 use Rattle.packet.specs.Read.{PacketReading, readPacket}
 use Rattle.nal.specs.Fed.{prefixed}
 use Rattle.sequence.specs.Arrival.{Arrival, ours, other, acceptedCalls, accepted, never, Window}
-use Rattle.sequence.specs.Group.{wholeOf, handedOf}
+use Rattle.sequence.specs.Group.{Group, packetsIn, wholeOf, handedOf}
 use Rattle.sequence.specs.Joiner.{isOther}
+use Rattle.joiner_step.specs.Run.{Units}
 use Rattle.joiner_step.specs.Step.{Accepted}
 use Rattle.joiner_step.specs.Play.{isAccepted, isRefused, handedOut}
 use Rattle.joiner.specs.Join.{Stepped}
@@ -29,7 +30,17 @@ OthersForeign source [] = Unit {0}
 OthersForeign source (ours i ∷ later) = OthersForeign source later
 OthersForeign source (other bytes ∷ later) = Foreign source bytes × OthersForeign source later
 
--- numbers, room and channel, whatever was sent; `avc`: units are handed out behind a 4-byte length, and not behind a start code
+-- the packets of these payloads, the first of which has the index i, carry the time t
+abbrev pub AllAt : (ℕ → Stamp) → ℕ → ℕ → List (List ℕ) → Type 0
+AllAt stamps t i [] = Unit {0}
+AllAt stamps t i (p ∷ ps) = (stamps i .time ≡ t) × AllAt stamps t (suc i) ps
+
+-- "all packets of one unit carry one timestamp" (E4): those of each group that of its first; marker and payload type are each packet's own
+abbrev pub OneTimeEach : (ℕ → Stamp) → ℕ → List (Group (List ℕ) Units) → Type 0
+OneTimeEach stamps i [] = Unit {0}
+OneTimeEach stamps i (g ∷ gs) = AllAt stamps (stamps i .time) i (packetsIn g) × OneTimeEach stamps (i + length (packetsIn g)) gs
+
+-- numbers, times, room and channel, whatever was sent; `avc`: units are handed out behind a 4-byte length, and not behind a start code
 pub record Received (avc : Bool) (w : Show) : Type 0 where
   -- "n at most 4,294,967,295"
   pub few : count w ≤ 4294967295
@@ -42,6 +53,8 @@ pub record Received (avc : Bool) (w : Show) : Type 0 where
   pub first : w .first < 65536
   -- a payload type of seven bits, a timestamp of 32
   pub stamps : (i : ℕ) → Stampable (w .stamps i)
+  -- "all packets of one unit carry one timestamp"
+  pub one-time : OneTimeEach (w .stamps) 0 (w .groups)
   -- "other sources have other SSRCs"
   pub foreign : OthersForeign (w .source) (w .arrivals)
   -- "Window: with m one more than the largest index arrived so far (0 at first), each index is m - 32,768 to m + 32,767, and n - m is
