@@ -7,6 +7,7 @@ pub mod LentCalls
 pub mod AnySender
 pub mod Example
 pub mod ExampleStream
+pub mod ExampleFailover
 pub mod Wrong
 pub mod Main
 pub mod InOrder
