@@ -92,6 +92,15 @@ pub record Sendable (w : Show) : Type 0 where
 abbrev nowhere : Known
 nowhere = known 0 []
 
+-- a joiner that was just opened with this prefix is good
+pub opened-good : (avc : Bool) (w : Show) → avcOf (opened (w .source) (w .first)) ≡ avc → Good avc (w .source) (opened (w .source) (w .first)) (w .gather)
+unfolding opened opening
+opened-good avc w prefix =
+    record {
+      prefix = prefix;
+      ready = record { same-source = refl; not-closed = refl; inside = rw (leb·suc-zero (length (w .gather))) };
+    }
+
 -- of `w` over a joiner that is opened with this prefix
 module _ (avc : Bool) (w : Show) (prefix : avcOf (opened (w .source) (w .first)) ≡ avc) (p : Received avc w) (z : Sendable w) where
   abbrev number : ℕ → ℕ
@@ -176,19 +185,11 @@ module _ (avc : Bool) (w : Show) (prefix : avcOf (opened (w .source) (w .first))
 
   -- ---- our joiner's calls are that joiner's
 
-  opened-good : Good avc (w .source) (opened (w .source) (w .first)) (w .gather)
-  unfolding opened opening
-  opened-good =
-      record {
-        prefix = prefix;
-        ready = record { same-source = refl; not-closed = refl; inside = rw (leb·suc-zero (length (w .gather))) };
-      }
-
   as-played : Plays general avc standing (Good avc (w .source)) joinStep (one-call avc (w .source)) (length (w .gather)) (opened (w .source) (w .first))
       (w .gather) (w .outs) (arriving w)
   as-played =
       plays general avc standing (Good avc (w .source)) joinStep (one-call avc (w .source)) (arriving w) (opened (w .source) (w .first)) (w .gather)
-      (w .outs) opened-good
+      (w .outs) (opened-good avc w prefix)
 
   abbrev said : List (any.Answer Refusal Units)
   said = answers general rooms-of start (arriving w)

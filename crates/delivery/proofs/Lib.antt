@@ -8,6 +8,7 @@ pub mod AnySender
 pub mod Example
 pub mod ExampleStream
 pub mod ExampleFailover
+pub mod OneMoment
 pub mod Wrong
 pub mod Main
 pub mod InOrder

@@ -4,4 +4,5 @@ pub mod Demand
 pub mod Frames
 pub mod Calls
 pub mod AnySender
+pub mod OneMoment
 pub mod Wrong

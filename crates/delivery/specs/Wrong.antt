@@ -1,9 +1,10 @@
--- The three joiners that demand 3 "defeats", and one that loses marks, each said of any machine. Assumes nothing.
+-- The three joiners that demand 3 "defeats", one that loses marks, and one that does not look at the time, each said of any machine. Assumes nothing.
 use mathlib.Core.Path.{_≡_}
 use mathlib.Core.List.{List, [], _∷_}
 use Prim.Native.Nat.{ℕ, _*_, _≤_, _<_}
 use lib.ListN.{length, drop, getD}
 use Rattle.wire.specs.Each.{Each}
+use Rattle.packet.specs.Plain.{Stamp}
 use Rattle.sequence.specs.Arrival.{Arrival}
 use Rattle.joiner_step.specs.Play.{handedIn, handedOut}
 use Rattle.joiner.specs.Join.{Stepped}
@@ -47,3 +48,20 @@ Inventing m =
 -- "the mark is lost" (E3): the unit that stands first in what is handed out, behind a prefix of four bytes, has its top bit clear whatever arrives
 abbrev pub Unmarking : Machine → Type 0
 Unmarking m = (w : Show) → Each (λ (l : List ℕ). getD l 4 0 < 128) (handedOut (played m w))
+
+-- the same show, whose packets bear other stamps
+abbrev pub stampedAs : Show → (ℕ → Stamp) → Show
+stampedAs w stamps =
+    record {
+      groups = w .groups;
+      source = w .source;
+      first = w .first;
+      stamps = stamps;
+      gather = w .gather;
+      outs = w .outs;
+      arrivals = w .arrivals;
+    }
+
+-- a joiner as it was before E4, which does not look at the time: it hands out the same whatever stamps the packets bear
+abbrev pub Timeless : Machine → Type 0
+Timeless m = (w : Show) (stamps : ℕ → Stamp) → handedOut (played m (stampedAs w stamps)) ≡ handedOut (played m w)
