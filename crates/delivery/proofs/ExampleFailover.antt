@@ -102,28 +102,32 @@ abbrev taken : (first count bytes : ℕ) → Said Answer
 taken first count bytes = says (accepted (record { first = first; count = count; bytes = bytes }))
 
 -- the first fails before its unit's end: the second's end is refused, and its next unit comes whole
-pub failover : Outcome
+abbrev pub Failover : Type 0
+Failover =
+    Outcome
     (ofFirst 0 ∷ ofFirst 1 ∷ ofSecond 0 2 ∷ ofSecond 0 3 ∷ ofSecond 0 4 ∷ [])
     (taken 65534 0 0 ∷ taken 65535 0 0 ∷ refuse 25 ∷ taken 0 1 0 ∷ taken 2 0 7 ∷ [])
     ((0 ∷ 0 ∷ 0 ∷ 1 ∷ 0x41 ∷ 2 ∷ 2 ∷ []) ∷ [])
     1
-unfolding encoder octet fragment joinStep step closeStep closing bySource check shape layBoth layBytes splice readPacket readHeader readFixed fieldsAt u16At u32At plainPacket packetOctets payloadOctets header.octetsOf fixedFor be16 be32 opened opening
-failover = record { says-these = refl; hands-out = refl; misses = refl }
 
 -- the first's own end still comes: its unit is handed out whole, and nothing was missed
-pub recovery : Outcome
+abbrev pub Recovery : Type 0
+Recovery =
+    Outcome
     (ofFirst 0 ∷ ofFirst 1 ∷ ofSecond 0 2 ∷ ofFirst 2 ∷ ofSecond 0 3 ∷ ofSecond 0 4 ∷ [])
     (taken 65534 0 0 ∷ taken 65535 0 0 ∷ refuse 25 ∷ taken 0 0 9 ∷ taken 1 0 0 ∷ taken 2 0 7 ∷ [])
     ((0 ∷ 0 ∷ 0 ∷ 1 ∷ 0x65 ∷ 1 ∷ 1 ∷ 1 ∷ 1 ∷ []) ∷ (0 ∷ 0 ∷ 0 ∷ 1 ∷ 0x41 ∷ 2 ∷ 2 ∷ []) ∷ [])
     0
-unfolding encoder octet fragment joinStep step closeStep closing bySource check shape layBoth layBytes splice readPacket readHeader readFixed fieldsAt u16At u32At plainPacket packetOctets payloadOctets header.octetsOf fixedFor be16 be32 opened opening
-recovery = record { says-these = refl; hands-out = refl; misses = refl }
 
 -- what the time is for: were the second's unit of the first's time, its end would be taken for the first's
-pub at-one-time : Outcome
+abbrev pub AtOneTime : Type 0
+AtOneTime =
+    Outcome
     (ofFirst 0 ∷ ofFirst 1 ∷ ofSecond 4294967295 2 ∷ ofSecond 4294967295 3 ∷ ofSecond 4294967295 4 ∷ [])
     (taken 65534 0 0 ∷ taken 65535 0 0 ∷ taken 0 0 9 ∷ taken 1 0 0 ∷ taken 2 0 7 ∷ [])
     ((0 ∷ 0 ∷ 0 ∷ 1 ∷ 0x65 ∷ 1 ∷ 1 ∷ 1 ∷ 2 ∷ []) ∷ (0 ∷ 0 ∷ 0 ∷ 1 ∷ 0x41 ∷ 2 ∷ 2 ∷ []) ∷ [])
     0
+
+pub outcomes : Failover × Recovery × AtOneTime
 unfolding encoder octet fragment joinStep step closeStep closing bySource check shape layBoth layBytes splice readPacket readHeader readFixed fieldsAt u16At u32At plainPacket packetOctets payloadOctets header.octetsOf fixedFor be16 be32 opened opening
-at-one-time = record { says-these = refl; hands-out = refl; misses = refl }
+outcomes = (record { says-these = refl; hands-out = refl; misses = refl }, record { says-these = refl; hands-out = refl; misses = refl }, record { says-these = refl; hands-out = refl; misses = refl })

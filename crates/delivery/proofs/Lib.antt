@@ -10,5 +10,6 @@ pub mod ExampleStream
 pub mod ExampleFailover
 pub mod OneMoment
 pub mod Wrong
+pub mod Timeless
 pub mod Main
 pub mod InOrder

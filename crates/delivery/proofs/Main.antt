@@ -4,7 +4,7 @@
 --
 -- The words. A `Show` is the groups sent, each its payloads and the units that it is handed out as; the source, the first number and the
 -- stamps that its packets bear; the buffers; and what arrives, a packet of ours by its index or any other bytes. `Received` is what the paper
--- asks of numbers, room and channel. A `Sending` is frames for a fresh sender, `showOf` the show of them, `SendingPremises` what the paper asks
+-- asks of numbers, times, room and channel. A `Sending` is frames for a fresh sender, `showOf` the show of them, `SendingPremises` what the paper asks
 -- of it. A `Stream` is sendings of RFC 6184, of whatever sender, and which packets a relay marked (`relayed`). A `Machine` is any joiner: how it is
 -- opened, its call and its closing; `ourJoiner` is `opened`, `joinStep` and `closeStep`, which the contracts of the joiner's code cite. `Delivered`
 -- is the five parts (a) to (e) over a machine's calls (`played`) and its `closing`, for units behind a start code or a 4-byte length; `annexB` is
@@ -22,6 +22,7 @@ use Rattle.h264_put.specs.Groups.{nothingSaved, fragments, packetsOfGroup, pack
 use Rattle.h264.specs.Frames.{groupsSent}
 use Rattle.sequence.specs.Arrival.{Arrival, ours}
 use Rattle.sequence.proofs.Accepting.{Arrived}
+use Rattle.joiner_step.specs.Run.{Units}
 use Rattle.joiner_step.specs.Play.{isAccepted}
 use Rattle.joiner_feed.specs.H264.{forbidden}
 use Rattle.joiner.specs.Join.{Stepped}
@@ -31,7 +32,8 @@ use Rattle.delivery.specs.Demand.{Delivered}
 use Rattle.delivery.specs.Frames.{Sending, showOf, SendingPremises, Delivers}
 use Rattle.delivery.specs.Calls.{Lent, NoneRefused, callsFor, LentEnough, FromTheCalls, lentCallsFor, written}
 use Rattle.delivery.specs.AnySender.{relayed, anyMarked, handedFor, Stream, streamShow, Ruled, DeliversAny}
-use Rattle.delivery.specs.Wrong.{Silent, Advancing, Inventing, Unmarking}
+use Rattle.delivery.specs.OneMoment.{OneMoment, OfMany, TimesApart, OneSender}
+use Rattle.delivery.specs.Wrong.{Silent, Advancing, Inventing, Unmarking, Timeless}
 use Rattle.delivery.proofs.Delivering.{all-delivered}
 use Rattle.delivery.proofs.Accepted.{accepted-exactly}
 use Rattle.delivery.proofs.Sending.{fragments-clear, sent-show, same-packets}
@@ -40,7 +42,10 @@ use Rattle.delivery.proofs.Calls as calls
 use Rattle.delivery.proofs.AnySender.{stream-show, lawful-ruled, stream-payloads, relayed-not, unit-marked}
 use Rattle.delivery.proofs.Example.{show, premises, lentTo, lent-enough}
 use Rattle.delivery.proofs.ExampleStream.{stream, stream-premises}
+use Rattle.delivery.proofs.ExampleFailover.{encoder, encoder-premises, Failover, Recovery, AtOneTime, outcomes}
+use Rattle.delivery.proofs.OneMoment.{untorn, one-sender}
 use Rattle.delivery.proofs.Wrong as wrong
+use Rattle.delivery.proofs.Timeless.{no-timeless}
 
 -- frames through a fresh sender
 pub demand-3 : (x : Sending) → SendingPremises annexB x → Delivered annexB ourJoiner (showOf x)
@@ -92,6 +97,16 @@ pub OUR-FRAGMENTS-CLEAR : (head : ℕ) (first : List ℕ) (middle : List (List �
     Each (λ (p : List ℕ). forbidden p ≡ false) (packetsOfGroup (fragments head first middle last))
 OUR-FRAGMENTS-CLEAR = fragments-clear
 
+-- "A run belongs to one moment" (E4): whatever arrives, and from however many senders of the joiner's SSRC, each group that is handed out is the units of
+-- one packet, or a unit in fragments, from its start to its end, that follow each other without a gap and are all of one time ..
+pub ONE-MOMENT : OneMoment annexB ourJoiner
+ONE-MOMENT w came = untorn annexB w refl came
+
+-- .. so that none goes on with another's unit, where no two of them share a time.
+pub ONE-SENDER-EACH : (came : List (List ℕ)) (source : ℕ) {A : Type 0} (sender : List ℕ → A) → TimesApart came source sender →
+    (units : Units) (u : OfMany came source units) → OneSender came source sender units u
+ONE-SENDER-EACH came source sender = one-sender came source sender
+
 -- "Under these premises a packet is accepted exactly when its index is above every index that arrived before it; this, read off the
 -- arrivals alone, is what demand 3 means by accepted."
 pub accepted-means : (avc : Bool) (m : Machine) (w : Show) → Delivered avc m w → (before later : List (Arrival (List ℕ))) (i : ℕ) → w .arrivals ≡ before ++ (ours i ∷ later) →
@@ -109,6 +124,15 @@ show-delivered = FROM-THE-CALLS show (premises annexB) lentTo (CALLS-ANSWER anne
 pub stream-delivered : Delivered annexB ourJoiner (streamShow stream)
 stream-delivered = any-sender stream (stream-premises annexB)
 
+-- two encoders of one SSRC: where the second goes on with the first's unit, its fragment is refused by 25, and nothing torn is handed out; at one time
+-- the torn unit would be
+pub two-encoders : Failover × Recovery × AtOneTime
+two-encoders = outcomes
+
+-- each of them meets the premises by itself
+pub encoder-delivered : (k t u : ℕ) → k < 256 → t < 4294967296 → u < 4294967296 → Delivered annexB ourJoiner (streamShow (encoder k t u))
+encoder-delivered k t u byte early late = any-sender (encoder k t u) (encoder-premises annexB k t u byte early late)
+
 -- `Delivers avc m` is demand 3 of the joiner m, whatever it hands units out behind. It "defeats a joiner that hands out nothing" ..
 pub NO-SILENT-JOINER : (avc : Bool) (m : Machine) → Silent m → Delivers avc m → ⊥
 NO-SILENT-JOINER = wrong.no-silent-joiner
@@ -125,3 +149,7 @@ NO-INVENTED-TOTAL = wrong.no-invented-total
 -- `DeliversAny avc m` is the same of any sender's packets as a relay passes them on. It shuts out a joiner that loses the relay's marks.
 pub NO-UNMARKER : (avc : Bool) (m : Machine) → Unmarking m → DeliversAny avc m → ⊥
 NO-UNMARKER = wrong.no-unmarker
+
+-- `OneMoment avc m` says of it what `ONE-MOMENT` says of ours. A joiner that does not look at the time cannot meet both.
+pub NO-TIMELESS-JOINER : (avc : Bool) (m : Machine) → Timeless m → DeliversAny avc m → OneMoment avc m → ⊥
+NO-TIMELESS-JOINER = no-timeless

@@ -1,12 +1,12 @@
 -- Each call keeps it that the open run was gathered of fragments of one time, one after the other; so what an end fragment hands out is of such
 -- fragments, and all else is of its own packet. It is so of the joiner for any rule, reader and codec at ours, and ours plays as that one does.
 -- Assumes nothing.
-use mathlib.Core.Path.{_≡_, refl, sym, ap, ap₂, subst, _∙_}
+use mathlib.Core.Path.{_≡_, refl, sym, ap, ap₂, subst}
 use mathlib.Core.Bool.{Bool, true, false, cond, _||_}
-use mathlib.Core.List.{List, [], _∷_, _++_, map}
+use mathlib.Core.List.{List, [], _∷_, _++_}
 use mathlib.Core.Logic.{inl, inr}
 use Prim.Native.Nat.{ℕ, suc, _+_}
-use lib.Dec.{eqb, leb·suc-zero}
+use lib.Dec.{eqb}
 use lib.ListN.{length}
 use borrow.Author.Tests.{eqb-true}
 use Rattle.error.specs.Refusal.{Refusal}
@@ -35,7 +35,7 @@ use Rattle.joiner.specs.Join.{Known, known, arrivedIn, choice, avcOf, joinStep,
 use Rattle.joiner.proofs.General.{standing, Good, one-call}
 use Rattle.delivery.specs.Show.{Show}
 use Rattle.delivery.specs.Play.{ourJoiner, playedOn}
-use Rattle.delivery.specs.OneMoment.{Among, partsIn, anyIn, Bears, Begun, packetsOf, OfOne, OfMany, Origin, TimesApart, OneSender, Untorn}
+use Rattle.delivery.specs.OneMoment.{Among, partsIn, anyIn, Bears, Begun, packetsOf, OfMany, Origin, TimesApart, OneSender, Untorn}
 use Rattle.delivery.proofs.Delivering.{opened-good}
 
 module _ (avc : Bool) (came : List (List ℕ)) (source : ℕ) where
@@ -104,19 +104,19 @@ module _ (avc : Bool) (came : List (List ℕ)) (source : ℕ) where
           tt,
           (
             inr
-            (record {
-              time = note .time;
-              number = number;
-              before = met .0;
-              head = head;
-              last = f;
-              others = met .2 .0;
-              ends = subst (λ (t : ℕ). Bears came source number t (end head f)) (eqb-true _ _ e) b;
-              follows = met .1;
-              begun = met .2 .1;
-              is =
-                  ap₂ (λ (m : Bool) (l : List ℕ). (topped (m || f .marked) head ++ (l ++ f .part)) ∷ []) (met .2 .3) (met .2 .2);
-            }),
+                (record {
+                  time = note .time;
+                  number = number;
+                  before = met .0;
+                  head = head;
+                  last = f;
+                  others = met .2 .0;
+                  ends = subst (λ (t : ℕ). Bears came source number t (end head f)) (eqb-true _ _ e) b;
+                  follows = met .1;
+                  begun = met .2 .1;
+                  is =
+                      ap₂ (λ (m : Bool) (l : List ℕ). (topped (m || f .marked) head ++ (l ++ f .part)) ∷ []) (met .2 .3) (met .2 .2);
+                }),
             tt,
           ),
         )
@@ -224,14 +224,22 @@ module _ (avc : Bool) (w : Show) (prefix : avcOf (opened (w .source) (w .first))
       plays (general avc came (w .source)) avc standing (Good avc (w .source)) joinStep (one-call avc (w .source)) came (opened (w .source) (w .first))
       (w .gather) (w .outs) (opened-good avc w prefix)
 
-  pub untorn : Untorn avc ourJoiner w came
+  abbrev begins : State ℕ (Run Note)
+  begins = standing (opened (w .source) (w .first)) (w .gather)
+
+  abbrev said : List (any.Answer Refusal Units)
+  said = answers (general avc came (w .source)) (rooms (length (w .gather)) (w .outs)) begins came
+
+  no-run : Fine avc came (w .source) begins
   unfolding opened opening
+  no-run = tt
+
+  pub untorn : Untorn avc ourJoiner w came
   untorn =
       record {
-        groups = any.handedOut (answers (general avc came (w .source)) (rooms (length (w .gather)) (w .outs)) (standing (opened (w .source) (w .first)) (w .gather)) came);
-        hands-out = handed-as avc (playedOn ourJoiner w came) _ (as-played .tells);
-        origins =
-            all-fine avc came (w .source) (rooms (length (w .gather)) (w .outs)) (standing (opened (w .source) (w .first)) (w .gather)) tt came (all-among came);
+        groups = any.handedOut said;
+        hands-out = handed-as avc (playedOn ourJoiner w came) said (as-played .tells);
+        origins = all-fine avc came (w .source) (rooms (length (w .gather)) (w .outs)) begins no-run came (all-among came);
       }
 
 -- ---- whose it is

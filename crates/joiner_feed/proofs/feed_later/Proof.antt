@@ -15,7 +15,7 @@ use Rattle.nal.proofs.Running.{ongoing-heard, finished-heard}
 use Rattle.joiner_step.specs.Run.{none, gathering, Does, hands, gathers, ends}
 use Rattle.joiner_feed.specs.declared.Run.{Run}
 use Rattle.joiner_feed.specs.Content.{Note, onward, topBit, fedAfter}
-use Rattle.joiner_feed.specs.H264.{forbidden, fragmentIn, fragmented}
+use Rattle.joiner_feed.specs.H264.{fragmentIn, fragmented}
 use Rattle.joiner_feed.specs.Ran.{runOf, recorded, layDoes}
 use Rattle.joiner_feed.proofs.Feeding.{run-idle}
 use Rattle.joiner_feed.proofs.Owing.{in-own-time}
