@@ -20,10 +20,11 @@ fn aggregate(text: Text, payload: &[u8]) -> Text
     }
 }
 
-fn fragment(text: Text, first: bool, last: bool, head: u8) -> Text {
+fn fragment(text: Text, first: bool, last: bool, head: u8, other_time: bool) -> Text {
     text.number(b"FU-A ", (head % 32) as u64)
         .when(first, b" start")
         .when(last, b" end")
+        .when(!first && other_time, b" of another time")
 }
 
 // The type of the unit that a payload is.
@@ -33,14 +34,14 @@ fn plain(text: Text, payload: &[u8]) -> Text
     text.number(b"unit ", (payload[0] % 32) as u64)
 }
 
-fn h264(text: Text, payload: &[u8]) -> Text {
+fn h264(text: Text, payload: &[u8], other_time: bool) -> Text {
     let kind = nal_read::kind_of(payload);
     match kind {
         Kind::Short => refused(text, Error::ErrShortPacket),
         Kind::Unknown(t) => refused(text, Error::NaluTypeIsNotHandled(t)),
         Kind::Plain => plain(text, payload),
         Kind::Aggregate => aggregate(text, payload),
-        Kind::Fragment { first, last, head } => fragment(text, first, last, head),
+        Kind::Fragment { first, last, head } => fragment(text, first, last, head, other_time),
     }
 }
 
@@ -88,9 +89,10 @@ fn vp8(text: Text, payload: &[u8]) -> Text {
     }
 }
 
-pub fn kind(text: Text, payload: &[u8], is_vp8: bool) -> Text {
+// `other_time`: where the payload is a later fragment, it is of another time than the one that it follows.
+pub fn kind(text: Text, payload: &[u8], is_vp8: bool, other_time: bool) -> Text {
     if is_vp8 {
         return vp8(text.word(b" vp8 "), payload);
     }
-    mark(h264(text.word(b" h264 "), payload), payload)
+    mark(h264(text.word(b" h264 "), payload, other_time), payload)
 }

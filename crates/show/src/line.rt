@@ -1,4 +1,5 @@
 // A packet in one line.
+use crate::above::Above;
 use crate::kind;
 use error::Error;
 use header::Header;
@@ -40,18 +41,32 @@ pub fn refused(text: Text, e: Error) -> Text {
     text.number(b"refused ", e.number() as u64)
 }
 
-pub fn line(packet: &[u8], vp8: bool) -> Text {
+pub struct Shown {
+    pub text: Text,
+    // what stands above the next one
+    pub above: Above,
+}
+
+pub fn line(packet: &[u8], vp8: bool, above: Above) -> Shown {
     let answer = packet::unmarshal(packet);
+    let h = answer.header;
     let read = answer.read;
     match read {
         PacketRead::Payload { at, len } => {
-            let text = extensions(fields(answer.header), answer.header);
-            kind::kind(text, stream::part(packet, at, len), vp8)
-                .number(b" payload ", len as u64)
-                .word(b"\n")
+            let payload = stream::part(packet, at, len);
+            let text = extensions(fields(h), h);
+            Shown {
+                text: kind::kind(text, payload, vp8, above.at_odds(h))
+                    .number(b" payload ", len as u64)
+                    .word(b"\n"),
+                above: Above::of(h, payload),
+            }
         }
-        PacketRead::Refused(e) => refused(Text::new(), e)
-            .number(b" packet ", packet.len() as u64)
-            .word(b"\n"),
+        PacketRead::Refused(e) => Shown {
+            text: refused(Text::new(), e)
+                .number(b" packet ", packet.len() as u64)
+                .word(b"\n"),
+            above,
+        },
     }
 }

@@ -1,10 +1,12 @@
 // show PACKETS [h264|vp8]: one line for each packet of a file.
+mod above;
 mod kind;
 mod line;
 
 use libc::STDOUT_FILENO;
 use stream::Next;
 use stream::Record;
+use stream::Text;
 use stream::Window;
 use stream::status;
 
@@ -27,8 +29,8 @@ fn ending(last: Next, none: bool) -> u8 {
     status::DONE
 }
 
-fn write(packet: &[u8], vp8: bool) -> u8 {
-    if line::line(packet, vp8).write(STDOUT_FILENO) {
+fn write(text: Text) -> u8 {
+    if text.write(STDOUT_FILENO) {
         return status::DONE;
     }
     status::unwritten()
@@ -36,6 +38,7 @@ fn write(packet: &[u8], vp8: bool) -> u8 {
 
 fn show(fd: i32, vp8: bool, buf: &mut [u8; 131072]) -> u8 {
     let mut w = Window::new();
+    let mut above = above::nothing();
     let mut status = status::DONE;
     let mut turns = u64::MAX;
     loop {
@@ -47,8 +50,10 @@ fn show(fd: i32, vp8: bool, buf: &mut [u8; 131072]) -> u8 {
         let Record::Packet { at, len } = found else {
             break ending(next, turns == u64::MAX);
         };
-        status = write(stream::part(buf, at, len), vp8);
         turns -= 1;
+        let shown = line::line(stream::part(buf, at, len), vp8, above);
+        above = shown.above;
+        status = write(shown.text);
         w = next.window;
     }
 }

@@ -7,19 +7,19 @@ use Rattle.show.proofs.show.Statement.{statement}
 use Rattle.show.proofs.show.Tie as tie
 
 abbrev Inv-loop : tie.InvT-loop
-Inv-loop fd vp8 buf₀ w₀ status₀ turns₀ buf w status turns = Within w 131072
+Inv-loop fd vp8 buf₀ w₀ above₀ status₀ turns₀ buf w above status turns = Within w 131072
 
 abbrev μ-loop : tie.MeasureT-loop
-μ-loop fd vp8 buf₀ w₀ status₀ turns₀ buf w status turns = turns
+μ-loop fd vp8 buf₀ w₀ above₀ status₀ turns₀ buf w above status turns = turns
 
 loop-holds : tie.Need-loop-holds Inv-loop μ-loop
-loop-holds c = new-inside _ _ (c .new .ensures)
+loop-holds c = new-inside _ _ (c .before .new .ensures)
 
 sub-turns : tie.Need-sub-turns Inv-loop μ-loop
-sub-turns c = omega (arith, c .before .before .before .before .before .before .before .before .before .before .is-over .ensures .1 (c .before .before .before .before .before .before .before .before .before .if1 .left))
+sub-turns c = omega (arith, c .before .before .before .before .before .before .is-over .ensures .1 (c .before .before .before .before .before .if1 .left))
 
 loop-less : tie.Need-loop-less Inv-loop μ-loop
-loop-less c = omega (arith, c .before .before .before .before .before .before .before .before .before .before .before .is-over .ensures .1 (c .before .before .before .before .before .before .before .before .before .before .if1 .left))
+loop-less c = omega (arith, c .before .before .before .before .before .before .before .before .before .before .before .before .before .is-over .ensures .1 (c .before .before .before .before .before .before .before .before .before .before .before .before .if1 .left))
 
 pub show-spec : {M : Type 1} → statement M
 show-spec =
@@ -28,14 +28,16 @@ show-spec =
     Inv-loop
     μ-loop
     (λ c κs. search needs)
+    (λ c κs. search needs)
     loop-holds
     (λ c κs. search needs)
     (λ c κs. search needs)
     (λ c. search needs)
     (λ c κs. search needs)
-    (λ c κs. search needs)
-    (λ c κs. search needs)
     sub-turns
+    (λ c κs. search needs)
+    (λ c κs. search needs)
+    (λ c κs. search needs)
     loop-less
     (λ c. search needs)
     (λ c. search needs)
