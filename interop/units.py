@@ -5,12 +5,15 @@
   units.py sent CLIP LEFT PACKETS MTU SOURCE FIRST PROFILE   PACKETS carry the units of CLIP, as a sender must
   units.py timed PACKETS PICTURES TICKS                      marker and time in PACKETS tell so many pictures apart
   units.py joined CLIP LEFT PACKETS ARRIVALS OTHER ACCOUNT   `join` must make exactly OTHER and ACCOUNT of ARRIVALS
+  units.py turned CLIP LEFT PACKETS SECOND ITS_PACKETS ARRIVALS OTHER ACCOUNT
+                                                             the same, of the arrivals of two encoders
   units.py whole CLIP LEFT PACKETS ARRIVALS OTHER            OTHER, an Annex B file, has the units that are whole in ARRIVALS
   units.py rewrite CLIP OTHER long|short|ended|altered       CLIP with other start codes or units
 
 LEFT are the types of units that the sender leaves out, as in 9,12; - is none. PROFILE is that of the header's extensions (RFC 8285),
 bede or 1000; - is none. Packets are framed by RFC 4571. ARRIVALS is what came of PACKETS: some of them, in any order, any number of times; a relay
-may have marked some (RFC 6184, 5.3: F).
+may have marked some (RFC 6184, 5.3: F). SECOND is the clip of a second encoder: its packets bear the same SSRC, the same numbers, and times of
+their own.
 
 Exit status: 0 it is so, and the figures are printed; 3 it is not, and the first difference is told.
 """
@@ -101,6 +104,10 @@ class Packet:
         self.payload = data[size:]
         if not self.payload:
             differ(f"a packet without a payload: {data[:12].hex()}")
+        # RFC 6184, 5.8: a fragment has bits for the start and the end of its unit
+        self.fragment = kind(self.payload) == FU_A
+        bits = self.payload[1] if self.fragment else 0
+        self.start, self.end = bits & 0x80 != 0, bits & 0x40 != 0
 
     def is_of(self, sent):
         """Whether it is what was sent, save for a mark."""
@@ -116,8 +123,7 @@ def packets_of(path):
 
 class Group:
     def __init__(self, first):
-        # the places of its packets
-        self.places = [first]
+        self.packets = [first]
         self.units = []
         self.aggregated = False
 
@@ -142,25 +148,26 @@ def groups_of(packets):
     unit = None
     for i, packet in enumerate(packets):
         payload = packet.payload
-        if kind(payload) != FU_A:
+        if not packet.fragment:
             if unit is not None:
                 differ(f"packet {i} comes within the fragments of a unit")
-            group = Group(i)
+            group = Group(packet)
             group.aggregated = kind(payload) == STAP_A
             group.units = aggregated(payload) if group.aggregated else [payload]
             groups.append(group)
             continue
-        start, end = payload[1] & 0x80 != 0, payload[1] & 0x40 != 0
         head = bytes([payload[0] & 0xE0 | payload[1] & 0x1F])
-        if start == (unit is not None) or start and end or unit and unit[:1] != head:
+        if packet.start == (unit is not None) or packet.start and packet.end or unit and unit[:1] != head:
             differ(f"packet {i} is a fragment out of place")
-        if start:
+        if packet.start:
             unit = head
-            groups.append(Group(i))
+            groups.append(Group(packet))
         else:
-            groups[-1].places.append(i)
+            groups[-1].packets.append(packet)
+        if packet.time != groups[-1].packets[0].time:
+            differ(f"packet {i} is a fragment of another time")
         unit += payload[2:]
-        if end:
+        if packet.end:
             groups[-1].units = [unit]
             unit = None
     if unit is not None:
@@ -175,34 +182,44 @@ def carried(wanted, packets, path):
     return groups
 
 
-# What becomes of arrivals. A packet is accepted where its place is above that of every packet accepted before, and it is not refused.
+# What becomes of arrivals. A packet is accepted where its place is above that of every packet accepted before, and it is not refused: by 4 (see
+# is_short), or by 25, where it goes on with a unit whose packets so far were accepted, and is of another time.
 
 
 class Show:
-    def __init__(self, packets, arrivals, refuses):
+    def __init__(self, senders, arrivals, refuses):
         self.arrivals = len(arrivals)
+        # as they were sent
         self.accepted = set()
         self.marked = set()
         self.late = 0
-        self.refused = 0
+        self.refused = collections.Counter()
         # the first and the last place of each jump
         self.jumps = []
+        self.end = max(len(packets) for packets in senders)
         highest = -1
+        # the time of that unit, while there is one
+        time = None
         for arrival in arrivals:
-            i = (arrival.number - packets[0].number) % 65536
-            if len(packets) <= i or not arrival.is_of(packets[i]):
+            i = place(senders[0], arrival)
+            sent = next((packets[i] for packets in senders if i < len(packets) and arrival.is_of(packets[i])), None)
+            if sent is None:
                 differ(f"number {arrival.number} arrived, and was not sent")
+            goes_on = arrival.fragment and not arrival.start and i == highest + 1 and time is not None
             if i <= highest:
                 self.late += 1
             elif refuses(arrival.payload):
-                self.refused += 1
+                self.refused[4] += 1
+            elif goes_on and arrival.time != time:
+                self.refused[25] += 1
             else:
                 self.jump(highest, i)
-                self.accepted.add(i)
+                self.accepted.add(sent)
                 if is_marked(arrival.payload):
-                    self.marked.add(i)
+                    self.marked.add(sent)
+                time = arrival.time if (arrival.start or goes_on) and not arrival.end else None
                 highest = i
-        self.jump(highest, len(packets))
+        self.jump(highest, self.end)
 
     def jump(self, highest, i):
         if highest + 1 < i:
@@ -210,7 +227,7 @@ class Show:
 
     def handed_out(self, group):
         """The units of a group that was accepted whole. A STAP-A's have not its mark; any other has that of any of its packets."""
-        if group.aggregated or self.marked.isdisjoint(group.places):
+        if group.aggregated or self.marked.isdisjoint(group.packets):
             return group.units
         return [marked(unit) for unit in group.units]
 
@@ -220,27 +237,35 @@ def is_short(payload):
     return len(payload) < 2 or len(payload) == 2 and kind(payload) != 9
 
 
-def show_of(clip, left, path, arrivals, refuses):
-    """The packets, what becomes of the arrivals, the clip's units that are whole in them, and the figures."""
-    packets = packets_of(path)
-    if 32767 < len(packets):
-        differ(f"{path}: more packets than their numbers tell apart")
-    groups = carried(clip_units(clip, left), packets, path)
-    show = Show(packets, packets_of(arrivals), refuses)
-    whole = [unit for group in groups if show.accepted.issuperset(group.places) for unit in show.handed_out(group)]
+def place(packets, packet):
+    return (packet.number - packets[0].number) % 65536
+
+
+def show_of(sent, left, arrivals, refuses):
+    """The first number, what becomes of the arrivals, the units that are whole in them, and the figures. `sent` has each clip with the file of its
+    packets."""
+    senders = []
+    groups = []
+    for clip, path in sent:
+        packets = packets_of(path)
+        if 32767 < len(packets):
+            differ(f"{path}: more packets than their numbers tell apart")
+        groups += carried(clip_units(clip, left), packets, path)
+        senders.append(packets)
+    show = Show(senders, packets_of(arrivals), refuses)
+    groups.sort(key=lambda group: place(senders[0], group.packets[0]))
+    whole = [unit for group in groups if show.accepted.issuperset(group.packets) for unit in show.handed_out(group)]
     total = sum(len(group.units) for group in groups)
-    figures = f"{len(packets)} packets, {show.arrivals} arrived, {len(show.accepted)} accepted; {len(whole)} of {total} units whole"
+    figures = f"{show.end} packets, {show.arrivals} arrived, {len(show.accepted)} accepted; {len(whole)} of {total} units whole"
     figures += f", {marks(whole)} marked"
-    return packets, show, whole, figures
+    return senders[0][0].number, show, whole, figures
 
 
-def account(packets, show, whole, size):
-    first = packets[0].number
+def account(first, show, whole, size):
     lines = [f"jump from {(first + a) % 65536} to {(first + b) % 65536}" for a, b in show.jumps]
     lines += [f"packets {show.arrivals}", f"accepted {len(show.accepted)}", f"late {show.late}", "other sources 0"]
-    if show.refused:
-        lines.append(f"refused 4: {show.refused}")
-    lines.append(f"missed {len(packets) - len(show.accepted)}")
+    lines += [f"refused {number}: {count}" for number, count in sorted(show.refused.items())]
+    lines.append(f"missed {show.end - len(show.accepted)}")
     lines += [f"units {len(whole)}", f"marked units {marks(whole)}", f"bytes {size}"]
     return "".join(line + "\n" for line in lines)
 
@@ -284,6 +309,7 @@ def clip(path, name):
         "long": data.count(CODE) == len(units),
         "short": data.count(CODE) == 0,
         "ended": kinds[10] and kinds[11],
+        "second": 1200 < min(len(unit) for unit in units if kind(unit) in (1, 5)),
     }
     figures = ", ".join(f"{count} of type {t}" for t, count in sorted(kinds.items()))
     figures = f"{len(units)} units, {figures}; the longest has {longest} bytes"
@@ -311,7 +337,7 @@ def sent(path, left, other, mtu, source, first, profile):
         if int(mtu) < len(packet.payload):
             differ(f"{other}: the payload of packet {i} has {len(packet.payload)} bytes")
     units = sum(len(group.units) for group in groups)
-    fragments = sum(len(group.places) for group in groups if 1 < len(group.places))
+    fragments = sum(packet.fragment for packet in packets)
     aggregates = sum(kind(packet.payload) == STAP_A for packet in packets)
     print(f"{len(packets)} packets, {fragments} of them fragments and {aggregates} STAP-A; {units} units")
 
@@ -332,21 +358,29 @@ def timed(path, pictures, ticks):
     print(f"{markers} pictures")
 
 
-def joined(path, left, sent_path, arrivals, other, written):
-    packets, show, whole, figures = show_of(path, left, sent_path, arrivals, is_short)
+def judge(sent, left, arrivals, other, written):
+    first, show, whole, figures = show_of(sent, left, arrivals, is_short)
     compare(whole, units_of(other), other)
     wanted = b"".join(CODE + unit for unit in whole)
     if content(other) != wanted:
         differ(f"{other}: the units are right, what stands between them is not")
-    wanted = account(packets, show, whole, len(wanted)).splitlines()
+    wanted = account(first, show, whole, len(wanted)).splitlines()
     got = content(written).decode().splitlines()
     if got != wanted:
         differ(f"{written}: {next((line for line in wanted if line not in got), 'a line')} must be there, and nothing else")
-    print(figures)
+    print(f"{figures}; {show.refused[25]} of another time")
+
+
+def joined(path, left, sent_path, arrivals, other, written):
+    judge([(path, sent_path)], left, arrivals, other, written)
+
+
+def turned(path, left, sent_path, second, second_path, arrivals, other, written):
+    judge([(path, sent_path), (second, second_path)], left, arrivals, other, written)
 
 
 def whole_in(path, left, sent_path, arrivals, other):
-    _, _, whole, figures = show_of(path, left, sent_path, arrivals, lambda payload: False)
+    _, _, whole, figures = show_of([(path, sent_path)], left, arrivals, lambda payload: False)
     compare(whole, units_of(other), other)
     print(figures)
 
@@ -373,6 +407,7 @@ COMMANDS = {
     "sent": (sent, 7),
     "timed": (timed, 3),
     "joined": (joined, 6),
+    "turned": (turned, 8),
     "whole": (whole_in, 5),
     "rewrite": (rewrite, 3),
 }
