@@ -113,7 +113,8 @@ impl Sending {
         self
     }
 
-    // The n packets of an access unit, as the sender left them; the marker stands on the last.
+    // The n packets of an access unit, as the sender left them. All bear its time, since a joiner refuses a fragment of another; the
+    // marker stands on the last.
     fn write<'a>(self, n: usize, out: &'a [u8], ends: &'a [usize]) -> Sending {
         let mut record = [0u8; 65537];
         let mut sending = self;
