@@ -5,8 +5,11 @@ use nal_read::Kind;
 pub struct Above {
     // whether it is a fragment of an H.264 unit, and not its last
     pub open: bool,
+    // its sender's SSRC
     pub source: u32,
+    // its sequence number
     pub number: u16,
+    // its timestamp
     pub time: u32,
 }
 
