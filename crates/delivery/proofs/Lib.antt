@@ -2,6 +2,7 @@ pub mod Owing
 pub mod Delivering
 pub mod Accepted
 pub mod Sending
+pub mod FrameTimes
 pub mod Calls
 pub mod LentCalls
 pub mod AnySender

@@ -28,8 +28,8 @@ use Rattle.joiner_feed.specs.H264.{forbidden}
 use Rattle.joiner.specs.Join.{Stepped}
 use Rattle.delivery.specs.Show.{Show, payloads}
 use Rattle.delivery.specs.Play.{Machine, ourJoiner, annexB, played}
-use Rattle.delivery.specs.Demand.{Delivered}
-use Rattle.delivery.specs.Frames.{Sending, showOf, SendingPremises, Delivers}
+use Rattle.delivery.specs.Demand.{OneTimeEach, Delivered}
+use Rattle.delivery.specs.Frames.{Sending, showOf, SendingPremises, OneTimeFrames, Delivers}
 use Rattle.delivery.specs.Calls.{Lent, NoneRefused, callsFor, LentEnough, FromTheCalls, lentCallsFor, written}
 use Rattle.delivery.specs.AnySender.{relayed, anyMarked, handedFor, Stream, streamShow, Ruled, DeliversAny}
 use Rattle.delivery.specs.OneMoment.{OneMoment, OfMany, TimesApart, OneSender}
@@ -37,6 +37,7 @@ use Rattle.delivery.specs.Wrong.{Silent, Advancing, Inventing, Unmarking
 use Rattle.delivery.proofs.Delivering.{all-delivered}
 use Rattle.delivery.proofs.Accepted.{accepted-exactly}
 use Rattle.delivery.proofs.Sending.{fragments-clear, sent-show, same-packets}
+use Rattle.delivery.proofs.FrameTimes.{by-frames}
 use Rattle.delivery.proofs.LentCalls as L
 use Rattle.delivery.proofs.Calls as calls
 use Rattle.delivery.proofs.AnySender.{stream-show, lawful-ruled, stream-payloads, relayed-not, unit-marked}
@@ -69,6 +70,10 @@ CALLS-ANSWER = calls.calls-answer
 -- The payloads of the show are those of the sender's definition, in order.
 pub payloads-sent : (x : Sending) → payloads (showOf x) ≡ packetsOf (groupsSent (x .mtu) (x .frames))
 payloads-sent x = same-packets (groupsSent (x .mtu) (x .frames))
+
+-- All packets of one unit carry one timestamp where all of one frame do: so a sender that stamps by frame meets that premise.
+pub FRAME-TIMES : (x : Sending) → OneTimeFrames (x .stamps) (x .mtu) 0 nothingSaved (x .frames) → OneTimeEach (x .stamps) 0 (showOf x .groups)
+FRAME-TIMES x = by-frames (x .stamps) (x .mtu) 0 nothingSaved (x .frames)
 
 -- Sendings of RFC 6184 by any sender, as crate rfc6184 has them: single units, STAP-As with any F and NRI, and units in fragments with any F; and F set
 -- by a relay on any of the packets, each on its own. No single unit is shorter than 3 bytes, but for an access unit delimiter of 2; no fragment is empty.

@@ -29,7 +29,7 @@ use Rattle.delivery.specs.Show.{largest}
 use Rattle.delivery.specs.Play.{Machine, arriving, played}
 use Rattle.delivery.specs.AnySender.{Stream, streamShow, StreamPremises, DeliversAny}
 use Rattle.delivery.specs.OneMoment.{Among, Bears, Origin, Untorn, OneMoment}
-use Rattle.delivery.specs.Wrong.{stampedAs, Timeless}
+use Rattle.delivery.specs.Wrong.{Timeless}
 use Rattle.delivery.proofs.OneMoment.{started}
 
 abbrev fragmentOf : ℕ → Part

@@ -1,13 +1,13 @@
 -- Frames through a fresh sender, as a show: its groups are those of the sender's own definition. Assumes nothing.
 use mathlib.Core.Bool.{Bool}
 use mathlib.Core.List.{List, [], _∷_, _++_, map}
-use Prim.Native.Nat.{ℕ, _%_, _≤_}
+use Prim.Native.Nat.{ℕ, _+_, _%_, _≤_}
 use lib.ListN.{length}
 use Rattle.wire.specs.Each.{Each}
 use Rattle.wire.specs.Packets.{joined}
 use Rattle.packet.specs.Plain.{Stamp}
 use Rattle.annexb.specs.Units.{unitsAt}
-use Rattle.h264_put.specs.Groups.{pair, plain, fragments, fateOf, stapA, fragment}
+use Rattle.h264_put.specs.Groups.{Saved, pair, plain, fragments, fateOf, stapA, fragment, keepAll, groupsOf, packetsOf}
 use Rattle.h264_put.specs.Groups as sender
 use Rattle.h264.specs.Frames.{groupsSent, WhereCoded}
 use Rattle.sequence.specs.Arrival.{Arrival}
@@ -16,7 +16,7 @@ use Rattle.joiner_step.specs.Run.{Units}
 use Rattle.joiner.specs.Sent.{PlainUnit}
 use Rattle.delivery.specs.Show.{Show}
 use Rattle.delivery.specs.Play.{Machine}
-use Rattle.delivery.specs.Demand.{Received, Delivered}
+use Rattle.delivery.specs.Demand.{AllAt, Received, Delivered}
 
 -- ---- what is sent
 
@@ -67,6 +67,13 @@ pub record SendingPremises (avc : Bool) (x : Sending) : Type 0 where
   pub mtu-low : 3 ≤ x .mtu
   pub mtu-high : x .mtu ≤ 65523
   pub received : Received avc (showOf x)
+
+-- all packets of one frame carry one timestamp: that of its first, which has the index i, where v is saved
+abbrev pub OneTimeFrames : (ℕ → Stamp) → (mtu i : ℕ) → Saved → List (List ℕ) → Type 0
+OneTimeFrames stamps mtu i v [] = Unit {0}
+OneTimeFrames stamps mtu i v (frame ∷ frames) =
+    AllAt stamps (stamps i .time) i (packetsOf (groupsOf mtu v (unitsAt mtu frame)))
+    × OneTimeFrames stamps mtu (i + length (packetsOf (groupsOf mtu v (unitsAt mtu frame)))) (keepAll v (unitsAt mtu frame)) frames
 
 -- demand 3 of the joiner m and this prefix, whatever frames a fresh sender sends
 abbrev pub Delivers : Bool → Machine → Type 0
