@@ -11,6 +11,8 @@ pub struct OpenRun {
     pub bytes: Vec<u8>,
     /// one of them had its forbidden bit set
     pub marked: bool,
+    /// the timestamp that they share
+    pub time: u32,
 }
 
 /// What a payload does.
@@ -24,8 +26,8 @@ pub struct Fate {
     pub units: Vec<Vec<u8>>,
 }
 
-/// "H.264 reading: 4, 19, 17 or 18 at the first place", "with 21 before 17".
-pub fn feed(run: Option<OpenRun>, payload: &[u8]) -> Result<Fate, Refusal> {
+/// "H.264 reading: 4, 19, 17 or 18 at the first place", "with 21 before 17", and 25 "after 21", of the packet's time.
+pub fn feed(run: Option<OpenRun>, time: u32, payload: &[u8]) -> Result<Fate, Refusal> {
     let kind = payload.first().map_or(0, |first| first & 0x1F);
     match payload.len() {
         0 | 1 => return refuse(4),
@@ -35,7 +37,7 @@ pub fn feed(run: Option<OpenRun>, payload: &[u8]) -> Result<Fate, Refusal> {
     match kind {
         1..=23 => Ok(handed_out(vec![payload.to_vec()])),
         24 => Ok(handed_out(units_of(&payload[1..])?)),
-        28 => fragment(run, payload),
+        28 => fragment(run, time, payload),
         _ => refuse_with(19, &[usize::from(kind)]),
     }
 }
@@ -64,20 +66,24 @@ fn units_of(mut rest: &[u8]) -> Result<Vec<Vec<u8>>, Refusal> {
 }
 
 /// "A start fragment replaces the run; a continuation without a run yields nothing; the end bit hands the unit out, its first byte
-/// being NRI and type"; E3: "the rebuilt top bit is set if any fragment of the unit had it set".
-fn fragment(run: Option<OpenRun>, payload: &[u8]) -> Result<Fate, Refusal> {
+/// being NRI and type"; E3: "the rebuilt top bit is set if any fragment of the unit had it set"; E4: "A continuation that follows
+/// without a gap but carries another timestamp is refused".
+fn fragment(run: Option<OpenRun>, time: u32, payload: &[u8]) -> Result<Fate, Refusal> {
     let (start, end) = (payload[1] & 0x80 != 0, payload[1] & 0x40 != 0);
     if start && end {
         return refuse(21);
     }
-    let before = if start { Some(OpenRun::default()) } else { run };
+    let before = if start { Some(OpenRun { time, ..OpenRun::default() }) } else { run };
     let Some(before) = before else {
         return Ok(handed_out(vec![]));
     };
+    if time != before.time {
+        return refuse(25);
+    }
     let gathered = [&before.bytes[..], &payload[2..]].concat();
     let marked = before.marked || payload[0] & FORBIDDEN != 0;
     if !end {
-        let run = OpenRun { bytes: gathered.clone(), marked };
+        let run = OpenRun { bytes: gathered.clone(), marked, time };
         return Ok(Fate { run: Some(run), gathered, units: vec![] });
     }
     let top = if marked { FORBIDDEN } else { 0 };

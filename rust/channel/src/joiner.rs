@@ -7,6 +7,7 @@ const LONGEST_RUN: usize = 16_777_215;
 const MOST_MISSED: u64 = 4_294_967_295;
 const LATE: u16 = 32_768;
 
+#[derive(Clone, Debug, PartialEq)]
 pub struct Joiner {
     pub source: u32,
     pub awaited: u16,
@@ -57,6 +58,11 @@ impl Joiner {
         self.run.as_ref().is_some_and(|run| run.marked)
     }
 
+    /// The timestamp of the open run; 0 where none is open.
+    pub fn time(&self) -> u32 {
+        self.run.as_ref().map_or(0, |run| run.time)
+    }
+
     /// "Each call does, in order: 22; packet reading; 20; distance ..; Late ..; 24; H.264 checks", 8 after 22, and 6 and 5 last.
     pub fn join(
         &mut self,
@@ -80,7 +86,7 @@ impl Joiner {
         }
         let missed = self.missed_with(count)?;
         let run = if count > 0 { None } else { self.run.clone() };
-        let fate = feed(run, &packet.payload)?;
+        let fate = feed(run, packet.time, &packet.payload)?;
         if fate.gathered.len() > gather.len().min(LONGEST_RUN) {
             return refuse(6);
         }

@@ -13,7 +13,7 @@ pub mod sender;
 pub mod worked;
 
 /// How many runs a list has: as many as stay under 1 MB.
-pub const RUNS: usize = 2_400;
+pub const RUNS: usize = 2_500;
 
 /// A refusal by the paper's number, and what it carries.
 #[derive(Clone, Debug, PartialEq)]

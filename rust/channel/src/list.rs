@@ -8,7 +8,7 @@ use crate::h264::FORBIDDEN;
 use crate::joiner::{Joined, Joiner};
 use crate::random::Random;
 use crate::runs::{run, Call, Run, PLACES};
-use crate::sender::START;
+use crate::sender::{Stamp, START};
 use crate::{packet, worked, Refusal};
 
 pub struct Row {
@@ -104,11 +104,12 @@ impl Said {
 }
 
 fn played(run: &Run) -> Vec<Row> {
-    let mut joiner = Joiner::open(run.source, run.first);
+    let Stamp { source, number, .. } = run.first;
+    let mut joiner = Joiner::open(source, number);
     joiner.missed = run.missed.into();
     let mut host =
         Host { joiner, gather: vec![FILL; PLACES], gather_len: run.gather, out_len: run.out };
-    let numbers = [run.source.into(), run.first.into(), run.missed.into()];
+    let numbers = [source.into(), number.into(), run.missed.into()];
     let lens = [run.gather as u64, run.out as u64];
     let opened = asked("joiner.open", &[&numbers[..], &lens].concat());
     let opened = host.row(opened, Said::nothing(), vec![]);
@@ -138,9 +139,11 @@ impl Host {
     fn joined(&mut self, packet: &[u8]) -> Row {
         let (open, awaited) = (self.joiner.run.is_some(), self.joiner.awaited);
         let marked = self.joiner.marked();
+        let at_its_time = self.at_its_time(packet);
         let lent = &mut self.gather[..self.gather_len];
         let answer = self.joiner.join(packet, lent, self.out_len);
         let mut notes = of_marks(marked, packet, &answer);
+        notes.extend(at_its_time.map_or(vec![], |otherwise| of_times(packet, &answer, &otherwise)));
         let said = match answer {
             Ok(Joined::Accepted { first, count, out }) => {
                 note(&mut notes, "a jump", count > 0);
@@ -160,6 +163,15 @@ impl Host {
         let text = format!("joiner.join {}", hex(packet));
         let question = Question { text, fields: Fields::question("joiner.join").bytes(packet) };
         self.row(question, said, notes)
+    }
+
+    /// What a packet of another time than the open run's would get if it had the run's.
+    fn at_its_time(&self, packet: &[u8]) -> Option<Result<Joined, Refusal>> {
+        let time = self.joiner.run.as_ref()?.time.to_be_bytes();
+        let other = packet.get(4..8).is_some_and(|own| own != time);
+        let same = other.then(|| [&packet[..4], &time, &packet[8..]].concat())?;
+        let mut gather = self.gather.clone();
+        Some(self.joiner.clone().join(&same, &mut gather[..self.gather_len], self.out_len))
     }
 
     fn closed(&mut self, number: u16) -> Row {
@@ -183,11 +195,14 @@ impl Host {
         let written = self.gather.iter().rposition(|byte| *byte != FILL).map_or(0, |last| last + 1);
         let (gathered, gather) = (self.joiner.gathered(), &self.gather[..written]);
         note(&mut notes, "a marked record", self.joiner.marked());
+        let (running, time) = (self.joiner.run.is_some(), self.joiner.time());
+        note(&mut notes, "an open run of time 0", running && time == 0);
         let (marked, closed) = (u8::from(self.joiner.marked()), u8::from(*closed));
-        let state = format!("{awaited} {missed} {gathered} {marked} {closed} {}", hex(gather));
-        let numbers = [(*source).into(), (*awaited).into(), *missed, gathered as u64];
-        let flags = [marked.into(), closed.into()];
-        let answer = Fields::answer(said.told).bytes(gather).numbers(numbers).numbers(flags);
+        let run = format!("{gathered} {marked} {time}");
+        let state = format!("{awaited} {missed} {run} {closed} {}", hex(gather));
+        let numbers = [(*source).into(), (*awaited).into(), *missed];
+        let run = [gathered as u64, marked.into(), time.into(), closed.into()];
+        let answer = Fields::answer(said.told).bytes(gather).numbers(numbers).numbers(run);
         let answer = said.out.iter().fold(answer, |fields, out| fields.bytes(out));
         Row {
             question: question.text,
@@ -217,6 +232,32 @@ fn of_marks(marked: bool, packet: &[u8], answer: &Result<Joined, Refusal>) -> Ve
         }
         Ok(Joined::Late) => note(&mut notes, "a late packet beside a mark", marked),
         Err(_) => note(&mut notes, "a refusal beside a mark", marked),
+    }
+    notes
+}
+
+/// What became of a packet of another time than the open run's, and what else would have.
+fn of_times(
+    packet: &[u8],
+    answer: &Result<Joined, Refusal>,
+    at_its_time: &Result<Joined, Refusal>,
+) -> Vec<&'static str> {
+    let payload = packet::read(packet).map_or(vec![], |read| read.payload);
+    let fragment = payload.first().is_some_and(|first| first & 0x1F == 28);
+    let mut notes = vec![];
+    match answer {
+        Ok(Joined::Accepted { count, .. }) if fragment => {
+            note(&mut notes, "a start of another time", *count == 0);
+            note(&mut notes, "a jump to another time", *count > 0);
+        }
+        Ok(Joined::Accepted { .. }) => note(&mut notes, "a unit of another time", true),
+        Ok(Joined::Late) => note(&mut notes, "a late packet of another time", true),
+        Err(Refusal { number: 25, .. }) => {
+            let mixed = matches!(at_its_time, Ok(Joined::Accepted { out, .. }) if !out.is_empty());
+            note(&mut notes, "another time that would end the unit", mixed);
+            note(&mut notes, "another time and too little room", at_its_time.is_err());
+        }
+        Err(_) => note(&mut notes, "another refusal of another time", true),
     }
     notes
 }

@@ -11,6 +11,7 @@ const MOST_DATA: usize = 1_024;
 pub struct Packet {
     pub source: u32,
     pub number: u16,
+    pub time: u32,
     pub payload: Vec<u8>,
 }
 
@@ -32,6 +33,7 @@ pub fn read(bytes: &[u8]) -> Result<Packet, Refusal> {
     Ok(Packet {
         source: u32::from_be_bytes([bytes[8], bytes[9], bytes[10], bytes[11]]),
         number: u16::from_be_bytes([bytes[2], bytes[3]]),
+        time: u32::from_be_bytes([bytes[4], bytes[5], bytes[6], bytes[7]]),
         payload: if padded { stripped(&bytes[at..])? } else { bytes[at..].to_vec() },
     })
 }

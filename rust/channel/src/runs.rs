@@ -1,10 +1,10 @@
 //! Runs of calls: a joiner is opened, packets arrive, and it is closed.
 
-use crate::joiner::number;
+use crate::joiner::distance;
 use crate::random::Random;
 use crate::sender::{
-    dressed, first_number, fragment, fragments, group, head, marked, packet, relayed, unit, Group,
-    Show, END, START,
+    dressed, fragment, fragments, group, head, marked, packet, relayed, unit, Group, Show, Stamp,
+    END, START,
 };
 
 /// How long a lent buffer is at the most.
@@ -21,8 +21,8 @@ pub enum Call {
 }
 
 pub struct Run {
-    pub source: u32,
-    pub first: u16,
+    /// with its source and number the joiner is opened
+    pub first: Stamp,
     /// the missed total that the record starts with
     pub missed: u32,
     pub gather: usize,
@@ -32,17 +32,25 @@ pub struct Run {
 
 /// A run of one of the kinds, most often a channel.
 pub fn run(random: &mut Random) -> Run {
-    match random.below(22) {
-        0..=10 => channel(random),
-        11 | 12 => jumps(random, 0),
-        13 => full(random),
-        14 | 15 => rooms(random),
-        16 | 17 => odd(random, payload),
-        18 => odd(random, header),
-        19 => odd(random, stranger),
-        20 => marks(random),
+    match random.below(27) {
+        0..=11 => channel(random),
+        12 | 13 => jumps(random, 0),
+        14 => full(random),
+        15..=17 => rooms(random),
+        18 | 19 => odd(random, payload),
+        20 => odd(random, header),
+        21 => odd(random, stranger),
+        22 => odd(random, intruder),
+        23 => marks(random),
+        24 | 25 => encoders(random),
         _ => closings(random),
     }
+}
+
+/// The stamp of a first packet, of a source that one byte tells.
+fn first(random: &mut Random) -> Stamp {
+    let source = random.byte().into();
+    Stamp::first(random, source)
 }
 
 // ---- a channel that loses, repeats, reorders, damages and mixes in other sources
@@ -50,13 +58,17 @@ pub fn run(random: &mut Random) -> Run {
 fn channel(random: &mut Random) -> Run {
     let groups = if random.one_in(30) { 7 } else { random.within(1..=2) };
     let show = Show::new(random, groups);
-    let tight = |most: usize, less: bool| if less { most.saturating_sub(1) } else { most };
-    let gather = tight(show.longest(), random.one_in(12));
-    let out = tight(show.largest(), random.one_in(12));
+    let gather = tight(random, show.longest());
+    let out = tight(random, show.largest());
     let mut calls: Vec<Call> = arrivals(random, &show).into_iter().map(Call::Join).collect();
     calls.push(Call::Close(show.end()));
     after_closing(random, &show, &mut calls);
-    Run { source: show.source, first: show.first, missed: 0, gather, out, calls }
+    Run { first: show.first, missed: 0, gather, out, calls }
+}
+
+/// As many places as are needed, or now and then one less.
+fn tight(random: &mut Random, needed: usize) -> usize {
+    needed.saturating_sub(random.one_in(12).into())
 }
 
 /// The indices of the packets that arrive, in the order in which they do.
@@ -133,23 +145,24 @@ const DISTANCES: [usize; 16] =
     [0, 0, 0, 0, 0, 1, 1, 2, 3, 32_766, 32_767, 32_767, 32_768, 32_769, 65_534, 65_535];
 
 fn jumps(random: &mut Random, missed: u32) -> Run {
-    let (source, first) = (random.byte().into(), first_number(random));
+    let first = first(random);
     let (mut awaited, mut calls) = (first, vec![]);
     for _ in 0..random.within(2..=5) {
         let d = random.pick(&DISTANCES);
         let payload = piece(random);
-        calls.push(Call::Join(dressed(random, source, number(awaited, d), &payload)));
+        let stamp = awaited.on(d).astray(random, 6);
+        calls.push(Call::Join(dressed(random, stamp, &payload)));
         if d < 32_768 {
-            awaited = number(awaited, d + 1);
+            awaited = awaited.on(d + 1);
         }
     }
-    calls.push(Call::Close(number(awaited, random.pick(&DISTANCES))));
-    Run { source, first, missed, gather: 16, out: 40, calls }
+    calls.push(Call::Close(awaited.on(random.pick(&DISTANCES)).number));
+    Run { first, missed, gather: 16, out: 40, calls }
 }
 
 /// A fragment of a unit, or at times another payload, behind a relay.
 fn piece(random: &mut Random) -> Vec<u8> {
-    let part = random.bytes(1..=3);
+    let part = random.bytes(1..=4);
     let payload = match random.below(9) {
         0..=3 => fragment(head(random), START, &part),
         4 | 5 => fragment(head(random), 0, &part),
@@ -168,43 +181,46 @@ fn full(random: &mut Random) -> Run {
 // ---- buffers that are too small
 
 fn rooms(random: &mut Random) -> Run {
-    let (source, first) = (random.byte().into(), first_number(random));
+    let first = first(random);
     let mut calls = vec![];
     let mut i = 0;
     for _ in 0..random.within(3..=6) {
         if random.one_in(3) {
-            calls.push(Call::Room { gather: random.below(8), out: random.below(14) });
+            calls.push(Call::Room { gather: random.below(5), out: random.below(14) });
         }
         let payload = piece(random);
-        calls.push(Call::Join(packet(random, source, number(first, i), &payload)));
+        let stamp = first.on(i).astray(random, 4);
+        calls.push(Call::Join(packet(random, stamp, &payload)));
         // a packet that was refused for its room is sent again
         i += random.below(2);
     }
-    calls.push(Call::Close(number(first, i)));
-    Run { source, first, missed: 0, gather: random.below(8), out: random.within(5..=14), calls }
+    calls.push(Call::Close(first.on(i).number));
+    Run { first, missed: 0, gather: random.below(8), out: random.within(5..=14), calls }
 }
 
 // ---- a packet that is out of the ordinary, in the midst of a unit
 
-fn odd(random: &mut Random, odd: fn(&mut Random, u32, u16) -> Vec<u8>) -> Run {
-    let (source, first) = (random.byte().into(), first_number(random));
+fn odd(random: &mut Random, odd: fn(&mut Random, Stamp) -> Vec<u8>) -> Run {
+    let first = first(random);
     let head = head(random);
     let sent = |i: usize, bits: u8, random: &mut Random| {
         let part = random.bytes(1..=3);
         let payload = relayed(random, fragment(head, bits, &part));
-        Call::Join(packet(random, source, number(first, i), &payload))
+        Call::Join(packet(random, first.on(i), &payload))
     };
     let mut calls = vec![sent(0, START, random)];
     for _ in 0..random.within(1..=3) {
-        calls.push(Call::Join(odd(random, source, number(first, 1))));
+        let stamp = first.on(1).astray(random, 2);
+        calls.push(Call::Join(odd(random, stamp)));
     }
     calls.push(sent(random.within(1..=2), END, random));
-    calls.push(Call::Close(number(first, random.within(2..=3))));
-    Run { source, first, missed: 0, gather: random.pick(&[16, PLACES]), out: PLACES, calls }
+    calls.push(Call::Close(first.on(random.within(2..=3)).number));
+    let (gather, out) = (random.pick(&[4, 16, PLACES]), random.pick(&[8, PLACES, PLACES]));
+    Run { first, missed: 0, gather, out, calls }
 }
 
 /// A payload too short, of any type, or of a STAP-A or FU-A that is not right.
-fn payload(random: &mut Random, source: u32, number: u16) -> Vec<u8> {
+fn payload(random: &mut Random, stamp: Stamp) -> Vec<u8> {
     let payload = match random.below(5) {
         0 => random.bytes(0..=2),
         1 => [vec![9], random.bytes(0..=1)].concat(),
@@ -213,7 +229,7 @@ fn payload(random: &mut Random, source: u32, number: u16) -> Vec<u8> {
         _ => fragment(head(random), random.pick(&[START | END, START | END, END, 0]), &[7]),
     };
     let payload = relayed(random, payload);
-    packet(random, source, number, &payload)
+    packet(random, stamp, &payload)
 }
 
 /// Sizes that are right, too large or cut off.
@@ -233,9 +249,9 @@ fn stap_a(random: &mut Random) -> Vec<u8> {
 }
 
 /// A header that is too short, or with extensions or padding of any kind.
-fn header(random: &mut Random, source: u32, number: u16) -> Vec<u8> {
+fn header(random: &mut Random, stamp: Stamp) -> Vec<u8> {
     let payload = unit(random);
-    let mut bytes = packet(random, source, number, &payload);
+    let mut bytes = packet(random, stamp, &payload);
     match random.below(8) {
         0 => bytes.truncate(random.below(13)),
         1 => bytes[0] = 0x80 + random.below(4) as u8,
@@ -266,18 +282,27 @@ fn extend(bytes: &mut Vec<u8>, front: &[u8], block: &[u8]) {
 }
 
 /// A packet of another source, whatever it holds.
-fn stranger(random: &mut Random, source: u32, number: u16) -> Vec<u8> {
-    let other = source ^ (1 << random.below(32));
+fn stranger(random: &mut Random, stamp: Stamp) -> Vec<u8> {
+    let source = stamp.source ^ (1 << random.below(32));
     let payload = piece(random);
-    dressed(random, other, number, &payload)
+    dressed(random, Stamp { source, ..stamp }, &payload)
+}
+
+/// A fragment of a second encoder's unit, now and then one that is too short.
+fn intruder(random: &mut Random, stamp: Stamp) -> Vec<u8> {
+    let (head, part) = (head(random), random.bytes(0..=5));
+    let bits = random.pick(&[0, 0, END, END, START, START | END]);
+    let payload = relayed(random, fragment(head, bits, &part));
+    let stamp = stamp.beside(random);
+    packet(random, stamp, &payload)
 }
 
 // ---- a mark that goes with its run
 
 /// Marked fragments of a unit whose last never comes, behind them at times a gap or a payload that is no start, and a unit of clean
-/// fragments. A marked copy of the first packet may come again at any time.
+/// fragments, most often of another time. A marked copy of the first packet may come again at any time.
 fn marks(random: &mut Random) -> Run {
-    let (source, first) = (random.byte().into(), first_number(random));
+    let first = first(random);
     let mut dropped = fragments(random).payloads;
     dropped.pop();
     let place = random.below(dropped.len());
@@ -288,37 +313,75 @@ fn marks(random: &mut Random) -> Run {
         2 => vec![marked(fragment(head(random), random.pick(&[0, END]), &[7]))],
         _ => vec![],
     };
-    let gap = random.pick(&[0, 0, 1, 2]);
-    let behind = [between, fragments(random).payloads].concat();
-    let numbers = (0..dropped.len()).chain(dropped.len() + gap..);
-    let sent = dropped.iter().chain(&behind).zip(numbers);
-    let mut packets: Vec<Vec<u8>> =
-        sent.map(|(payload, i)| packet(random, source, number(first, i), payload)).collect();
-    let end = number(first, packets.len() + gap);
+    let behind = first.on(dropped.len() + random.pick(&[0, 0, 1, 2]));
+    let clean = behind.on(between.len()).beside(random);
+    let unit = fragments(random).payloads;
+    let mut packets = numbered(random, first, &dropped);
+    packets.extend(numbered(random, behind, &between));
+    packets.extend(numbered(random, clean, &unit));
     if random.one_in(3) {
-        let copy = packet(random, source, first, &marked(dropped[0].clone()));
+        let stamp = first.astray(random, 2);
+        let copy = packet(random, stamp, &marked(dropped[0].clone()));
         packets.insert(random.within(1..=packets.len()), copy);
     }
     let mut calls: Vec<Call> = packets.into_iter().map(Call::Join).collect();
-    calls.push(Call::Close(end));
-    Run { source, first, missed: 0, gather: 40, out: 40, calls }
+    calls.push(Call::Close(clean.on(unit.len()).number));
+    Run { first, missed: 0, gather: 40, out: 40, calls }
+}
+
+/// These payloads as packets, numbered from the first one's stamp on, all of its time.
+fn numbered(random: &mut Random, first: Stamp, payloads: &[Vec<u8>]) -> Vec<Vec<u8>> {
+    let packets = payloads.iter().enumerate();
+    packets.map(|(i, payload)| packet(random, first.on(i), payload)).collect()
+}
+
+// ---- a second encoder
+
+/// "Two encoders sharing a failover SSRC once continued each other's unit."
+fn encoders(random: &mut Random) -> Run {
+    let first = first(random);
+    let [one, other] = two_encoders(random, first);
+    let gather = tight(random, one.longest().max(other.longest()));
+    let out = tight(random, one.largest().max(other.largest()));
+    let arrivals = mixed(random, &one, &other);
+    let mut calls: Vec<Call> = arrivals.into_iter().map(Call::Join).collect();
+    calls.push(Call::Close(random.pick(&[one.end(), other.end()])));
+    Run { first, missed: 0, gather, out, calls }
+}
+
+/// Units and times of their own under one SSRC. The other's numbers are the one's, or begin a little later, or go on behind them.
+pub fn two_encoders(random: &mut Random, first: Stamp) -> [Show; 2] {
+    let one = Show::in_fragments(random, first);
+    let later = random.pick(&[0, 0, 0, 1, 2, one.packets.len()]);
+    let first = first.on(later).beside(random);
+    [one, Show::in_fragments(random, first)]
+}
+
+/// What arrives of both: they are sent in the order of their numbers, and of one number either may be sent first.
+pub fn mixed(random: &mut Random, one: &Show, other: &Show) -> Vec<Vec<u8>> {
+    let later = distance(other.first.number, one.first.number);
+    let sent = (0..).zip(&one.packets).chain((later..).zip(&other.packets));
+    let mut sent: Vec<_> = sent.map(|(place, sent)| (place, random.byte(), sent)).collect();
+    sent.sort();
+    order(random, sent.len()).into_iter().map(|i| sent[i].2.clone()).collect()
 }
 
 // ---- closing
 
 fn closings(random: &mut Random) -> Run {
-    let (source, first) = (random.byte().into(), first_number(random));
+    let first = first(random);
     let missed = random.pick(&[0, 0, 7, u32::MAX, u32::MAX - 1, u32::MAX - 32_767]);
     let part = random.bytes(1..=3);
     let start = fragment(head(random), START, &part);
     let start = relayed(random, start);
-    let mut calls = vec![Call::Join(packet(random, source, first, &start))];
+    let mut calls = vec![Call::Join(packet(random, first, &start))];
     for _ in 0..random.within(1..=4) {
-        calls.push(Call::Close(number(first, 1 + random.pick(&DISTANCES))));
+        calls.push(Call::Close(first.on(1 + random.pick(&DISTANCES)).number));
         if random.one_in(3) {
             let payload = piece(random);
-            calls.push(Call::Join(packet(random, source, number(first, 1), &payload)));
+            let stamp = first.on(1).astray(random, 6);
+            calls.push(Call::Join(packet(random, stamp, &payload)));
         }
     }
-    Run { source, first, missed, gather: 16, out: 40, calls }
+    Run { first, missed, gather: 16, out: 40, calls }
 }

@@ -106,17 +106,59 @@ pub fn fragments(random: &mut Random) -> Group {
     Group::fragmented(head, &parts)
 }
 
+/// What the header of a packet says of it.
+#[derive(Clone, Copy)]
+pub struct Stamp {
+    pub source: u32,
+    pub number: u16,
+    pub time: u32,
+}
+
+impl Stamp {
+    /// Of the first packet of this source.
+    pub fn first(random: &mut Random, source: u32) -> Self {
+        Stamp { source, number: first_number(random), time: time(random) }
+    }
+
+    /// Of the packet so many numbers on.
+    pub fn on(self, i: usize) -> Self {
+        Stamp { number: number(self.number, i), ..self }
+    }
+
+    /// With a time that may be mistaken for its own, or by chance is it.
+    pub fn beside(self, random: &mut Random) -> Self {
+        let time = match random.below(6) {
+            0 => self.time,
+            1 => self.time.wrapping_add(1),
+            2 => self.time.wrapping_sub(1),
+            3 | 4 => self.time ^ (1 << random.below(32)),
+            _ => time(random),
+        };
+        Stamp { time, ..self }
+    }
+
+    /// As it is, but one in so many with a time beside its own.
+    pub fn astray(self, random: &mut Random, one_in: usize) -> Self {
+        if random.one_in(one_in) {
+            self.beside(random)
+        } else {
+            self
+        }
+    }
+}
+
 /// A packet of version 2 with no padding, extensions or CSRCs.
-pub fn packet(random: &mut Random, source: u32, number: u16, payload: &[u8]) -> Vec<u8> {
+pub fn packet(random: &mut Random, stamp: Stamp, payload: &[u8]) -> Vec<u8> {
     let kind = 96 + 128 * random.below(2) as u8;
+    let Stamp { source, number, time } = stamp;
     let fixed =
-        [&[0x80, kind], &number.to_be_bytes()[..], &random.bytes(4..=4), &source.to_be_bytes()];
+        [&[0x80, kind], &number.to_be_bytes()[..], &time.to_be_bytes(), &source.to_be_bytes()];
     [&fixed.concat()[..], payload].concat()
 }
 
 /// The same, at times with CSRCs, an extension or padding.
-pub fn dressed(random: &mut Random, source: u32, number: u16, payload: &[u8]) -> Vec<u8> {
-    let mut bytes = packet(random, source, number, payload);
+pub fn dressed(random: &mut Random, stamp: Stamp, payload: &[u8]) -> Vec<u8> {
+    let mut bytes = packet(random, stamp, payload);
     match random.below(24) {
         0 => {
             bytes[0] |= 1;
@@ -135,10 +177,10 @@ pub fn dressed(random: &mut Random, source: u32, number: u16, payload: &[u8]) ->
     bytes
 }
 
-/// What a sender sends, and in half of the shows a relay hands on: packet i bears (first + i) mod 65,536.
+/// What a sender sends, and in half of the shows a relay hands on: packet i bears (first + i) mod 65,536, and "all packets of one unit
+/// carry one timestamp".
 pub struct Show {
-    pub source: u32,
-    pub first: u16,
+    pub first: Stamp,
     pub groups: Vec<Group>,
     pub packets: Vec<Vec<u8>>,
 }
@@ -146,20 +188,35 @@ pub struct Show {
 impl Show {
     pub fn new(random: &mut Random, groups: usize) -> Self {
         let source = random.pick(&[3, 0, u32::MAX, 0x1234_5678, 0x0001_0000]);
-        let first = first_number(random);
-        let mut groups: Vec<Group> = (0..groups).map(|_| group(random)).collect();
+        let first = Stamp::first(random, source);
+        let groups = (0..groups).map(|_| group(random)).collect();
+        Show::from(random, first, groups)
+    }
+
+    /// One or two units in fragments.
+    pub fn in_fragments(random: &mut Random, first: Stamp) -> Self {
+        let units = (0..random.within(1..=2)).map(|_| fragments(random)).collect();
+        Show::from(random, first, units)
+    }
+
+    fn from(random: &mut Random, first: Stamp, mut groups: Vec<Group>) -> Self {
         if random.one_in(2) {
             groups = groups.into_iter().map(|group| group.relayed(random)).collect();
         }
-        let payloads = groups.iter().flat_map(|group| group.payloads.clone()).enumerate();
-        let packets =
-            payloads.map(|(i, payload)| dressed(random, source, number(first, i), &payload));
-        Show { source, first, packets: packets.collect(), groups }
+        let (mut packets, mut next) = (vec![], first);
+        for group in &groups {
+            for payload in &group.payloads {
+                packets.push(dressed(random, next, payload));
+                next = next.on(1);
+            }
+            next.time = next.time.wrapping_add(random.pick(&STEPS));
+        }
+        Show { first, packets, groups }
     }
 
     /// "Closing takes the number after the last sent".
     pub fn end(&self) -> u16 {
-        number(self.first, self.packets.len())
+        self.first.on(self.packets.len()).number
     }
 
     /// "gather for the longest unit less one byte".
@@ -173,8 +230,19 @@ impl Show {
     }
 }
 
+/// From a group's time to the next one's: none within a picture.
+const STEPS: [u32; 4] = [0, 1, 3_000, 3_000];
+
+/// Often one beside the wrap.
+fn time(random: &mut Random) -> u32 {
+    match random.below(3) {
+        0 => random.pick(&[0, 1, u32::MAX, u32::MAX - 1]),
+        _ => random.below(1 << 32) as u32,
+    }
+}
+
 /// Often one before a wrap, or before the half of the numbers.
-pub fn first_number(random: &mut Random) -> u16 {
+fn first_number(random: &mut Random) -> u16 {
     match random.below(4) {
         0 => u16::MAX - random.below(5) as u16,
         1 => 32_764 + random.below(8) as u16,

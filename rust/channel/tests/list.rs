@@ -2,7 +2,7 @@
 
 use ::rows::{number, Row, NOTHING};
 use channel::list::{binary, counts, hex, rows, text};
-use channel::RUNS;
+use channel::{packet, RUNS};
 
 #[test]
 fn the_list_is_the_one_that_is_replayed() {
@@ -38,13 +38,13 @@ fn answer(row: &Row) -> String {
     let a: Vec<u64> = row.answer.iter().map(|field| number(field)).collect();
     let said = match (a[0], row.name()) {
         (0, "joiner.join") => {
-            assert_eq!(a[3], row.answer[11].len() as u64);
-            format!("ok {} {} {}", a[1], a[2], hex(row.answer[11]))
+            assert_eq!(a[3], row.answer[12].len() as u64);
+            format!("ok {} {} {}", a[1], a[2], hex(row.answer[12]))
         }
         (0, "joiner.close") => format!("ok {} {}", a[1], a[2]),
         (0, _) => "ok".to_string(),
         (other, _) => {
-            assert!(row.answer.get(11).is_none_or(|out| out.is_empty()));
+            assert!(row.answer.get(12).is_none_or(|out| out.is_empty()));
             match other {
                 NOTHING => "late".to_string(),
                 17 => format!("refused 17 {} {}", a[1], a[2]),
@@ -53,7 +53,7 @@ fn answer(row: &Row) -> String {
             }
         }
     };
-    let state: String = a[6..=10].iter().map(|number| format!(" {number}")).collect();
+    let state: String = a[6..=11].iter().map(|number| format!(" {number}")).collect();
     format!("{said}{state} {}", hex(row.answer[4]))
 }
 
@@ -61,7 +61,7 @@ fn answer(row: &Row) -> String {
 fn every_answer_is_in_it() {
     let counted = counts(&rows(1, RUNS));
     let has = |what: &str| counted.lines().any(|line| line.split("  ").next() == Some(what));
-    for number in [1, 2, 3, 4, 5, 6, 7, 8, 17, 18, 19, 20, 21, 22, 24] {
+    for number in [1, 2, 3, 4, 5, 6, 7, 8, 17, 18, 19, 20, 21, 22, 24, 25] {
         assert!(counted.contains(&format!("joiner.join   refused {number} ")), "{number}");
     }
     for number in [22, 23, 24] {
@@ -84,9 +84,32 @@ fn every_answer_is_in_it() {
         "with a late packet beside a mark",
         "with a refusal beside a mark",
         "with a closing that drops a mark",
+        "with an open run of time 0",
+        "with a start of another time",
+        "with a jump to another time",
+        "with a unit of another time",
+        "with a late packet of another time",
+        "with another refusal of another time",
+        "with another time that would end the unit",
+        "with another time and too little room",
     ] {
         assert!(has(note), "{note}");
     }
+}
+
+// E4: "is refused and changes nothing".
+#[test]
+fn a_unit_ends_behind_a_fragment_of_another_time() {
+    let list = rows(1, RUNS);
+    let ends = |row: &channel::list::Row| {
+        let read = packet::read(::rows::rows(&row.binary)[0].question[1]);
+        let fragment =
+            |packet: packet::Packet| packet.payload.first().is_some_and(|b| b & 0x1F == 28);
+        read.is_ok_and(fragment) && row.notes.contains(&"bytes handed out")
+    };
+    let pairs = list.windows(2);
+    let behind = pairs.filter(|pair| pair[0].answer.starts_with("refused 25 ") && ends(&pair[1]));
+    assert!(behind.count() > 30);
 }
 
 #[test]

@@ -6,8 +6,8 @@ use std::collections::BTreeSet;
 
 use channel::joiner::{Joined, Joiner};
 use channel::random::Random;
-use channel::runs::{foreign, order};
-use channel::sender::{Group, Show};
+use channel::runs::{foreign, mixed, order, two_encoders};
+use channel::sender::{Group, Show, Stamp};
 
 /// The indices that are above every index that arrived before them.
 fn accepted(order: &[usize]) -> Vec<usize> {
@@ -48,7 +48,7 @@ fn exactly_the_whole_groups_in_order() {
         let show = Show::new(&mut random, groups);
         let order = order(&mut random, show.packets.len());
         let (mut gather, room) = (vec![0; show.longest()], show.largest());
-        let mut joiner = Joiner::open(show.source, show.first);
+        let mut joiner = Joiner::open(show.first.source, show.first.number);
         let (mut taken, mut handed) = (vec![], vec![]);
         for i in &order {
             if random.one_in(8) {
@@ -89,4 +89,61 @@ fn a_group_is_marked_where_a_fragment_is() {
             }
         }
     }
+}
+
+/// The timestamps of these packets.
+fn times(packets: &[Vec<u8>]) -> BTreeSet<[u8; 4]> {
+    packets.iter().map(|packet| packet[4..8].try_into().unwrap()).collect()
+}
+
+// E4: "all packets of one unit carry one timestamp."
+#[test]
+fn a_group_has_one_time() {
+    let mut random = Random::new(7);
+    let (mut shared, mut wrapped) = (0, 0);
+    for _ in 0..1_000 {
+        let show = Show::new(&mut random, 8);
+        let (mut rest, mut before) = (&show.packets[..], None);
+        for group in &show.groups {
+            let (packets, behind) = rest.split_at(group.payloads.len());
+            let time = times(packets).pop_first();
+            assert_eq!(times(packets).len(), 1);
+            shared += usize::from(time == before);
+            wrapped += usize::from(time < before);
+            (rest, before) = (behind, time);
+        }
+        assert!(rest.is_empty());
+    }
+    assert!(shared > 1_000 && wrapped > 100, "{shared} {wrapped}");
+}
+
+// E4: "Two encoders sharing a failover SSRC once continued each other's unit." Of two that have no time in common each unit handed out
+// is one of them's, though a fragment of the other often would go on with it.
+#[test]
+fn no_unit_is_of_two_encoders() {
+    let mut random = Random::new(7);
+    let (mut handed, mut refused) = (0, 0);
+    for _ in 0..3_000 {
+        let first = Stamp::first(&mut random, 3);
+        let [one, other] = two_encoders(&mut random, first);
+        if !times(&one.packets).is_disjoint(&times(&other.packets)) {
+            continue;
+        }
+        let (mut joiner, mut gather) = (Joiner::open(3, first.number), [0; 64]);
+        for packet in mixed(&mut random, &one, &other) {
+            match joiner.join(&packet, &mut gather, 64) {
+                Ok(Joined::Accepted { out, .. }) if !out.is_empty() => {
+                    let mut groups = one.groups.iter().chain(&other.groups);
+                    assert!(groups.any(|group| group.handed == out));
+                    handed += 1;
+                }
+                Ok(_) => {}
+                Err(refusal) => {
+                    assert_eq!(refusal.number, 25);
+                    refused += 1;
+                }
+            }
+        }
+    }
+    assert!(handed > 1_000 && refused > 1_000, "{handed} {refused}");
 }

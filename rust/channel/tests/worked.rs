@@ -257,7 +257,7 @@ fn the_order_of_the_checks() {
 
 #[test]
 fn payloads() {
-    let units = |payload: &[u8]| feed(None, payload).map(|fate| fate.units);
+    let units = |payload: &[u8]| feed(None, 2, payload).map(|fate| fate.units);
     assert_eq!(units(&[0x18, 0, 1, 0x41, 5]), refuse(18));
     assert_eq!(units(&[0x18, 0, 2, 0x41]), refuse_with(17, &[2, 1]));
     let pair = [0x78, 0, 2, 0x67, 0xAA, 0, 2, 0x68, 0xBB];
@@ -270,7 +270,7 @@ fn payloads() {
 fn packets() {
     let payload = |bytes: &[u8]| read(bytes).map(|packet| packet.payload);
     let h = packet(1, &[]);
-    assert_eq!(read(&h), Ok(Packet { source: 3, number: 1, payload: vec![] }));
+    assert_eq!(read(&h), Ok(Packet { source: 3, number: 1, time: 2, payload: vec![] }));
     assert_eq!(payload(&h[..11]), refuse(1));
     let one = |rest: &[u8]| payload(&extended(&[&[0xBE, 0xDE, 0, 1], rest].concat()));
     assert_eq!(one(&[0x10, 0xAA, 0, 0]), Ok(vec![]));
