@@ -72,7 +72,7 @@ impl Host {
         let joiner = step.joiner;
         self.joiner = joiner;
         self.gather = gather;
-        let same = equal::buffer(joined(a, answer), rows::field(a, 11), rows::FILL, &out);
+        let same = equal::buffer(joined(a, answer), rows::field(a, 12), rows::FILL, &out);
         self.stands(same, a)
     }
 
@@ -106,7 +106,8 @@ impl Host {
             false
         };
         let same = equal::flag(same, a, 9, j.marked);
-        self.same = equal::flag(same, a, 10, j.closed);
+        let same = equal::word(same, a, 10, j.time);
+        self.same = equal::flag(same, a, 11, j.closed);
         self
     }
 }
