@@ -43,6 +43,14 @@ fn marked(closed: bool) -> Joiner {
     joiner
 }
 
+// A time where no run is open.
+fn timed(closed: bool) -> Joiner {
+    let mut joiner = Joiner::open(3, 1);
+    joiner.time = 2;
+    joiner.closed = closed;
+    joiner
+}
+
 pub fn all() {
     let long = [0x80u8; 65536];
     let packet = *b"\x80\x60\x00\x01\x00\x00\x00\x02\x00\x00\x00\x03\x41\x01\x02";
@@ -74,5 +82,21 @@ pub fn all() {
     tell(
         b"joiner close, a mark and no run, closed",
         close(marked(true)) as u64,
+    );
+    tell(
+        b"joiner join, a time and no run",
+        join(timed(false), &packet) as u64,
+    );
+    tell(
+        b"joiner close, a time and no run",
+        close(timed(false)) as u64,
+    );
+    tell(
+        b"joiner join, a time and no run, closed",
+        join(timed(true), &packet) as u64,
+    );
+    tell(
+        b"joiner close, a time and no run, closed",
+        close(timed(true)) as u64,
     );
 }
