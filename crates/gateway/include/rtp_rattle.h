@@ -48,7 +48,8 @@ enum rtp_refusal {
     RTP_START_AND_END = 21,                         /* joiner: FU-A with start and end both set */
     RTP_ALREADY_CLOSED = 22,                        /* joiner already closed */
     RTP_CLOSING_TOO_FAR = 23,                       /* closing number 32,768 or more ahead of the awaited one */
-    RTP_MISSED_TOTAL_FULL = 24                      /* missed total would pass 4,294,967,295 */
+    RTP_MISSED_TOTAL_FULL = 24,                     /* missed total would pass 4,294,967,295 */
+    RTP_OTHER_TIME = 25                             /* joiner: fragment of another time */
 };
 
 struct rtp_refused {
@@ -478,6 +479,8 @@ struct rtp_joiner {
                        * other number where no run is open is refused with 8 */
     bool marked;      /* a fragment of the open run had its forbidden bit set; false where no run is open. True where no run is open is
                        * refused with 8 */
+    uint32_t time;    /* the timestamp that the fragments of the open run share: any number; 0 where no run is open. Any other number where
+                       * no run is open is refused with 8 */
     bool closed;      /* closed: every call answers 22 */
 };
 
@@ -500,7 +503,9 @@ struct rtp_joiner rtp_joiner_open(uint32_t ssrc, uint16_t first);
 
 /* Brings the joiner up to date by a packet. The gather buffer is left alone between calls; units are handed out in out, each behind
  * 00 00 00 01. The first byte of a unit that came in fragments has NRI and type of the last of them, and the forbidden bit where any of them
- * had it; every other unit is handed out as it came. */
+ * had it; every other unit is handed out as it came.
+ * All fragments of a unit carry one timestamp. One that is no start and has the awaited number, but another timestamp than the open run, is of
+ * another unit, as where a second encoder sends under the same SSRC: it is refused with 25, and its number is awaited still. */
 struct rtp_joined rtp_joiner_join(struct rtp_joiner *joiner, const uint8_t *packet, size_t packet_len, uint8_t *gather, size_t gather_len,
                                   uint8_t *out, size_t out_len);
 
@@ -511,8 +516,7 @@ struct rtp_closed rtp_joiner_close(struct rtp_joiner joiner, uint16_t number);
 
 /* How many bytes each record above has, as the calls were compiled: a host whose `sizeof (struct rtp_header)` is not
  * `rtp_sizes().header` was compiled with another header, and must not call. Equal sizes alone do not show that the headers are equal: `running`
- * and `marked` of a joiner take bytes that would be padding without them, and where a header without `marked` has `closed`, there `marked`
- * stands now. This record too grows where one is added, and is then longer than an older host's: compile with the header that came with the
+ * of a joiner takes a byte that would be padding without it. This record too grows where one is added, and is then longer than an older host's: compile with the header that came with the
  * archive before you ask. */
 struct rtp_sizes {
     size_t refused;

@@ -68,8 +68,8 @@ pub extern "C" fn rtp_sizes() -> RtpSizes
         vp8_sent: 48,
         vp8_packet: 14,
         vp8_read: 48,
-        joiner: 32,
+        joiner: 40,
         joined: 40,
-        closed: 64,
+        closed: 72,
     }
 }
