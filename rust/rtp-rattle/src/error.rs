@@ -59,10 +59,12 @@ pub enum Error {
     ClosingTooFar,
     /// 24: missed total would pass 4,294,967,295
     MissedTotalFull,
+    /// 25: joiner: fragment of another time
+    OtherTime,
 }
 
 impl Error {
-    /// The refusal's number, 1 to 24.
+    /// The refusal's number, 1 to 25.
     pub fn number(self) -> u8 {
         use Error::*;
         match self {
@@ -90,6 +92,7 @@ impl Error {
             AlreadyClosed => 22,
             ClosingTooFar => 23,
             MissedTotalFull => 24,
+            OtherTime => 25,
         }
     }
 }
@@ -139,6 +142,7 @@ impl sys::Refused {
             22 => AlreadyClosed,
             23 => ClosingTooFar,
             24 => MissedTotalFull,
+            25 => OtherTime,
             other => unreachable!("no refusal has the number {other}"),
         })
     }
@@ -179,6 +183,7 @@ impl fmt::Display for Error {
             AlreadyClosed => "joiner already closed",
             ClosingTooFar => "closing number too far ahead",
             MissedTotalFull => "too many packets missed",
+            OtherTime => "fragment of another time",
         };
         f.write_str(text)
     }

@@ -39,6 +39,7 @@ impl fmt::Debug for Joiner {
             .field("running", &self.record.running)
             .field("gathered", &self.record.gathered)
             .field("marked", &self.record.marked)
+            .field("time", &self.record.time)
             .field("closed", &self.is_closed())
             .finish()
     }
@@ -52,7 +53,9 @@ impl Joiner {
         Joiner { record: unsafe { sys::rtp_joiner_open(ssrc, first) }, gather: vec![0; room] }
     }
 
-    /// Takes a packet: the units that it completes are written to the front of `out`.
+    /// Takes a packet: the units that it completes are written to the front of `out`. A fragment that is no start and has the awaited
+    /// number, but another timestamp than the open run, is refused with [`Error::OtherTime`](crate::Error::OtherTime), and its number
+    /// is awaited still.
     pub fn join<'a>(&mut self, packet: &[u8], out: &'a mut [u8]) -> Result<Joined<'a>> {
         // SAFETY: the record and the slices are lent for the call, and those that are written overlap nothing.
         let joined = unsafe {

@@ -223,6 +223,7 @@ pub struct Joiner {
     pub running: bool,
     pub gathered: usize,
     pub marked: bool,
+    pub time: u32,
     pub closed: bool,
 }
 
@@ -595,14 +596,14 @@ mod tests {
     }
 
     /// What a record says of its run.
-    fn run(joiner: &Joiner) -> (bool, usize, bool) {
-        (joiner.running, joiner.gathered, joiner.marked)
+    fn run(joiner: &Joiner) -> (bool, usize, bool, u32) {
+        (joiner.running, joiner.gathered, joiner.marked, joiner.time)
     }
 
-    const NO_RUN: (bool, usize, bool) = (false, 0, false);
+    const NO_RUN: (bool, usize, bool, u32) = (false, 0, false, 0);
 
-    /// A length or a mark where no run is open: 8, behind 22, and nothing is changed. Beside an open run it is taken.
-    fn without_a_run(gathered: usize, marked: bool) {
+    /// A length, a mark or a time where no run is open: 8, behind 22, and nothing is changed. Beside an open run it is taken.
+    fn without_a_run(gathered: usize, marked: bool, time: u32) {
         let (mut gather, mut out) = ([0xEE; 64], [0xEE; 64]);
         // SAFETY: the call takes no slice.
         let open = unsafe { rtp_joiner_open(3, 1) };
@@ -610,7 +611,7 @@ mod tests {
         for (running, closed, number) in
             [(false, false, 8), (false, true, 22), (true, true, 22), (true, false, 0)]
         {
-            let record = Joiner { running, gathered, marked, closed, ..open };
+            let record = Joiner { running, gathered, marked, time, closed, ..open };
             // SAFETY: the record goes by value.
             let shut = unsafe { rtp_joiner_close(record, 1) };
             assert_eq!(shut.refused.number, number);
@@ -630,28 +631,77 @@ mod tests {
 
     #[test]
     fn length_without_a_run() {
-        without_a_run(2, false);
+        without_a_run(2, false, 0);
     }
 
     #[test]
     fn mark_without_a_run() {
-        without_a_run(0, true);
-        without_a_run(2, true);
+        without_a_run(0, true, 0);
+        without_a_run(2, true, 0);
     }
 
-    /// A start fragment opens the run, with its mark, and closing drops both.
+    #[test]
+    fn time_without_a_run() {
+        for time in [1, 1 << 31, u32::MAX] {
+            without_a_run(0, false, time);
+        }
+        without_a_run(2, true, 2);
+    }
+
+    /// H with this number and time, and a payload.
+    fn packet(number: u16, time: u32, payload: &[u8]) -> Vec<u8> {
+        let (number, time) = (number.to_be_bytes(), time.to_be_bytes());
+        [&PLAIN[..2], &number, &time, &PLAIN[8..12], payload].concat()
+    }
+
+    /// A joiner with a run that a start fragment opened.
+    fn opened(first: u8, time: u32, gather: &mut [u8]) -> Joiner {
+        // SAFETY: the call takes no slice.
+        let mut joiner = unsafe { rtp_joiner_open(3, 1) };
+        let start = packet(1, time, &[first, 0x85, 1, 2]);
+        assert_eq!(join(&mut joiner, &start, gather, &mut []).refused.number, 0);
+        joiner
+    }
+
+    const TIMES: [u32; 5] = [0, 1, 2, 1 << 31, u32::MAX];
+
+    /// A start fragment opens the run, with its mark and its time, and closing drops both.
     #[test]
     fn open_run() {
         for (first, marked) in [(0x7C, false), (0xFC, true)] {
+            for time in TIMES {
+                let joiner = opened(first, time, &mut [0xEE; 64]);
+                assert_eq!(run(&joiner), (true, 2, marked, time));
+                // SAFETY: the record goes by value.
+                let shut = unsafe { rtp_joiner_close(joiner, 2) };
+                assert_eq!(run(&shut.joiner), NO_RUN);
+            }
+        }
+    }
+
+    /// E4: "A continuation that follows without a gap but carries another timestamp is refused and changes nothing."
+    #[test]
+    fn fragment_of_another_time() {
+        for (time, other) in TIMES.into_iter().flat_map(|t| TIMES.map(|o| (t, o))) {
+            if time == other {
+                continue;
+            }
             let (mut gather, mut out) = ([0xEE; 64], [0xEE; 64]);
-            let start = [&PLAIN[..12], &[first, 0x85, 1, 2]].concat();
-            // SAFETY: the call takes no slice.
-            let mut joiner = unsafe { rtp_joiner_open(3, 1) };
-            assert_eq!(join(&mut joiner, &start, &mut gather, &mut out).refused.number, 0);
-            assert_eq!(run(&joiner), (true, 2, marked));
-            // SAFETY: the record goes by value.
-            let shut = unsafe { rtp_joiner_close(joiner, 2) };
-            assert_eq!(run(&shut.joiner), NO_RUN);
+            let mut joiner = opened(0x7C, time, &mut gather);
+            for payload in [&b"\x7C\x05\x03"[..], b"\x7C\x45\x03", b"\xFC\x05\x03"] {
+                let joined = join(&mut joiner, &packet(2, other, payload), &mut gather, &mut out);
+                assert_eq!((joined.refused.number, joined.refused.carried), (25, [0, 0]));
+                assert_eq!(
+                    (joined.late, joined.first, joined.count, joined.bytes),
+                    (false, 0, 0, 0)
+                );
+                assert_eq!(run(&joiner), (true, 2, false, time));
+                assert_eq!((joiner.source, joiner.awaited, joiner.missed), (3, 2, 0));
+                assert_eq!((&gather[..2], gather[2], out), (&[1, 2][..], 0xEE, [0xEE; 64]));
+            }
+            let end = packet(2, time, b"\x7C\x45\x03");
+            assert_eq!(join(&mut joiner, &end, &mut gather, &mut out).bytes, 8);
+            assert_eq!((&out[4..8], run(&joiner)), (&[0x65, 1, 2, 3][..], NO_RUN));
         }
     }
 }

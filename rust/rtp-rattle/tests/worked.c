@@ -281,29 +281,39 @@ static void vp8(void) {
     CHECK(rtp_vp8_is_partition_head(out, 4).holds && rtp_vp8_is_partition_tail(true));
 }
 
+/* "The three FU-A above as 65535, 0, 1". */
+static const struct {
+    uint16_t number;
+    const char *payload;
+    size_t len;
+} fragments[3] = {{65535, "\x7C\x85\1\2", 4}, {0, "\x7C\5\3\4", 4}, {1, "\x7C\x45\5", 3}};
+
+/* Fragment i with this time in a packet, which has 16 bytes: how long it is. */
+static size_t stamped(size_t i, uint32_t time, uint8_t *packet) {
+    memcpy(packet, H, 12);
+    packet[2] = (uint8_t)(fragments[i].number >> 8);
+    packet[3] = (uint8_t)fragments[i].number;
+    for (int k = 0; k < 4; k++)
+        packet[4 + k] = (uint8_t)(time >> (24 - 8 * k));
+    memcpy(packet + 12, fragments[i].payload, fragments[i].len);
+    return 12 + fragments[i].len;
+}
+
 /* The three fragments, of which the first bears this mark. */
 static void joining(uint8_t mark) {
-    static const struct {
-        uint16_t number;
-        const char *payload;
-        size_t len;
-    } sent[3] = {{65535, "\x7C\x85\1\2", 4}, {0, "\x7C\5\3\4", 4}, {1, "\x7C\x45\5", 3}};
     struct rtp_joiner joiner = rtp_joiner_open(3, 65535);
     uint8_t gather[5], out[10];
     struct rtp_joined joined;
     for (size_t i = 0; i < 3; i++) {
         uint8_t packet[16];
-        memcpy(packet, H, 12);
-        packet[2] = (uint8_t)(sent[i].number >> 8);
-        packet[3] = (uint8_t)sent[i].number;
-        memcpy(packet + 12, sent[i].payload, sent[i].len);
+        size_t len = stamped(i, 2, packet);
         packet[12] |= i == 0 ? mark : 0;
-        joined = rtp_joiner_join(&joiner, packet, 12 + sent[i].len, gather, sizeof gather, out, sizeof out);
-        CHECK(joined.refused.number == 0 && !joined.late && joined.first == sent[i].number && joined.count == 0);
-        CHECK(joiner.running == (i < 2) && joiner.marked == (i < 2 && mark != 0));
+        joined = rtp_joiner_join(&joiner, packet, len, gather, sizeof gather, out, sizeof out);
+        CHECK(joined.refused.number == 0 && !joined.late && joined.first == fragments[i].number && joined.count == 0);
+        CHECK(joiner.running == (i < 2) && joiner.marked == (i < 2 && mark != 0) && joiner.time == (i < 2 ? 2u : 0u));
     }
     CHECK(joined.bytes == 10 && SAME(out, "\0\0\0\1") && out[4] == (0x65 | mark) && SAME(out + 5, "\1\2\3\4\5"));
-    CHECK(joiner.awaited == 2 && joiner.missed == 0 && !joiner.running && joiner.gathered == 0 && !joiner.marked);
+    CHECK(joiner.awaited == 2 && joiner.missed == 0 && !joiner.running && joiner.gathered == 0 && !joiner.marked && joiner.time == 0);
     struct rtp_closed closed = rtp_joiner_close(joiner, 4);
     CHECK(closed.refused.number == 0 && closed.first == 2 && closed.count == 2 && closed.joiner.closed && closed.joiner.missed == 2);
     CHECK(rtp_joiner_close(closed.joiner, 4).refused.number == RTP_ALREADY_CLOSED);
@@ -315,6 +325,32 @@ static void joining(uint8_t mark) {
     joiner.marked = true;
     CHECK(rtp_joiner_join(&joiner, H, 12, gather, sizeof gather, out, sizeof out).refused.number == RTP_OUTSIDE_DOMAIN);
     CHECK(joiner.awaited == 1 && joiner.marked && rtp_joiner_close(joiner, 1).refused.number == RTP_OUTSIDE_DOMAIN);
+    joiner = rtp_joiner_open(3, 1);
+    joiner.time = 2;
+    CHECK(rtp_joiner_join(&joiner, H, 12, gather, sizeof gather, out, sizeof out).refused.number == RTP_OUTSIDE_DOMAIN);
+    CHECK(joiner.awaited == 1 && joiner.time == 2 && rtp_joiner_close(joiner, 1).refused.number == RTP_OUTSIDE_DOMAIN);
+}
+
+/* The fragments with one time; before each but the first it comes with the other, which is refused and leaves all as it was. */
+static void joining_times(uint32_t time, uint32_t other) {
+    struct rtp_joiner joiner = rtp_joiner_open(3, 65535);
+    uint8_t gather[5] = {0}, out[10] = {0}, packet[16];
+    for (size_t i = 0; i < 3; i++) {
+        struct rtp_joiner before = joiner;
+        uint8_t gathered[5], handed[10] = {0};
+        memcpy(gathered, gather, sizeof gather);
+        size_t len = stamped(i, other, packet);
+        if (i > 0) {
+            struct rtp_joined joined = rtp_joiner_join(&joiner, packet, len, gather, sizeof gather, out, sizeof out);
+            CHECK(joined.refused.number == RTP_OTHER_TIME && joined.refused.carried[0] == 0 && joined.bytes == 0 && !joined.late);
+            CHECK(joiner.awaited == before.awaited && joiner.missed == 0 && joiner.running && joiner.gathered == before.gathered);
+            CHECK(joiner.source == 3 && !joiner.marked && joiner.time == time && !joiner.closed);
+            CHECK(memcmp(gather, gathered, sizeof gather) == 0 && memcmp(out, handed, sizeof out) == 0);
+        }
+        len = stamped(i, time, packet);
+        CHECK(rtp_joiner_join(&joiner, packet, len, gather, sizeof gather, out, sizeof out).refused.number == 0);
+    }
+    CHECK(SAME(out, "\0\0\0\1\x65\1\2\3\4\5") && joiner.awaited == 2 && !joiner.running && joiner.time == 0);
 }
 
 /* What takes 16 MiB, more than the gate's programs have room for: a frame of one byte too many, and runs around the longest. */
@@ -358,6 +394,9 @@ int main(void) {
     vp8();
     joining(0);
     joining(0x80);
+    joining_times(2, 9);
+    joining_times(0, UINT32_MAX);
+    joining_times(UINT32_MAX, 0);
     limits();
     return 0;
 }

@@ -21,7 +21,12 @@ fn extended(rest: &[u8]) -> Vec<u8> {
 
 /// H with another sequence number, and a payload.
 fn numbered(number: u16, payload: &[u8]) -> Vec<u8> {
-    [&H[..2], &number.to_be_bytes(), &H[4..], payload].concat()
+    stamped(number, 2, payload)
+}
+
+/// H with another sequence number and timestamp, and a payload.
+fn stamped(number: u16, time: u32, payload: &[u8]) -> Vec<u8> {
+    [&H[..2], &number.to_be_bytes(), &time.to_be_bytes(), &H[8..], payload].concat()
 }
 
 /// The payloads of a frame that a sender cuts.
@@ -274,7 +279,7 @@ fn joined() {
     }
     assert_eq!(out, [0xEE; 10]);
     let shown = "Joiner { source: 3, awaited: 1, missed: 0, running: true, gathered: 4, \
-                 marked: false, closed: false }";
+                 marked: false, time: 2, closed: false }";
     assert_eq!(format!("{joiner:?}"), shown);
     let units = b"\x00\x00\x00\x01\x65\x01\x02\x03\x04\x05";
     let accepted = Joined::Accepted { first: 1, count: 0, units };
@@ -327,6 +332,48 @@ fn marked_units() {
     let units = b"\x00\x00\x00\x01\x65\x01\x02";
     let accepted = Joined::Accepted { first: 1, count: 0, units };
     assert_eq!(joiner.join(&numbered(1, b"\xF8\x00\x03\x65\x01\x02"), &mut out), Ok(accepted));
+}
+
+// E4: "A continuation that follows without a gap but carries another timestamp is refused and changes nothing."
+#[test]
+fn joined_with_another_time() {
+    for (time, other) in [(2, 9), (9, 2), (0, 1), (0, u32::MAX), (u32::MAX, 0), (2, 2 + (1 << 31))]
+    {
+        let (mut joiner, mut out) = (Joiner::open(3, 0, 5), [0xEE; 10]);
+        for (number, payload) in (0..).zip(FRAGMENTS) {
+            let before = format!("{joiner:?}");
+            if number > 0 {
+                let refused = joiner.join(&stamped(number, other, payload), &mut out);
+                assert_eq!(refused, Err(Error::OtherTime));
+                assert_eq!((format!("{joiner:?}"), out), (before, [0xEE; 10]));
+            }
+            let units: &[u8] =
+                if number == 2 { b"\0\0\0\x01\x65\x01\x02\x03\x04\x05" } else { b"" };
+            let accepted = Joined::Accepted { first: number, count: 0, units };
+            assert_eq!(joiner.join(&stamped(number, time, payload), &mut out), Ok(accepted));
+            let shown = if number < 2 { time } else { 0 };
+            assert!(format!("{joiner:?}").contains(&format!("time: {shown}, ")));
+        }
+    }
+    assert_eq!((Error::OtherTime.number(), Error::StartAndEnd.number()), (25, 21));
+}
+
+// A start fragment of another time replaces the run, and after a jump there is none to differ from. 21 comes before 25, 6 and 5 behind it.
+#[test]
+fn another_time_and_a_start_or_a_jump() {
+    let (mut joiner, mut out) = (Joiner::open(3, 0, 5), [0xEE; 10]);
+    joiner.join(&stamped(0, 2, FRAGMENTS[0]), &mut out).unwrap();
+    assert_eq!(joiner.join(&stamped(1, 9, b"\x7C\xC5\x01"), &mut out), Err(Error::StartAndEnd));
+    assert_eq!(joiner.join(&stamped(1, 9, FRAGMENTS[2]), &mut []), Err(Error::OtherTime));
+    let long = b"\x7C\x05\x01\x02\x03\x04";
+    assert_eq!(joiner.join(&stamped(1, 9, long), &mut out), Err(Error::OtherTime));
+    assert_eq!(joiner.join(&stamped(1, 2, long), &mut out), Err(Error::GatherTooSmall));
+    joiner.join(&stamped(1, 9, FRAGMENTS[0]), &mut out).unwrap();
+    assert_eq!(joiner.join(&stamped(2, 2, FRAGMENTS[2]), &mut out), Err(Error::OtherTime));
+    let accepted = Joined::Accepted { first: 2, count: 1, units: &[] };
+    assert_eq!(joiner.join(&stamped(3, 2, FRAGMENTS[2]), &mut out), Ok(accepted));
+    let accepted = Joined::Accepted { first: 4, count: 0, units: &[] };
+    assert_eq!(joiner.join(&stamped(4, 7, FRAGMENTS[1]), &mut out), Ok(accepted));
 }
 
 // "65535, 1, close 2: none, missed 1."
