@@ -25,7 +25,7 @@ pub struct Sending {
 }
 
 // A packet from a place on: where it ends. "version 2, no padding, extensions or CSRCs"
-fn put(number: u16, marker: bool, payload: &[u8], bytes: &mut [u8], at: usize) -> usize
+fn put(number: u16, time: u32, marker: bool, payload: &[u8], bytes: &mut [u8], at: usize) -> usize
     requires { ⌜ at ≤ length (now bytes) ⌝ }
 {
     let mut header = Header::default();
@@ -33,6 +33,7 @@ fn put(number: u16, marker: bool, payload: &[u8], bytes: &mut [u8], at: usize) -
     header.marker = marker;
     header.payload_type = 96;
     header.sequence_number = number;
+    header.timestamp = time;
     header.ssrc = SOURCE;
     match packet::marshal_to(header, payload, &mut bytes[at..]) {
         Length::Bytes(n) => plus(at, n),
@@ -40,7 +41,18 @@ fn put(number: u16, marker: bool, payload: &[u8], bytes: &mut [u8], at: usize) -
     }
 }
 
-// The payloads of a frame as packets, the marker on the last.
+// Whether a payload goes on with a unit: it is an FU-A without the start bit.
+fn goes_on(payload: &[u8]) -> bool {
+    if payload.len() < 2 {
+        return false;
+    }
+    if payload[0] % 32 == 28 {
+        return payload[1] < 128;
+    }
+    false
+}
+
+// The payloads of a frame as packets, the marker on the last, the time that of their group's first.
 fn put_all(
     show: usize,
     count: usize,
@@ -49,11 +61,22 @@ fn put_all(
     bytes: &mut Store,
     ends: &mut Table,
 ) {
+    let mut first = 0;
     for k in 0..count {
         let i = list::count(ends);
         let payload = list::item(out, out_ends, k);
+        if !goes_on(payload) {
+            first = i;
+        }
         let at = list::start(ends, i) % 262144;
-        let end = put(show::number_of(show, i), count - k == 1, payload, bytes, at);
+        let end = put(
+            show::number_of(show, i),
+            show::time_of(show, first),
+            count - k == 1,
+            payload,
+            bytes,
+            at,
+        );
         list::add(ends, end);
     }
 }

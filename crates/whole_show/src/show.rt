@@ -3,7 +3,7 @@
 use crate::list::plus;
 use crate::random::number;
 
-// Of each: a quarter of its units, the mtu, the number of packet 0, the chances.
+// Of each: a quarter of its units, the mtu, the number of packet 0, the chances, the time of packet 0.
 const FIXED: [usize; 24] = [
     38,
     400,
@@ -12,7 +12,7 @@ const FIXED: [usize; 24] = [
     0,
     0,
     0,
-    0,
+    4294517000,
     60,
     100,
     64800,
@@ -20,7 +20,7 @@ const FIXED: [usize; 24] = [
     0,
     0,
     0,
-    0,
+    4294233000,
     70,
     100,
     65250,
@@ -28,7 +28,7 @@ const FIXED: [usize; 24] = [
     50,
     20,
     100,
-    0,
+    4294131000,
 ];
 
 // Number k of a show: where it is drawn, from the least up to so many above it.
@@ -57,6 +57,12 @@ pub fn mtu(show: usize) -> usize {
 // "packet i bears (first + i) mod 65,536"
 pub fn number_of(show: usize, i: usize) -> u16 {
     (plus(drawn(show, 2, 65236, 199), i) % 65536) as u16
+}
+
+// The time of a group by its first packet: "all packets of one unit carry one timestamp". Two places in a row have one time, the next two
+// are 3,000 on, and in most shows it wraps.
+pub fn time_of(show: usize, i: usize) -> u32 {
+    (plus(drawn(show, 7, 4294687000, 65535), i % 65536 / 2 * 3000) % 4294967296) as u32
 }
 
 // Of a thousand packets: how many are lost (0), and with how many comes an earlier one again (1), a later one too early (2), or what is
