@@ -516,8 +516,8 @@ struct rtp_closed rtp_joiner_close(struct rtp_joiner joiner, uint16_t number);
 
 /* How many bytes each record above has, as the calls were compiled: a host whose `sizeof (struct rtp_header)` is not
  * `rtp_sizes().header` was compiled with another header, and must not call. Equal sizes alone do not show that the headers are equal: `running`
- * of a joiner takes a byte that would be padding without it. This record too grows where one is added, and is then longer than an older host's: compile with the header that came with the
- * archive before you ask. */
+ * of a joiner takes a byte that would be padding without it. This record too grows where one is added, and is then longer than an older host's:
+ * compile with the header that came with the archive before you ask. */
 struct rtp_sizes {
     size_t refused;
     size_t test;
