@@ -3,3 +3,4 @@ pub mod Owing
 pub mod Sayable
 pub mod Topping
 pub mod Toy
+pub mod Order

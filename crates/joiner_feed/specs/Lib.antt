@@ -1,3 +1,4 @@
 pub mod Content
 pub mod H264
 pub mod Ran
+pub mod Order

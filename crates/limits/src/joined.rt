@@ -51,13 +51,10 @@ fn timed(closed: bool) -> Joiner {
     joiner
 }
 
-pub fn all() {
-    let long = [0x80u8; 65536];
-    let packet = *b"\x80\x60\x00\x01\x00\x00\x00\x02\x00\x00\x00\x03\x41\x01\x02";
-    tell(b"joiner join", join(Joiner::open(3, 1), &long) as u64);
+fn lengths(packet: &[u8]) {
     tell(
         b"joiner join, a length and no run",
-        join(holding(false, 1), &packet) as u64,
+        join(holding(false, 1), packet) as u64,
     );
     tell(
         b"joiner close, a length and no run",
@@ -67,9 +64,12 @@ pub fn all() {
         b"joiner close, a run of 16,777,216 bytes",
         close(holding(true, 16777216)) as u64,
     );
+}
+
+fn marks(packet: &[u8]) {
     tell(
         b"joiner join, a mark and no run",
-        join(marked(false), &packet) as u64,
+        join(marked(false), packet) as u64,
     );
     tell(
         b"joiner close, a mark and no run",
@@ -77,15 +77,18 @@ pub fn all() {
     );
     tell(
         b"joiner join, a mark and no run, closed",
-        join(marked(true), &packet) as u64,
+        join(marked(true), packet) as u64,
     );
     tell(
         b"joiner close, a mark and no run, closed",
         close(marked(true)) as u64,
     );
+}
+
+fn times(packet: &[u8]) {
     tell(
         b"joiner join, a time and no run",
-        join(timed(false), &packet) as u64,
+        join(timed(false), packet) as u64,
     );
     tell(
         b"joiner close, a time and no run",
@@ -93,10 +96,19 @@ pub fn all() {
     );
     tell(
         b"joiner join, a time and no run, closed",
-        join(timed(true), &packet) as u64,
+        join(timed(true), packet) as u64,
     );
     tell(
         b"joiner close, a time and no run, closed",
         close(timed(true)) as u64,
     );
+}
+
+pub fn all() {
+    let long = [0x80u8; 65536];
+    let packet = *b"\x80\x60\x00\x01\x00\x00\x00\x02\x00\x00\x00\x03\x41\x01\x02";
+    tell(b"joiner join", join(Joiner::open(3, 1), &long) as u64);
+    lengths(&packet);
+    marks(&packet);
+    times(&packet);
 }
