@@ -11,7 +11,7 @@ pub struct OpenRun {
     pub bytes: Vec<u8>,
     /// one of them had its forbidden bit set
     pub marked: bool,
-    /// the timestamp that they share
+    /// the timestamp that they share, any number
     pub time: u32,
 }
 
@@ -26,7 +26,7 @@ pub struct Fate {
     pub units: Vec<Vec<u8>>,
 }
 
-/// "H.264 reading: 4, 19, 17 or 18 at the first place", "with 21 before 17", and 25 "after 21", of the packet's time.
+/// "H.264 reading: 4, 19, 17 or 18 at the first place", "with 21 before 17", and 25 "after 21". The time is the packet's.
 pub fn feed(run: Option<OpenRun>, time: u32, payload: &[u8]) -> Result<Fate, Refusal> {
     let kind = payload.first().map_or(0, |first| first & 0x1F);
     match payload.len() {

@@ -236,7 +236,7 @@ fn of_marks(marked: bool, packet: &[u8], answer: &Result<Joined, Refusal>) -> Ve
     notes
 }
 
-/// What became of a packet of another time than the open run's, and what else would have.
+/// What became of a packet of another time than the open run's, beside what it would have got with the run's.
 fn of_times(
     packet: &[u8],
     answer: &Result<Joined, Refusal>,

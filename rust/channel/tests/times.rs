@@ -164,7 +164,7 @@ fn all_is_as_it_was_beside_25() {
     for [time, other] in TIMES {
         let mut host = Host::with_a_run(time);
         let before = host.clone();
-        for payload in [MIDDLE, END, MIDDLE] {
+        for payload in [MIDDLE, END, &[0xFC, 0x05, 3], MIDDLE] {
             assert_eq!(host.join(2, other, payload), refuse(25));
             assert_eq!(host, before);
         }
