@@ -665,7 +665,7 @@ mod tests {
 
     const TIMES: [u32; 5] = [0, 1, 2, 1 << 31, u32::MAX];
 
-    /// A start fragment opens the run, with its mark and its time, and closing drops both.
+    /// A start fragment opens the run, with its mark and its time, and closing drops them with it.
     #[test]
     fn open_run() {
         for (first, marked) in [(0x7C, false), (0xFC, true)] {

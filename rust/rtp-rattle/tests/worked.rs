@@ -368,6 +368,7 @@ fn another_time_and_a_start_or_a_jump() {
     let long = b"\x7C\x05\x01\x02\x03\x04";
     assert_eq!(joiner.join(&stamped(1, 9, long), &mut out), Err(Error::OtherTime));
     assert_eq!(joiner.join(&stamped(1, 2, long), &mut out), Err(Error::GatherTooSmall));
+    assert_eq!(joiner.join(&stamped(1, 2, FRAGMENTS[2]), &mut []), Err(Error::ErrBufferTooSmall));
     joiner.join(&stamped(1, 9, FRAGMENTS[0]), &mut out).unwrap();
     assert_eq!(joiner.join(&stamped(2, 2, FRAGMENTS[2]), &mut out), Err(Error::OtherTime));
     let accepted = Joined::Accepted { first: 2, count: 1, units: &[] };
