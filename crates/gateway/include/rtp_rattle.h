@@ -477,10 +477,10 @@ struct rtp_joiner {
     bool running;     /* a run is open: fragments of a unit were gathered, and its last is still to come */
     size_t gathered;  /* how many bytes of the open run stand in front of the gather buffer; 0 where no run is open: 0 to 16,777,215. Any
                        * other number where no run is open is refused with 8 */
-    bool marked;      /* a fragment of the open run had its forbidden bit set; false where no run is open. True where no run is open is
-                       * refused with 8 */
     uint32_t time;    /* the timestamp that the fragments of the open run share: any number; 0 where no run is open. Any other number where
                        * no run is open is refused with 8 */
+    bool marked;      /* a fragment of the open run had its forbidden bit set; false where no run is open. True where no run is open is
+                       * refused with 8 */
     bool closed;      /* closed: every call answers 22 */
 };
 
@@ -516,8 +516,9 @@ struct rtp_closed rtp_joiner_close(struct rtp_joiner joiner, uint16_t number);
 
 /* How many bytes each record above has, as the calls were compiled: a host whose `sizeof (struct rtp_header)` is not
  * `rtp_sizes().header` was compiled with another header, and must not call. Equal sizes alone do not show that the headers are equal: `running`
- * of a joiner takes a byte that would be padding without it. This record too grows where one is added, and is then longer than an older host's:
- * compile with the header that came with the archive before you ask. */
+ * of a joiner takes a byte that would be padding without it, and its `time` and `marked` stand where a header without them has `closed` and
+ * padding. This record too grows where one is added, and is then longer than an older host's: compile with the header that came with the
+ * archive before you ask. */
 struct rtp_sizes {
     size_t refused;
     size_t test;

@@ -91,7 +91,7 @@ abbrev pub vp8Packet : Laid
 vp8Packet = struct (u8 ∷ u8 ∷ u8 ∷ u8 ∷ u8 ∷ u8 ∷ u8 ∷ u8 ∷ u16 ∷ u8 ∷ u8 ∷ u8 ∷ u8 ∷ [])
 
 abbrev pub joiner : Laid
-joiner = struct (u32 ∷ u16 ∷ u32 ∷ flag ∷ word ∷ flag ∷ u32 ∷ flag ∷ [])
+joiner = struct (u32 ∷ u16 ∷ u32 ∷ flag ∷ word ∷ u32 ∷ flag ∷ flag ∷ [])
 
 abbrev pub sizes : RtpSizes
 sizes =

@@ -68,8 +68,8 @@ pub extern "C" fn rtp_sizes() -> RtpSizes
         vp8_sent: 48,
         vp8_packet: 14,
         vp8_read: 48,
-        joiner: 40,
+        joiner: 32,
         joined: 40,
-        closed: 72,
+        closed: 64,
     }
 }

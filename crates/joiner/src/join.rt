@@ -41,8 +41,8 @@ impl Joiner {
             missed: 0,
             running: false,
             gathered: 0,
-            marked: false,
             time: 0,
+            marked: false,
             closed: false,
         }
     }
@@ -81,8 +81,8 @@ impl Joiner {
             return Run {
                 running: self.running,
                 gathered: self.gathered,
-                marked: self.marked,
                 time: self.time,
+                marked: self.marked,
             };
         }
         no_run()
@@ -100,8 +100,8 @@ impl Joiner {
                     missed,
                     running: run.running,
                     gathered: run.gathered,
-                    marked: run.marked,
                     time: run.time,
+                    marked: run.marked,
                     closed: false,
                 },
                 answer: Joined::Accepted {
@@ -198,8 +198,8 @@ impl Joiner {
                 missed: missed as u32,
                 running: false,
                 gathered: 0,
-                marked: false,
                 time: 0,
+                marked: false,
                 closed: true,
             },
             answer: Closed::Closed {

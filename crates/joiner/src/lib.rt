@@ -20,10 +20,10 @@ pub struct Joiner {
     pub running: bool,
     // how many bytes of the open run stand in front of the gather buffer; 0 where no run is open: 0 to 16,777,215
     pub gathered: usize,
-    // a fragment of the open run had its forbidden bit set; false where no run is open
-    pub marked: bool,
     // the timestamp that the fragments of the open run share; 0 where no run is open
     pub time: u32,
+    // a fragment of the open run had its forbidden bit set; false where no run is open
+    pub marked: bool,
     // closed: every call answers 22
     pub closed: bool,
 }

@@ -67,7 +67,7 @@ same! {
     RtpVp8Sent is sys::Vp8Sent { refused, packets, bytes, payloader }
     Vp8Packet is Vp8Packet { x, n, s, pid, i, l, t, k, picture_id, tl0_pic_idx, tid, y, key_idx }
     RtpVp8Read is sys::Vp8Read { refused, at, packet }
-    Joiner is sys::Joiner { source, awaited, missed, running, gathered, marked, time, closed }
+    Joiner is sys::Joiner { source, awaited, missed, running, gathered, time, marked, closed }
     RtpJoined is sys::Joined { refused, late, first, count, bytes }
     RtpClosed is sys::Closed { refused, first, count, joiner }
 }

@@ -222,8 +222,8 @@ pub struct Joiner {
     pub missed: u32,
     pub running: bool,
     pub gathered: usize,
-    pub marked: bool,
     pub time: u32,
+    pub marked: bool,
     pub closed: bool,
 }
 
