@@ -80,11 +80,14 @@ of-another r e same = let nine : 9 ≡ r .fields .source = ap source-of e in ome
     source-of (says x) = x .fields .source
     source-of (refused x) = 0
 
-of-32-bits : (a b c : Bool) → cond a 4294963696 (cond b 0 (cond c 3600 7200)) < 4294967296
-of-32-bits true b c = omega arith
-of-32-bits false true c = omega arith
-of-32-bits false false true = omega arith
-of-32-bits false false false = omega arith
+-- one of two times
+pub of-32-bits : (t u : ℕ) → t < 4294967296 → u < 4294967296 → (b : Bool) → cond b t u < 4294967296
+of-32-bits t u early late true = early
+of-32-bits t u early late false = late
+
+time-32 : (i : ℕ) → timeOf i < 4294967296
+time-32 i =
+    of-32-bits 4294963696 _ (omega arith) (of-32-bits 0 _ (omega arith) (of-32-bits 3600 7200 (omega arith) (omega arith) (ltb i 8)) (ltb i 5)) (ltb i 2)
 
 -- whatever the prefix, the largest group takes 89 bytes
 largest-out : (avc : Bool) (arrivals : List (Arrival (List ℕ))) → largest avc (showOf (nine arrivals) .groups) ≤ 89
@@ -107,7 +110,7 @@ nine-premises avc arrivals foreign window =
             out-room = λ i. largest-out avc arrivals;
             source = omega arith;
             first = omega arith;
-            stamps = λ i. record { type = omega arith; time = of-32-bits (ltb i 2) (ltb i 5) (ltb i 8) };
+            stamps = λ i. record { type = omega arith; time = time-32 i };
             one-time = omega arith;
             foreign = foreign;
             window = window;

@@ -17,7 +17,7 @@ use Rattle.header.specs.Write as header
 use Rattle.packet.specs.Read.{readPacket}
 use Rattle.packet.specs.Write.{payloadOctets, packetOctets}
 use Rattle.packet.specs.Plain.{plainPacket}
-use Rattle.rfc6184.specs.Sending.{octet, Part, fuA, fragment}
+use Rattle.rfc6184.specs.Sending.{octet, fuA, fragment}
 use Rattle.nal_read.specs.Kind.{shape}
 use Rattle.nal.specs.Fed.{layBytes, layBoth}
 use Rattle.sequence.specs.Arrival.{ours}
@@ -28,9 +28,8 @@ use Rattle.joiner.specs.Join.{Stepped, joinStep, closeStep, opened}
 use Rattle.delivery.specs.Show.{packet, largest}
 use Rattle.delivery.specs.Play.{ourJoiner, playedOn, closingOn}
 use Rattle.delivery.specs.AnySender.{Stream, streamShow, StreamPremises}
-
-abbrev part : List ℕ → Part
-part s = record { reserved = 0; octets = s }
+use Rattle.delivery.proofs.Example.{of-32-bits}
+use Rattle.delivery.proofs.ExampleStream.{part}
 
 -- A unit in three fragments at the time t, then one in two at the time u; the byte k tells whose they are. Packets 0 to 4 bear the numbers 65534 to 2.
 unfoldable pub encoder : (k t u : ℕ) → Stream
@@ -50,10 +49,6 @@ encoder k t u =
     }
 
 -- ---- each meets the premises
-
-of-32-bits : (t u : ℕ) → t < 4294967296 → u < 4294967296 → (b : Bool) → cond b t u < 4294967296
-of-32-bits t u h k true = h
-of-32-bits t u h k false = k
 
 largest-out : (avc : Bool) (k t u : ℕ) → largest avc (streamShow (encoder k t u) .groups) ≤ 9
 unfolding encoder fragment octet be16 be32

@@ -4,7 +4,7 @@ use mathlib.Core.Path.{_≡_, refl}
 use mathlib.Core.Bool.{Bool, true, false, cond, _||_}
 use mathlib.Core.List.{List, [], _∷_}
 use mathlib.Core.Logic.{inl, inr}
-use Prim.Native.Nat.{ℕ, _≤_, _<_}
+use Prim.Native.Nat.{ℕ, _≤_}
 use native.Mathlib.Omega.{arith}
 use lib.Dec.{eqb, ltb}
 use lib.ListN.{replicate}
@@ -32,11 +32,12 @@ use Rattle.delivery.specs.Show.{largest}
 use Rattle.delivery.specs.Play.{ourJoiner, played}
 use Rattle.delivery.specs.Play as play
 use Rattle.delivery.specs.AnySender.{Stream, streamShow, StreamPremises}
+use Rattle.delivery.proofs.Example.{of-32-bits}
 
 abbrev unit : ℕ → ℕ → List ℕ → Nal
 unit nri type payload = record { f = 0; nri = nri; type = type; payload = payload }
 
-abbrev part : List ℕ → Part
+abbrev pub part : List ℕ → Part
 part s = record { reserved = 0; octets = s }
 
 -- six packets, of which a relay marked the second and the fourth, and the last is lost
@@ -57,10 +58,6 @@ stream =
       outs = λ i. replicate 12 0;
       arrivals = ours 0 ∷ ours 1 ∷ ours 2 ∷ ours 3 ∷ ours 4 ∷ [];
     }
-
-of-32-bits : (b : Bool) → cond b 4294967295 3599 < 4294967296
-of-32-bits true = omega arith
-of-32-bits false = omega arith
 
 -- whatever the prefix, the largest group takes 12 bytes
 largest-out : (avc : Bool) → largest avc (streamShow stream .groups) ≤ 12
@@ -84,7 +81,7 @@ stream-premises avc =
             out-room = λ i. largest-out avc;
             source = omega arith;
             first = omega arith;
-            stamps = λ i. record { type = omega arith; time = of-32-bits (ltb i 5) };
+            stamps = λ i. record { type = omega arith; time = of-32-bits 4294967295 3599 (omega arith) (omega arith) (ltb i 5) };
             one-time = omega arith;
             foreign = tt;
             window = omega arith;

@@ -103,7 +103,8 @@ pub OUR-FRAGMENTS-CLEAR : (head : ℕ) (first : List ℕ) (middle : List (List �
 OUR-FRAGMENTS-CLEAR = fragments-clear
 
 -- "A run belongs to one moment" (E4): whatever arrives, and from however many senders of the joiner's SSRC, each group that is handed out is the units of
--- one packet, or a unit in fragments, from its start to its end, that follow each other without a gap and are all of one time ..
+-- one packet, or a unit in fragments, from its start to its end, that follow each other without a gap and are all of one time. Since it is so of any
+-- arrivals, it is so of those up to each call ..
 pub ONE-MOMENT : OneMoment annexB ourJoiner
 ONE-MOMENT w came = untorn annexB w refl came
 

@@ -10,14 +10,14 @@ use lib.ListN.{length, replicate}
 use Rattle.error.specs.Said.{Said, says, refused}
 use Rattle.wire.specs.Each.{Each}
 use Rattle.wire.specs.Net.{u16At, u32At, be16, be32}
-use Rattle.wire.specs.Part.{part}
+use Rattle.wire.specs.Part as wire
 use Rattle.header.specs.Read.{fieldsAt, readFixed, readHeader}
 use Rattle.header.specs.Write.{octetsOf}
 use Rattle.header_write.specs.Fixed.{fixedFor}
 use Rattle.packet.specs.Plain.{Stamp, plainPacket}
 use Rattle.packet.specs.Read.{PacketReading, readPacket}
 use Rattle.packet.specs.Write.{payloadOctets, packetOctets}
-use Rattle.rfc6184.specs.Sending.{Part, fuA, fragment, octet}
+use Rattle.rfc6184.specs.Sending.{fuA, fragment, octet}
 use Rattle.nal_read.specs.Kind.{shape}
 use Rattle.nal.specs.Fed.{prefixed}
 use Rattle.sequence.specs.Arrival.{ours}
@@ -30,10 +30,8 @@ use Rattle.delivery.specs.Play.{Machine, arriving, played}
 use Rattle.delivery.specs.AnySender.{Stream, streamShow, StreamPremises, DeliversAny}
 use Rattle.delivery.specs.OneMoment.{Among, Bears, Origin, Untorn, OneMoment}
 use Rattle.delivery.specs.Wrong.{Timeless}
+use Rattle.delivery.proofs.ExampleStream.{part}
 use Rattle.delivery.proofs.OneMoment.{started}
-
-abbrev fragmentOf : ℕ → Part
-fragmentOf b = record { reserved = 0; octets = b ∷ [] }
 
 abbrev stampsAt : (ℕ → ℕ) → ℕ → Stamp
 stampsAt times i = record { marker = false; type = 96; time = times i }
@@ -42,7 +40,7 @@ stampsAt times i = record { marker = false; type = 96; time = times i }
 unfoldable two : (ℕ → ℕ) → Stream
 two times =
     record {
-      sendings = fuA (record { f = 0; nri = 3; type = 5; first = fragmentOf 1; middle = []; last = fragmentOf 2 }) ∷ [];
+      sendings = fuA (record { f = 0; nri = 3; type = 5; first = part (1 ∷ []); middle = []; last = part (2 ∷ []) }) ∷ [];
       marks = λ i. false;
       source = 3;
       first = 7;
@@ -100,7 +98,7 @@ kindIn (says (end head f)) = 3
 kindIn (refused r) = 4
 
 abbrev kindOf : List ℕ → Said PacketReading → ℕ
-kindOf p (says r) = kindIn (check (part p (r .payload .place) (r .payload .len)))
+kindOf p (says r) = kindIn (check (wire.part p (r .payload .place) (r .payload .len)))
 kindOf p (refused r) = 4
 
 abbrev timeIn : Said PacketReading → ℕ

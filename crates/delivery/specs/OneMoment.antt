@@ -70,8 +70,10 @@ module _ (came : List (List ℕ)) (source : ℕ) where
   -- a unit in fragments, one after the other, all of one time: "All fragments of a unit carry one RTP timestamp"
   pub record OfMany (units : Units) : Type 0 where
     pub time : ℕ
+    -- the last one's number, and the one behind the others
     pub number : ℕ
     pub before : ℕ
+    -- the unit's header as the last one has it
     pub head : List ℕ
     pub last : Fragment
     pub others : List Fragment

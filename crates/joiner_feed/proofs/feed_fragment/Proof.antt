@@ -4,10 +4,10 @@ use mathlib.Core.Path.{_≡_, refl, sym, ap, ap₂, _∙_}
 use mathlib.Core.Bool.{Bool, true, false, not, _&&_, _||_, true≢false, false≢true, and-eq-true-iff}
 use Prim.Native.Nat.{ℕ}
 use lib.Dec.{eqb}
-use lib.ListN.{drop, length-drop}
+use lib.ListN.{take, drop, length-drop}
 use borrow.Author.Needs.{needs}
 use borrow.Author.Tests.{eqb-true, not-true, not-false}
-use Rattle.error.specs.Said.{Said, refuse}
+use Rattle.error.specs.Said.{Said}
 use Rattle.nal.specs.Fed.{layGather, Laid}
 use Rattle.nal.specs.Ran.{RanOn}
 use Rattle.nal.proofs.Handing.{rest-of}
@@ -17,6 +17,7 @@ use Rattle.joiner_feed.specs.declared.Run.{Run}
 use Rattle.joiner_feed.specs.Content.{Note, fedAfter}
 use Rattle.joiner_feed.specs.H264.{forbidden, fragmentIn, fragmented}
 use Rattle.joiner_feed.specs.Ran.{runOf, recorded, layDoes}
+use Rattle.joiner_feed.proofs.Order.{without-run, not-of-time}
 use Rattle.joiner_feed.proofs.feed_fragment.Statement.{statement}
 use Rattle.joiner_feed.proofs.feed_fragment.Tie as tie
 
@@ -71,17 +72,15 @@ later true true other e f = absurd (true≢false f)
 later true false other e f = absurd (false≢true e)
 later false last other e f = (refl, e)
 
-of-other-time : (s : tie.Start) (last : Bool) → eqb (s .args .time) (s .args .run .time) ≡ false →
-    laid s (s .args .time) false last true ≡ laidAs s (refuse 25)
-of-other-time s true e = rw e
-of-other-time s false e = rw e
-
 returns-2 : tie.Need-returns-2
 returns-2 c =
     let s = start-of (c .before .before .before) in
     let due = later (s .args .first) (s .args .last) (isOther s) (sym (due-is (c .before)) ∙ c .if2 .taken) (not-both (c .before .before)) in
     let other = and-eq-true-iff (s .args .run .running) (not (eqb (s .args .time) (s .args .run .time))) .0 (due .1) in
-    sym (of-other-time s (s .args .last) (not-true _ (other .1)))
+    sym
+    (ap (laidAs s)
+    (not-of-time (record { marked = s .args .run .marked; time = s .args .run .time }) (take (s .args .run .gathered) (s .args .gather .now)) (s .args .time)
+    (s .args .last) (s .args .head) (fragmentIn (s .args .payload .now)) (not-true _ (other .1))))
     ∙ tested s false _ true (due .0) refl (other .0)
 
 -- ---- a start fragment
@@ -106,11 +105,12 @@ not-due true last other e f = absurd (true≢false e)
 not-due false last other e f = f
 
 -- without a run its time is nothing to it
-in-own-time : (s : tie.Start) (last running : Bool) → (running && not (eqb (s .args .time) (s .args .run .time))) ≡ false →
+as-its-own : (s : tie.Start) (last running : Bool) → (running && not (eqb (s .args .time) (s .args .run .time))) ≡ false →
     laid s (s .args .run .time) false last running ≡ laid s (s .args .time) false last running
-in-own-time s true false e = refl
-in-own-time s false false e = refl
-in-own-time s last true e = sym (ap (λ (t : ℕ). laid s t false last true) (eqb-true _ _ (not-false _ e)))
+as-its-own s last false e =
+    let f = fragmentIn (s .args .payload .now) in
+    ap (laidAs s) (without-run (s .args .run .time) last (s .args .head) f ∙ sym (without-run (s .args .time) last (s .args .head) f))
+as-its-own s last true e = sym (ap (λ (t : ℕ). laid s t false last true) (eqb-true _ _ (not-false _ e)))
 
 returns-4 : tie.Need-returns-4
 returns-4 c =
@@ -119,7 +119,7 @@ returns-4 c =
     let s = start-of (alone .before) in
     let own = not-due (s .args .first) (s .args .last) (isOther s) (later .if3 .left) (sym (due-is (later .before .before)) ∙ later .before .if2 .left) in
     c .before .before .before .before .feed-later .ensures
-    ∙ in-own-time s (s .args .last) (s .args .run .running) own
+    ∙ as-its-own s (s .args .last) (s .args .run .running) own
     ∙ tested s false _ _ (later .if3 .left) refl refl
 
 pub feed-fragment-spec : {M : Type 1} → statement M

@@ -1,23 +1,25 @@
 -- Each way is one of the ways of `fed` behind a later fragment of the run's own time, with the fragment's mark and that of the run.
 use mathlib.Core.Path.{_≡_, refl, sym, ap, ap₂, _∙_}
-use mathlib.Core.Bool.{Bool, true, false, not, _||_, Bool·not-not}
+use mathlib.Core.Bool.{Bool, true, false, _||_}
 use mathlib.Core.List.{List, [], _∷_, _++_}
 use Prim.Native.Nat.{ℕ, _+_, _-_}
 use native.Mathlib.Omega.{arith}
 use lib.ListN.{length, take, drop, length-drop}
 use borrow.Author.Needs.{needs}
+use borrow.Author.Tests.{not-true, not-false}
 use Rattle.error.specs.Said.{Said, says}
 use Rattle.nal.specs.Fed.{layGather, layBoth, Laid}
 use Rattle.nal.specs.Said.{saidHanded}
 use Rattle.nal.specs.Ran.{RanOn, withRun}
 use Rattle.nal.proofs.Handing.{rest-of, length-gathered}
 use Rattle.nal.proofs.Running.{ongoing-heard, finished-heard}
-use Rattle.joiner_step.specs.Run.{none, gathering, Does, hands, gathers, ends}
+use Rattle.joiner_step.specs.Run.{none, gathering, Does, gathers, ends}
 use Rattle.joiner_feed.specs.declared.Run.{Run}
 use Rattle.joiner_feed.specs.Content.{Note, onward, topBit, fedAfter}
 use Rattle.joiner_feed.specs.H264.{fragmentIn, fragmented}
 use Rattle.joiner_feed.specs.Ran.{runOf, recorded, layDoes}
 use Rattle.joiner_feed.proofs.Feeding.{run-idle}
+use Rattle.joiner_feed.proofs.Order.{without-run}
 use Rattle.joiner_feed.proofs.Owing.{in-own-time}
 use Rattle.joiner_feed.proofs.feed_later.Statement.{statement}
 use Rattle.joiner_feed.proofs.feed_later.Tie as tie
@@ -36,14 +38,6 @@ laid c last running =
 tested : (c : tie.Start) (last running : Bool) → c .args .last ≡ last → c .args .run .running ≡ running →
     laid c last running ≡ laid c (c .args .last) (c .args .run .running)
 tested c last running e f = sym (ap₂ (laid c) e f)
-
--- without a run, the last or not
-without-run : (c : tie.Start) (last : Bool) → laid c last false ≡ laidAs c (says (hands []))
-without-run c true = refl
-without-run c false = refl
-
-not-back : {a b : Bool} → not a ≡ b → a ≡ not b
-not-back {a} e = sym (Bool·not-not a) ∙ ap not e
 
 -- ---- the mark is known
 
@@ -71,8 +65,8 @@ returns c =
     let s = start-of (c .before .before .before) in
     ap (λ (k : Run). record { answer = says (record { run = k; bytes = 0 }); gather = s .args .gather .now; out = s .args .out .now }) (c .no-run .ensures)
     ∙ sym (run-idle (s .args .avc) (s .args .gather .now) (s .args .out .now))
-    ∙ sym (without-run s (s .args .last))
-    ∙ tested s _ false refl (not-back (c .before .if1 .taken))
+    ∙ sym (ap (laidAs s) (without-run (s .args .run .time) (s .args .last) (s .args .head) (fragmentIn (s .args .payload .now))))
+    ∙ tested s _ false refl (not-true _ (c .before .if1 .taken))
 
 returns-2 : tie.Need-returns-2
 returns-2 c =
@@ -91,7 +85,7 @@ returns-2 c =
     (c .with-run .ensures ∙ ap (λ (k : Run). withRun k (saidHanded (done .finish .result))) (c .before .no-run2 .ensures))
     (done .finish .ensures ∙ ap₂ (λ (b : ℕ) (l : List ℕ). layBoth (s .args .avc) g o (take at g ++ l) ((b ∷ take at g ++ l) ∷ [])) head (rest-of 2 p))
     ∙ sym (ap (laidAs s) (in-own-time (noted s) (ends (bytes s) (topBit (any s .marked) (s .args .head) ∷ bytes s))))
-    ∙ tested s true true (last .if2 .taken) (not-back (last .before .if1 .left))
+    ∙ tested s true true (last .if2 .taken) (not-false _ (last .before .if1 .left))
 
 returns-3 : tie.Need-returns-3
 returns-3 c =
@@ -106,7 +100,7 @@ returns-3 c =
     (c .before .before .before .before .gather-on .ensures ∙ ap (λ (l : List ℕ). layGather g (take at g ++ l)) (rest-of 2 p))
     (c .before .open-run .ensures ∙ ap₂ (λ (n : ℕ) (m : Bool). record { running = true; gathered = n; marked = m; time = s .args .run .time }) longer (any-is marked))
     ∙ sym (ap (laidAs s) (in-own-time (noted s) (gathers (any s) (bytes s))))
-    ∙ tested s false true (middle .if2 .left) (not-back (middle .before .if1 .left))
+    ∙ tested s false true (middle .if2 .left) (not-false _ (middle .before .if1 .left))
 
 pub feed-later-spec : {M : Type 1} → statement M
 feed-later-spec =
