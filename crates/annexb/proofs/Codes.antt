@@ -11,51 +11,51 @@ use lib.Seq.{drop-cons}
 use borrow.Author.Tests.{eq-eqb, ne_eqb}
 use Rattle.annexb.specs.declared.Found.{Found}
 use Rattle.annexb.specs.declared.Found.TheVariants.{At, Nothing}
-use Rattle.annexb.specs.Search.{zerosBy, endsCode, scan}
+use Rattle.annexb.specs.Search.{zeros_by, ends_code, scan}
 
 -- a byte ends no start code where it is no 1, or too few zeros stand before it
-pub no_one : (b z : ℕ) → (b ≡ 1 → ⊥) → endsCode b z ≡ false
+pub no_one : (b z : ℕ) → (b ≡ 1 → ⊥) → ends_code b z ≡ false
 no_one b z n = ap (λ (t : Bool). t && leb 2 z) (ne_eqb b 1 n)
 
-pub few-zeros : (b z : ℕ) → leb 2 z ≡ false → endsCode b z ≡ false
-few-zeros b z e = ap (λ (t : Bool). eqb b 1 && t) e ∙ and-false (eqb b 1)
+pub few_zeros : (b z : ℕ) → leb 2 z ≡ false → ends_code b z ≡ false
+few_zeros b z e = ap (λ (t : Bool). eqb b 1 && t) e ∙ and-false (eqb b 1)
 
-pub one-after-zeros : (b z : ℕ) → b ≡ 1 → leb 2 z ≡ true → endsCode b z ≡ true
-one-after-zeros b z e h = ap₂ ◌&&◌ (eq-eqb b 1 e) h
+pub one_after_zeros : (b z : ℕ) → b ≡ 1 → leb 2 z ≡ true → ends_code b z ≡ true
+one_after_zeros b z e h = ap₂ ◌&&◌ (eq-eqb b 1 e) h
 
 -- at the frame's end and beyond it there is none
-pub scan-end : (frame : List ℕ) (i z : ℕ) → length frame ≤ i → scan (drop i frame) i z ≡ Nothing
-scan-end frame i z h = ap (λ (s : List ℕ). scan s i z) (drop_of_length-le frame h)
+pub scan_end : (frame : List ℕ) (i z : ℕ) → length frame ≤ i → scan (drop i frame) i z ≡ Nothing
+scan_end frame i z h = ap (λ (s : List ℕ). scan s i z) (drop_of_length-le frame h)
 
 module _ (frame : List ℕ) (i z : ℕ) (h : i < length frame) where
   rest : ℕ → Found
   rest zeros = scan (drop (i + 1) frame) (i + 1) zeros
 
   turn : scan (drop i frame) i z ≡
-      cond (endsCode (get_or frame i 0) z) (At (i - z) (z + 1)) (rest (zerosBy (eqb (get_or frame i 0) 0) z))
+      cond (ends_code (get_or frame i 0) z) (At (i - z) (z + 1)) (rest (zeros_by (eqb (get_or frame i 0) 0) z))
   unfolding rest
   turn = rw (drop-cons frame i 0 h, add-one i)
 
   -- a byte that ends no start code, be it a zero or not
-  pub on-by : (code : Bool) → endsCode (get_or frame i 0) z ≡ code → code ≡ false → (is_zero : Bool) → eqb (get_or frame i 0) 0 ≡ is_zero →
-      scan (drop i frame) i z ≡ scan (drop (i + 1) frame) (i + 1) (zerosBy is_zero z)
+  pub on_by : (code : Bool) → ends_code (get_or frame i 0) z ≡ code → code ≡ false → (is_zero : Bool) → eqb (get_or frame i 0) 0 ≡ is_zero →
+      scan (drop i frame) i z ≡ scan (drop (i + 1) frame) (i + 1) (zeros_by is_zero z)
   unfolding rest
-  on-by code e n is_zero q =
-      turn ∙ ap₂ (λ (a b : Bool). cond a (At (i - z) (z + 1)) (rest (zerosBy b z))) (e ∙ n) q
+  on_by code e n is_zero q =
+      turn ∙ ap₂ (λ (a b : Bool). cond a (At (i - z) (z + 1)) (rest (zeros_by b z))) (e ∙ n) q
 
   -- one zero more
-  pub scan-zero : get_or frame i 0 ≡ 0 → scan (drop i frame) i z ≡ scan (drop (i + 1) frame) (i + 1) (z + 1)
-  scan-zero e =
+  pub scan_zero : get_or frame i 0 ≡ 0 → scan (drop i frame) i z ≡ scan (drop (i + 1) frame) (i + 1) (z + 1)
+  scan_zero e =
       let n : get_or frame i 0 ≡ 1 → ⊥ = λ q. omega arith in
-      on-by (endsCode (get_or frame i 0) z) refl (no_one (get_or frame i 0) z n) true
+      on_by (ends_code (get_or frame i 0) z) refl (no_one (get_or frame i 0) z n) true
       (eq-eqb (get_or frame i 0) 0 e)
 
   -- a byte that ends no start code
-  pub scan-other : (get_or frame i 0 ≡ 0 → ⊥) → endsCode (get_or frame i 0) z ≡ false →
+  pub scan_other : (get_or frame i 0 ≡ 0 → ⊥) → ends_code (get_or frame i 0) z ≡ false →
       scan (drop i frame) i z ≡ scan (drop (i + 1) frame) (i + 1) 0
-  scan-other n e = on-by (endsCode (get_or frame i 0) z) refl e false (ne_eqb (get_or frame i 0) 0 n)
+  scan_other n e = on_by (ends_code (get_or frame i 0) z) refl e false (ne_eqb (get_or frame i 0) 0 n)
 
   -- the end of a start code
-  pub scan-code : endsCode (get_or frame i 0) z ≡ true → scan (drop i frame) i z ≡ At (i - z) (z + 1)
+  pub scan_code : ends_code (get_or frame i 0) z ≡ true → scan (drop i frame) i z ≡ At (i - z) (z + 1)
   unfolding rest
-  scan-code e = turn ∙ ap (λ (a : Bool). cond a (At (i - z) (z + 1)) (rest (zerosBy (eqb (get_or frame i 0) 0) z))) e
+  scan_code e = turn ∙ ap (λ (a : Bool). cond a (At (i - z) (z + 1)) (rest (zeros_by (eqb (get_or frame i 0) 0) z))) e

@@ -13,8 +13,8 @@ use Rattle.annexb.specs.declared.Code.{Code}
 use Rattle.annexb.specs.declared.Found.{Found}
 use Rattle.annexb.specs.declared.Found.TheVariants.{At, Nothing}
 use Rattle.annexb.specs.declared.Piece.{Piece}
-use Rattle.annexb.specs.Search.{zerosBy, endsCode, scan, next_code, code_of}
-use Rattle.annexb.specs.Units.{Cut, cut, cutBy, pieces, units, unitsOfCut, Pieced}
+use Rattle.annexb.specs.Search.{zeros_by, ends_code, scan, next_code, code_of}
+use Rattle.annexb.specs.Units.{Cut, cut, cut_by, pieces, units, units_of_cut, Pieced}
 use Rattle.annexb.proofs.Codes.{no_one}
 
 -- no start code: one piece
@@ -36,13 +36,13 @@ Told Nothing s at z = Whole s z
 Told (At p n) s at z = Parted s at z p n
 
 -- a zero counted is a zero at the front of what follows
-pub zero-on : (z : ℕ) (s : List ℕ) → replicate (z + 1) 0 ++ s ≡ replicate z 0 ++ (0 ∷ s)
-zero-on z s = ap (λ (l : List ℕ). l ++ s) (sym (replicate-append-replicate z 1 0)) ∙ append_assoc (replicate z 0) (0 ∷ []) s
+pub zero_on : (z : ℕ) (s : List ℕ) → replicate (z + 1) 0 ++ s ≡ replicate z 0 ++ (0 ∷ s)
+zero_on z s = ap (λ (l : List ℕ). l ++ s) (sym (replicate-append-replicate z 1 0)) ∙ append_assoc (replicate z 0) (0 ∷ []) s
 
 module _ (b : ℕ) (s : List ℕ) (at z : ℕ) (h : z ≤ at) where
-  cut-turn : (is_zero is_code : Bool) → eqb b 0 ≡ is_zero → endsCode b z ≡ is_code →
-      cut (b ∷ s) z ≡ cutBy is_zero is_code b z (cut s (zerosBy is_zero z))
-  cut-turn is_zero is_code e q = ap₂ (λ (x y : Bool). cutBy x y b z (cut s (zerosBy x z))) e q
+  cut_turn : (is_zero is_code : Bool) → eqb b 0 ≡ is_zero → ends_code b z ≡ is_code →
+      cut (b ∷ s) z ≡ cut_by is_zero is_code b z (cut s (zeros_by is_zero z))
+  cut_turn is_zero is_code e q = ap₂ (λ (x y : Bool). cut_by x y b z (cut s (zeros_by x z))) e q
 
   -- behind a start code that ends further on
   further : (p n : ℕ) → at + 1 < p + n → pieces (drop (p + n - (at + 1)) s) ≡ pieces (drop (p + n - at) (b ∷ s))
@@ -53,14 +53,14 @@ module _ (b : ℕ) (s : List ℕ) (at z : ℕ) (h : z ≤ at) where
   zero_turn : (f : Found) → eqb b 0 ≡ true → Told f s (at + 1) (z + 1) → Told f (b ∷ s) at z
   zero_turn Nothing e w =
       let e0 : b ≡ 0 = eqb-true b 0 e in
-      let same = cut-turn true false e (no_one b z (λ q. omega arith)) in
+      let same = cut_turn true false e (no_one b z (λ q. omega arith)) in
       record {
-        before = ap (λ (c : Cut). c.before) same ∙ w.before ∙ zero-on z s ∙ ap (λ (x : ℕ). replicate z 0 ++ (x ∷ s)) (sym e0);
+        before = ap (λ (c : Cut). c.before) same ∙ w.before ∙ zero_on z s ∙ ap (λ (x : ℕ). replicate z 0 ++ (x ∷ s)) (sym e0);
         behind = ap (λ (c : Cut). c.behind) same ∙ w.behind;
       }
   zero_turn (At p n) e w =
       let e0 : b ≡ 0 = eqb-true b 0 e in
-      let same = cut-turn true false e (no_one b z (λ q. omega arith)) in
+      let same = cut_turn true false e (no_one b z (λ q. omega arith)) in
       let k : p + (z + 1) - (at + 1) ≡ p + z - at = omega arith in
       record {
         low = omega (arith, w.low);
@@ -68,14 +68,14 @@ module _ (b : ℕ) (s : List ℕ) (at z : ℕ) (h : z ≤ at) where
         past = omega (arith, w.past);
         high = omega (arith, w.high);
         before = ap (λ (c : Cut). c.before) same ∙ w.before
-            ∙ ap₂ (λ (i : ℕ) (l : List ℕ). take i l) k (zero-on z s ∙ ap (λ (x : ℕ). replicate z 0 ++ (x ∷ s)) (sym e0));
+            ∙ ap₂ (λ (i : ℕ) (l : List ℕ). take i l) k (zero_on z s ∙ ap (λ (x : ℕ). replicate z 0 ++ (x ∷ s)) (sym e0));
         behind = ap (λ (c : Cut). c.behind) same ∙ w.behind ∙ further p n w.past;
       }
 
-  code-turn : eqb b 0 ≡ false → endsCode b z ≡ true → Told (At (at - z) (z + 1)) (b ∷ s) at z
+  code_turn : eqb b 0 ≡ false → ends_code b z ≡ true → Told (At (at - z) (z + 1)) (b ∷ s) at z
   unfolding pieces
-  code-turn e q =
-      let same = cut-turn false true e q in
+  code_turn e q =
+      let same = cut_turn false true e q in
       let none : at - z + z - at ≡ 0 = omega arith in
       let one : at - z + (z + 1) - at ≡ 1 = omega arith in
       record {
@@ -93,15 +93,15 @@ module _ (b : ℕ) (s : List ℕ) (at z : ℕ) (h : z ≤ at) where
       sym (take-append-add (replicate z 0) (b ∷ s) (suc k))
       ∙ ap (λ (i : ℕ). take (i + suc k) (replicate z 0 ++ (b ∷ s))) (length-replicate {A = ℕ} z 0)
 
-  other-turn : (f : Found) → eqb b 0 ≡ false → endsCode b z ≡ false → Told f s (at + 1) 0 → Told f (b ∷ s) at z
-  other-turn Nothing e q w =
-      let same = cut-turn false false e q in
+  other_turn : (f : Found) → eqb b 0 ≡ false → ends_code b z ≡ false → Told f s (at + 1) 0 → Told f (b ∷ s) at z
+  other_turn Nothing e q w =
+      let same = cut_turn false false e q in
       record {
         before = ap (λ (c : Cut). c.before) same ∙ ap (λ (l : List ℕ). replicate z 0 ++ (b ∷ l)) w.before;
         behind = ap (λ (c : Cut). c.behind) same ∙ w.behind;
       }
-  other-turn (At p n) e q w =
-      let same = cut-turn false false e q in
+  other_turn (At p n) e q w =
+      let same = cut_turn false false e q in
       let size : z + suc (p + 0 - (at + 1)) ≡ p + z - at = omega (arith, w.low) in
       record {
         low = omega (arith, w.low);
@@ -115,14 +115,14 @@ module _ (b : ℕ) (s : List ℕ) (at z : ℕ) (h : z ≤ at) where
 
 pub told : (s : List ℕ) (at z : ℕ) → z ≤ at → Told (scan s at z) s at z
 told [] at z h = record { before = sym (append-nil (replicate z 0)); behind = refl }
-told (b ∷ s) at z h = go (eqb b 0) (endsCode b z) refl refl (λ k g. told s (at + 1) k g)
+told (b ∷ s) at z h = go (eqb b 0) (ends_code b z) refl refl (λ k g. told s (at + 1) k g)
   where
-    go : (is_zero is_code : Bool) → eqb b 0 ≡ is_zero → endsCode b z ≡ is_code → ((k : ℕ) → k ≤ at + 1 → Told (scan s (at + 1) k) s (at + 1) k) →
-        Told (cond is_code (At (at - z) (z + 1)) (scan s (at + 1) (zerosBy is_zero z))) (b ∷ s) at z
+    go : (is_zero is_code : Bool) → eqb b 0 ≡ is_zero → ends_code b z ≡ is_code → ((k : ℕ) → k ≤ at + 1 → Told (scan s (at + 1) k) s (at + 1) k) →
+        Told (cond is_code (At (at - z) (z + 1)) (scan s (at + 1) (zeros_by is_zero z))) (b ∷ s) at z
     go true true e q again = absurd (true≢false (sym q ∙ no_one b z (λ o. let e0 : b ≡ 0 = eqb-true b 0 e in omega arith)))
     go true false e q again = zero_turn b s at z h (scan s (at + 1) (z + 1)) e (again (z + 1) (omega arith))
-    go false true e q again = code-turn b s at z h e q
-    go false false e q again = other-turn b s at z h (scan s (at + 1) 0) e q (again 0 (omega arith))
+    go false true e q again = code_turn b s at z h e q
+    go false false e q again = other_turn b s at z h (scan s (at + 1) 0) e q (again 0 (omega arith))
 
 -- ---- the same, said of a frame
 
@@ -132,36 +132,36 @@ told_of frame start f e = subst (λ (x : Found). Told x (drop start frame) start
 
 -- behind a start code, counted from the frame's first byte
 module _ (frame : List ℕ) (start p n : ℕ) (h : start ≤ length frame) (w : Parted (drop start frame) start 0 p n) where
-  next-within : p + n ≤ length frame
-  next-within = let l : length (drop start frame) ≡ length frame - start = length-drop start frame in omega (arith, w.high)
+  next_within : p + n ≤ length frame
+  next_within = let l : length (drop start frame) ≡ length frame - start = length-drop start frame in omega (arith, w.high)
 
-  behind-it : (cut (drop start frame) 0).behind ≡ pieces (drop (p + n) frame)
-  behind-it =
+  behind_it : (cut (drop start frame) 0).behind ≡ pieces (drop (p + n) frame)
+  behind_it =
       let k : start + (p + n - start) ≡ p + n = omega (arith, w.past) in
       w.behind ∙ ap pieces (drop-drop (p + n - start) start frame ∙ ap (λ (i : ℕ). drop i frame) k)
 
-  pub pieced-at : Pieced frame start (record { end = p; more = true; next = p + n })
+  pub pieced_at : Pieced frame start (record { end = p; more = true; next = p + n })
   unfolding pieces
-  pieced-at =
+  pieced_at =
       let k : p + 0 - start ≡ p - start = omega arith in
       record {
         from = omega (arith, w.low);
         to = omega arith;
-        within = next-within;
+        within = next_within;
         onward = omega (arith, w.some);
         same =
             ap₂ (λ (l : List ℕ) (r : List (List ℕ)). l ∷ r)
-            (w.before ∙ ap (λ (i : ℕ). take i (drop start frame)) k) behind-it;
+            (w.before ∙ ap (λ (i : ℕ). take i (drop start frame)) k) behind_it;
       }
 
-pub piece-at : (frame : List ℕ) (start p n : ℕ) → start ≤ length frame → next_code frame start ≡ At p n →
+pub piece_at : (frame : List ℕ) (start p n : ℕ) → start ≤ length frame → next_code frame start ≡ At p n →
     Pieced frame start (record { end = p; more = true; next = p + n })
-piece-at frame start p n h e = pieced-at frame start p n h (told_of frame start (At p n) e)
+piece_at frame start p n h e = pieced_at frame start p n h (told_of frame start (At p n) e)
 
-pub piece-last : (frame : List ℕ) (start : ℕ) → start ≤ length frame → next_code frame start ≡ Nothing →
+pub piece_last : (frame : List ℕ) (start : ℕ) → start ≤ length frame → next_code frame start ≡ Nothing →
     Pieced frame start (record { end = length frame; more = false; next = length frame })
 unfolding pieces
-piece-last frame start h e =
+piece_last frame start h e =
     let w = told_of frame start Nothing e in
     let l : length (drop start frame) ≡ length frame - start = length-drop start frame in
     record {
@@ -174,40 +174,40 @@ piece-last frame start h e =
           (w.before ∙ sym (take_all (length frame - start) (drop start frame) (omega arith))) w.behind;
     }
 
-pub first-at : (frame : List ℕ) (p n : ℕ) → next_code frame 0 ≡ At p n →
+pub first_at : (frame : List ℕ) (p n : ℕ) → next_code frame 0 ≡ At p n →
     (p + n ≤ length frame) × (pieces (drop (p + n) frame) ≡ units frame)
 unfolding units pieces
-first-at frame p n e =
+first_at frame p n e =
     let w = told_of frame 0 (At p n) e in (
-      next-within frame 0 p n (omega arith) w,
-      sym (ap (unitsOfCut (cut frame 0).before) (behind-it frame 0 p n (omega arith) w)),
+      next_within frame 0 p n (omega arith) w,
+      sym (ap (units_of_cut (cut frame 0).before) (behind_it frame 0 p n (omega arith) w)),
     )
 
-pub first-none : (frame : List ℕ) → next_code frame 0 ≡ Nothing → pieces (drop 0 frame) ≡ units frame
+pub first_none : (frame : List ℕ) → next_code frame 0 ≡ Nothing → pieces (drop 0 frame) ≡ units frame
 unfolding units pieces
-first-none frame e =
+first_none frame e =
     let w = told_of frame 0 Nothing e in
-    ap (λ (r : List (List ℕ)). (cut frame 0).before ∷ r) w.behind ∙ sym (ap (unitsOfCut (cut frame 0).before) w.behind)
+    ap (λ (r : List (List ℕ)). (cut frame 0).before ∷ r) w.behind ∙ sym (ap (units_of_cut (cut frame 0).before) w.behind)
 
 -- ---- a piece as the code lends it
 
-pub piece-length : (frame : List ℕ) (start : ℕ) (p : Piece) → Pieced frame start p →
+pub piece_length : (frame : List ℕ) (start : ℕ) (p : Piece) → Pieced frame start p →
     length (take (p.end - start) (drop start frame)) ≡ p.end - start
-piece-length frame start p w =
+piece_length frame start p w =
     length-take-le (p.end - start) (drop start frame) (rw (length-drop start frame) (omega (arith, w.within, w.to)))
 
-pub piece-onward : (frame : List ℕ) (start : ℕ) (p : Piece) → Pieced frame start p → p.more ≡ true → p.end < p.next
-piece-onward frame start p w e = subst (λ (b : Bool). cond b (p.end < p.next) (Unit {0})) e w.onward
+pub piece_onward : (frame : List ℕ) (start : ℕ) (p : Piece) → Pieced frame start p → p.more ≡ true → p.end < p.next
+piece_onward frame start p w e = subst (λ (b : Bool). cond b (p.end < p.next) (Unit {0})) e w.onward
 
 -- the piece, then those behind it
-pub piece-more : (frame : List ℕ) (start : ℕ) (p : Piece) → Pieced frame start p → p.more ≡ true →
+pub piece_more : (frame : List ℕ) (start : ℕ) (p : Piece) → Pieced frame start p → p.more ≡ true →
     pieces (drop start frame) ≡ take (p.end - start) (drop start frame) ∷ pieces (drop p.next frame)
-piece-more frame start p w e =
+piece_more frame start p w e =
     w.same ∙ ap (λ (b : Bool). take (p.end - start) (drop start frame) ∷ cond b (pieces (drop p.next frame)) []) e
 
-pub piece-end : (frame : List ℕ) (start : ℕ) (p : Piece) → Pieced frame start p → p.more ≡ false →
+pub piece_end : (frame : List ℕ) (start : ℕ) (p : Piece) → Pieced frame start p → p.more ≡ false →
     pieces (drop start frame) ≡ take (p.end - start) (drop start frame) ∷ []
-piece-end frame start p w e =
+piece_end frame start p w e =
     w.same ∙ ap (λ (b : Bool). take (p.end - start) (drop start frame) ∷ cond b (pieces (drop p.next frame)) []) e
 
 -- ---- a start code in two numbers
@@ -222,6 +222,6 @@ by_code frame start c e T found none = subst T (sym e) (go (next_code frame star
     go (At p n) q = found p n q (told_of frame start (At p n) q).some
     go Nothing q = none q
 
-pub code-within : (frame : List ℕ) (start : ℕ) → start ≤ length frame → (c : Code) → c ≡ code_of (next_code frame start) → c.at + c.len ≤ length frame
-code-within frame start h c e =
-    by_code frame start c e (λ (x : Code). x.at + x.len ≤ length frame) (λ p n q some. (piece-at frame start p n h q).within) (λ q. omega arith)
+pub code_within : (frame : List ℕ) (start : ℕ) → start ≤ length frame → (c : Code) → c ≡ code_of (next_code frame start) → c.at + c.len ≤ length frame
+code_within frame start h c e =
+    by_code frame start c e (λ (x : Code). x.at + x.len ≤ length frame) (λ p n q some. (piece_at frame start p n h q).within) (λ q. omega arith)

@@ -11,8 +11,8 @@ module _ {P : ℕ → Type 0} {frame : List ℕ} where
   pub run_none : {i e : ℕ} → e ≡ i → i ≤ length frame → Run P frame i e
   run_none q h = record { from = omega arith; within = omega arith; each = λ k high low. absurd (omega arith) }
 
-  pub run-one : {i e : ℕ} → e ≡ i + 1 → i < length frame → P (get_or frame i 0) → Run P frame i e
-  run-one {i} q h p =
+  pub run_one : {i e : ℕ} → e ≡ i + 1 → i < length frame → P (get_or frame i 0) → Run P frame i e
+  run_one {i} q h p =
       record {
         from = omega arith;
         within = omega arith;
@@ -29,6 +29,6 @@ module _ {P : ℕ → Type 0} {frame : List ℕ} where
       go k high low (no h) = r.each k (omega arith) low
 
 -- of which P holds, of that holds what follows from P
-pub run-as : {P Q : ℕ → Type 0} {frame : List ℕ} {i e : ℕ} → ((b : ℕ) → P b → Q b) → Run P frame i e → Run Q frame i e
-run-as {P} {Q} {frame} f r =
+pub run_as : {P Q : ℕ → Type 0} {frame : List ℕ} {i e : ℕ} → ((b : ℕ) → P b → Q b) → Run P frame i e → Run Q frame i e
+run_as {P} {Q} {frame} f r =
     record { from = r.from; within = r.within; each = λ k high low. f (get_or frame k 0) (r.each k high low) }

@@ -10,9 +10,9 @@ use lib.ListN.{length, drop, get_or, length-drop}
 use borrow.Author.Tests.{lt-leb, eqb-true}
 use Rattle.annexb.specs.declared.Found.{Found}
 use Rattle.annexb.specs.declared.Found.TheVariants.{At, Nothing}
-use Rattle.annexb.specs.Search.{zerosBy, endsCode, scan, code_of}
+use Rattle.annexb.specs.Search.{zeros_by, ends_code, scan, code_of}
 use Rattle.annexb.specs.Runs.{Run, Zero, Other, ZerosStart}
-use Rattle.annexb.proofs.Codes.{scan-zero, scan-other, scan-code, on-by, no_one, few-zeros, one-after-zeros}
+use Rattle.annexb.proofs.Codes.{scan_zero, scan_other, scan_code, on_by, no_one, few_zeros, one_after_zeros}
 
 -- the search from i on, where z zeros stand before it
 abbrev pub ahead : List ℕ → ℕ → ℕ → Found
@@ -29,70 +29,70 @@ through f (suc n) i turn =
     ∙ ap f (omega arith)
 
 module _ (frame : List ℕ) (i e : ℕ) where
-  by-turns : {P : ℕ → Type 0} → Run P frame i e → (f : ℕ → Found) →
+  by_turns : {P : ℕ → Type 0} → Run P frame i e → (f : ℕ → Found) →
       ((k : ℕ) → k < length frame → i ≤ k → P (get_or frame k 0) → f k ≡ f (k + 1)) → f i ≡ f e
-  by-turns r f turn =
+  by_turns r f turn =
       let q : i + (e - i) ≡ e = omega (arith, r.from) in
       through f (e - i) i (λ k high low. turn k (omega (arith, r.within)) low (r.each k (omega arith) low)) ∙ ap f q
 
-  pub past-others : Run Other frame i e → ahead frame i 0 ≡ ahead frame e 0
-  past-others r =
-      by-turns r (λ (k : ℕ). ahead frame k 0)
-      (λ k h low p. scan-other frame k 0 h (λ q. omega arith) (no_one (get_or frame k 0) 0 (λ q. omega arith)))
+  pub past_others : Run Other frame i e → ahead frame i 0 ≡ ahead frame e 0
+  past_others r =
+      by_turns r (λ (k : ℕ). ahead frame k 0)
+      (λ k h low p. scan_other frame k 0 h (λ q. omega arith) (no_one (get_or frame k 0) 0 (λ q. omega arith)))
 
-  pub past-zeros : Run Zero frame i e → ahead frame i 0 ≡ ahead frame e (e - i)
-  past-zeros r =
+  pub past_zeros : Run Zero frame i e → ahead frame i 0 ≡ ahead frame e (e - i)
+  past_zeros r =
       ap (ahead frame i) (omega arith)
-      ∙ by-turns r (λ (k : ℕ). ahead frame k (k - i))
-      (λ k h low p. scan-zero frame k (k - i) h p ∙ ap (ahead frame (k + 1)) (omega arith))
+      ∙ by_turns r (λ (k : ℕ). ahead frame k (k - i))
+      (λ k h low p. scan_zero frame k (k - i) h p ∙ ap (ahead frame (k + 1)) (omega arith))
 
   -- "A start code is two or more zeros and a 1"
-  pub code-found : {n : ℕ} → n ≡ e - i + 1 → Run Zero frame i e → e < length frame → get_or frame e 0 ≡ 1 → leb 2 (e - i) ≡ true →
+  pub code_found : {n : ℕ} → n ≡ e - i + 1 → Run Zero frame i e → e < length frame → get_or frame e 0 ≡ 1 → leb 2 (e - i) ≡ true →
       record { at = i; len = n } ≡ code_of (ahead frame i 0)
-  code-found q r h one two =
+  code_found q r h one two =
       ap₂ (λ (x y : ℕ). record { at = x; len = y }) (omega (arith, r.from)) q
-      ∙ ap code_of (sym (past-zeros r ∙ scan-code frame e (e - i) h (one-after-zeros (get_or frame e 0) (e - i) one two)))
+      ∙ ap code_of (sym (past_zeros r ∙ scan_code frame e (e - i) h (one_after_zeros (get_or frame e 0) (e - i) one two)))
 
-  pub no_code : Run Zero frame i e → e < length frame → (get_or frame e 0 ≡ 0 → ⊥) → endsCode (get_or frame e 0) (e - i) ≡ false →
+  pub no_code : Run Zero frame i e → e < length frame → (get_or frame e 0 ≡ 0 → ⊥) → ends_code (get_or frame e 0) (e - i) ≡ false →
       ahead frame i 0 ≡ ahead frame (e + 1) 0
-  no_code r h n none = past-zeros r ∙ scan-other frame e (e - i) h n none
+  no_code r h n none = past_zeros r ∙ scan_other frame e (e - i) h n none
 
 -- ---- three bytes
 
-zeros-up : (t : Bool) (z : ℕ) → zerosBy t z ≤ z + 1
-zeros-up true z = omega arith
-zeros-up false z = omega arith
+zeros_up : (t : Bool) (z : ℕ) → zeros_by t z ≤ z + 1
+zeros_up true z = omega arith
+zeros_up false z = omega arith
 
 -- no start code ends where it had fewer than three bytes
 short : (s : List ℕ) (at z : ℕ) → length s + z < 3 → scan s at z ≡ Nothing
 short [] at z h = refl
 short (b ∷ s) at z h =
-    let rest = scan s (at + 1) (zerosBy (eqb b 0) z) in
-    ap (λ (t : Bool). cond t (At (at - z) (z + 1)) rest) (few-zeros b z (lt-leb 2 z (omega arith)))
-    ∙ short s (at + 1) (zerosBy (eqb b 0) z) (omega (arith, zeros-up (eqb b 0) z))
+    let rest = scan s (at + 1) (zeros_by (eqb b 0) z) in
+    ap (λ (t : Bool). cond t (At (at - z) (z + 1)) rest) (few_zeros b z (lt-leb 2 z (omega arith)))
+    ∙ short s (at + 1) (zeros_by (eqb b 0) z) (omega (arith, zeros_up (eqb b 0) z))
 
-pub few-left : (frame : List ℕ) (i : ℕ) → length frame < i + 3 → ahead frame i 0 ≡ Nothing
-few-left frame i few = short (drop i frame) i 0 (omega (arith, length-drop i frame))
+pub few_left : (frame : List ℕ) (i : ℕ) → length frame < i + 3 → ahead frame i 0 ≡ Nothing
+few_left frame i few = short (drop i frame) i 0 (omega (arith, length-drop i frame))
 
 -- how many zeros stand in a row up to the byte at i, where z stood before it
 abbrev up_to : List ℕ → ℕ → ℕ → ℕ
-up_to frame i z = zerosBy (eqb (get_or frame i 0) 0) z
+up_to frame i z = zeros_by (eqb (get_or frame i 0) 0) z
 
 up_one : (frame : List ℕ) (i : ℕ) → up_to frame i 0 < 2
-up_one frame i = omega (arith, zeros-up (eqb (get_or frame i 0) 0) 0)
+up_one frame i = omega (arith, zeros_up (eqb (get_or frame i 0) 0) 0)
 
 module _ (frame : List ℕ) (i e z : ℕ) (q : e ≡ i + 1) (h : i < length frame) where
   -- a byte that ends no start code
-  passed : (get_or frame i 0 ≡ 0 → ⊥) → endsCode (get_or frame i 0) z ≡ false → ahead frame i z ≡ ahead frame e 0
-  passed n none = scan-other frame i z h n none ∙ ap (λ (k : ℕ). ahead frame k 0) (sym q)
+  passed : (get_or frame i 0 ≡ 0 → ⊥) → ends_code (get_or frame i 0) z ≡ false → ahead frame i z ≡ ahead frame e 0
+  passed n none = scan_other frame i z h n none ∙ ap (λ (k : ℕ). ahead frame k 0) (sym q)
 
   -- with fewer than two zeros before it no byte ends one
   cleared : z < 2 → (get_or frame i 0 ≡ 0 → ⊥) → ahead frame i z ≡ ahead frame e 0
-  cleared few n = passed n (few-zeros (get_or frame i 0) z (lt-leb 2 z few))
+  cleared few n = passed n (few_zeros (get_or frame i 0) z (lt-leb 2 z few))
 
   counted : z < 2 → ahead frame i z ≡ ahead frame e (up_to frame i z)
   counted few =
-      on-by frame i z h (endsCode (get_or frame i 0) z) refl (few-zeros (get_or frame i 0) z (lt-leb 2 z few)) (eqb (get_or frame i 0) 0) refl
+      on_by frame i z h (ends_code (get_or frame i 0) z) refl (few_zeros (get_or frame i 0) z (lt-leb 2 z few)) (eqb (get_or frame i 0) 0) refl
       ∙ ap (λ (k : ℕ). ahead frame k (up_to frame i z)) (sym q)
 
 module _ (frame : List ℕ) (i : ℕ) (h : i + 3 ≤ length frame) where
@@ -106,15 +106,15 @@ module _ (frame : List ℕ) (i : ℕ) (h : i + 3 ≤ length frame) where
       (go (eqb (get_or frame i 0) 0) (eqb (get_or frame (i + 1) 0) 0) refl refl)
     where
       go : (p q : Bool) → eqb (get_or frame i 0) 0 ≡ p → eqb (get_or frame (i + 1) 0) 0 ≡ q →
-          endsCode (get_or frame (i + 2) 0) (zerosBy q (zerosBy p 0)) ≡ false
+          ends_code (get_or frame (i + 2) 0) (zeros_by q (zeros_by p 0)) ≡ false
       go true true e f =
           no_one (get_or frame (i + 2) 0) (0 + 1 + 1) (none (eqb-true (get_or frame i 0) 0 e) (eqb-true (get_or frame (i + 1) 0) 0 f))
-      go true false e f = few-zeros (get_or frame (i + 2) 0) 0 refl
-      go false q e f = few-zeros (get_or frame (i + 2) 0) (zerosBy q 0) (lt-leb 2 (zerosBy q 0) (omega (arith, zeros-up q 0)))
+      go true false e f = few_zeros (get_or frame (i + 2) 0) 0 refl
+      go false q e f = few_zeros (get_or frame (i + 2) 0) (zeros_by q 0) (lt-leb 2 (zeros_by q 0) (omega (arith, zeros_up q 0)))
 
   -- what stands before the zeros up to the one two places behind i
-  pub to-zeros : (first : ℕ) → ZerosStart frame i first → ahead frame i 0 ≡ ahead frame first 0
-  to-zeros first w = go (first - i) (omega (arith, w.from))
+  pub to_zeros : (first : ℕ) → ZerosStart frame i first → ahead frame i 0 ≡ ahead frame first 0
+  to_zeros first w = go (first - i) (omega (arith, w.from))
     where
       go : (n : ℕ) → first ≡ i + n → ahead frame i 0 ≡ ahead frame first 0
       go zero q = let p : i ≡ first = omega arith in ap (λ (k : ℕ). ahead frame k 0) p

@@ -18,7 +18,7 @@ pub record Apart (u : List ℕ) : Type 0 where
   pub no_zero : (a : List ℕ) → u ≡ a ++ (0 ∷ []) → ⊥
 
 -- the units, the zeros at the frame's end being part of the last
-abbrev pub unitsWritten : ℕ → List Prefixed → List (List ℕ)
-unitsWritten end [] = []
-unitsWritten end (c ∷ []) = (c.unit ++ replicate end 0) ∷ []
-unitsWritten end (c ∷ d ∷ cs) = c.unit ∷ unitsWritten end (d ∷ cs)
+abbrev pub units_written : ℕ → List Prefixed → List (List ℕ)
+units_written end [] = []
+units_written end (c ∷ []) = (c.unit ++ replicate end 0) ∷ []
+units_written end (c ∷ d ∷ cs) = c.unit ∷ units_written end (d ∷ cs)

@@ -1,7 +1,7 @@
 -- "A start code is two or more zeros and a 1." Assumes nothing.
 use Rattle.std.specs.Prelude.{List, [], ◌∷◌, Bool, true, false, cond, ◌&&◌, ◌||◌, ℕ, ◌+◌, ◌-◌, eqb, leb, ltb, length, drop}
 use Rattle.error.specs.Said.{Said, says, refused, refuse}
-use Rattle.error.specs.Refusal.{refusalOf}
+use Rattle.error.specs.Refusal.{refusal_of}
 use Rattle.annexb.specs.declared.Code.{Code}
 use Rattle.annexb.specs.declared.Found.{Found}
 use Rattle.annexb.specs.declared.Found.TheVariants.{At, Nothing}
@@ -9,19 +9,19 @@ use Rattle.annexb.specs.declared.Search.{Search}
 use Rattle.annexb.specs.declared.Search.TheVariants.{Yields, Refused}
 
 -- how many zeros stand in a row up to a byte, that byte included, where `zeros` stood before it
-abbrev pub zerosBy : Bool → ℕ → ℕ
-zerosBy true zeros = zeros + 1
-zerosBy false zeros = 0
+abbrev pub zeros_by : Bool → ℕ → ℕ
+zeros_by true zeros = zeros + 1
+zeros_by false zeros = 0
 
 -- a byte b ends a start code
-abbrev pub endsCode : ℕ → ℕ → Bool
-endsCode b zeros = eqb b 1 && leb 2 zeros
+abbrev pub ends_code : ℕ → ℕ → Bool
+ends_code b zeros = eqb b 1 && leb 2 zeros
 
 -- the first start code that ends in s, where s stands at the place `at` and `zeros` zeros stand before it
 abbrev pub scan : List ℕ → ℕ → ℕ → Found
 scan [] at zeros = Nothing
 scan (b ∷ s) at zeros =
-    cond (endsCode b zeros) (At (at - zeros) (zeros + 1)) (scan s (at + 1) (zerosBy (eqb b 0) zeros))
+    cond (ends_code b zeros) (At (at - zeros) (zeros + 1)) (scan s (at + 1) (zeros_by (eqb b 0) zeros))
 
 -- "The search yields the place and length of the first start code, all its zeros included": from the place `start` on
 unfoldable pub next_code : List ℕ → ℕ → Found
@@ -35,13 +35,13 @@ code_of Nothing = record { at = 0; len = 0 }
 -- ---- the search as a call
 
 -- what an answer says: the place and length of a start code or that there is none, or the paper's number
-abbrev pub saidSearch : Search → Said Found
-saidSearch (Yields found) = says found
-saidSearch (Refused e) = refused (refusalOf e)
+abbrev pub said_search : Search → Said Found
+said_search (Yields found) = says found
+said_search (Refused e) = refused (refusal_of e)
 
 -- 8: "frames up to 16,777,216"; and a place beyond the frame's end, where the Rust panics
 abbrev pub beyond : List ℕ → ℕ → Bool
 beyond frame start = ltb 16777216 (length frame) || ltb (length frame) start
 
-unfoldable pub nextInd : List ℕ → ℕ → Said Found
-nextInd frame start = cond (beyond frame start) (refuse 8) (says (next_code frame start))
+unfoldable pub next_ind : List ℕ → ℕ → Said Found
+next_ind frame start = cond (beyond frame start) (refuse 8) (says (next_code frame start))

@@ -1,7 +1,7 @@
 -- From a frame to its units. Assumes nothing.
 use Rattle.std.specs.Prelude.{List, [], ◌∷◌, ◌++◌, Bool, true, false, cond, ◌||◌, ◌≡◌, ℕ, ◌-◌, ◌≤◌, ◌<◌, eqb, length, take, drop, replicate}
 use Rattle.annexb.specs.declared.Piece.{Piece}
-use Rattle.annexb.specs.Search.{zerosBy, endsCode}
+use Rattle.annexb.specs.Search.{zeros_by, ends_code}
 
 -- bytes cut at their start codes: what stands before the first code, and what stands behind each
 pub record Cut : Type 0 where
@@ -9,34 +9,34 @@ pub record Cut : Type 0 where
   pub behind : List (List ℕ)
 
 -- a byte b with `zeros` zeros before it, in front of what is cut already: one zero more, the end of a start code, or a byte of a unit
-abbrev pub cutBy : (is_zero is_code : Bool) → ℕ → ℕ → Cut → Cut
-cutBy true is_code b zeros c = c
-cutBy false true b zeros c = record { before = []; behind = c.before ∷ c.behind }
-cutBy false false b zeros c = record { before = replicate zeros 0 ++ (b ∷ c.before); behind = c.behind }
+abbrev pub cut_by : (is_zero is_code : Bool) → ℕ → ℕ → Cut → Cut
+cut_by true is_code b zeros c = c
+cut_by false true b zeros c = record { before = []; behind = c.before ∷ c.behind }
+cut_by false false b zeros c = record { before = replicate zeros 0 ++ (b ∷ c.before); behind = c.behind }
 
 -- bytes with `zeros` zeros before them, cut; zeros that end in no start code stay where they stand
 abbrev pub cut : List ℕ → ℕ → Cut
 cut [] zeros = record { before = replicate zeros 0; behind = [] }
-cut (b ∷ s) zeros = cutBy (eqb b 0) (endsCode b zeros) b zeros (cut s (zerosBy (eqb b 0) zeros))
+cut (b ∷ s) zeros = cut_by (eqb b 0) (ends_code b zeros) b zeros (cut s (zeros_by (eqb b 0) zeros))
 
 -- all that start codes part, what stands before the first among it
 unfoldable pub pieces : List ℕ → List (List ℕ)
 pieces s = (cut s 0).before ∷ (cut s 0).behind
 
 -- "Bytes before the first code are ignored; without a code the frame is one unit."
-abbrev pub unitsOfCut : List ℕ → List (List ℕ) → List (List ℕ)
-unitsOfCut before [] = before ∷ []
-unitsOfCut before (u ∷ us) = u ∷ us
+abbrev pub units_of_cut : List ℕ → List (List ℕ) → List (List ℕ)
+units_of_cut before [] = before ∷ []
+units_of_cut before (u ∷ us) = u ∷ us
 
 unfoldable pub units : List ℕ → List (List ℕ)
-units frame = unitsOfCut (cut frame 0).before (cut frame 0).behind
+units frame = units_of_cut (cut frame 0).before (cut frame 0).behind
 
 -- "An empty frame or mtu 0 gives no packets and saves nothing": no unit of it counts
-abbrev pub noUnits : ℕ → ℕ → Bool
-noUnits mtu len = eqb len 0 || eqb mtu 0
+abbrev pub no_units : ℕ → ℕ → Bool
+no_units mtu len = eqb len 0 || eqb mtu 0
 
-unfoldable pub unitsAt : ℕ → List ℕ → List (List ℕ)
-unitsAt mtu frame = cond (noUnits mtu (length frame)) [] (units frame)
+unfoldable pub units_at : ℕ → List ℕ → List (List ℕ)
+units_at mtu frame = cond (no_units mtu (length frame)) [] (units frame)
 
 -- p is the piece of the frame that starts at `start`
 pub record Pieced (frame : List ℕ) (start : ℕ) (p : Piece) : Type 0 where

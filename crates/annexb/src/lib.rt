@@ -4,7 +4,7 @@
 //
 // A start code is two or more zeros and a 1. Bytes before the first one are ignored; without one the frame is one unit.
 ghost use Rattle.std.specs.Prelude.{◌≡◌, ◌+◌, ◌≤◌, length, drop, get_or};
-ghost use Rattle.annexb.specs.Search.{next_code, code_of, saidSearch, nextInd};
+ghost use Rattle.annexb.specs.Search.{next_code, code_of, said_search, next_ind};
 ghost use Rattle.annexb.specs.Runs.{Run, Zero, Other, ZerosEnd, ZerosStart};
 ghost use Rattle.annexb.specs.Units.{units, pieces, Pieced};
 
@@ -200,7 +200,7 @@ pub fn next_code(frame: &[u8], start: usize) -> Found
 
 // The search by itself: too long a frame is refused, and a place beyond its end.
 pub fn next_ind(frame: &[u8], start: usize) -> Search
-    ensures { saidSearch result ≡ nextInd frame.now start }
+    ensures { said_search result ≡ next_ind frame.now start }
 {
     if 16777216 < frame.len() {
         return Search::Refused(Error::OutsideDomain);

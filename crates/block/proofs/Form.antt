@@ -4,25 +4,25 @@ use Prim.Native.Nat.{ℕ, ◌*◌, ◌≤◌}
 use native.Mathlib.Nat.{mul-le-mul}
 use native.Mathlib.Omega.{arith}
 use borrow.Author.Tests.{ne_eqb}
-use Rattle.block.specs.Form.{Form, one_byte, two-byte, other, form_of, perElement}
+use Rattle.block.specs.Form.{Form, one_byte, two_byte, other, form_of, per_element}
 
 -- ---- the forms of a profile
 
-pub form-one : {p : ℕ} → p ≡ 0xBEDE → form_of p ≡ one_byte
-form-one e = ap form_of e
+pub form_one : {p : ℕ} → p ≡ 0xBEDE → form_of p ≡ one_byte
+form_one e = ap form_of e
 
-pub form-two : {p : ℕ} → p ≡ 0x1000 → form_of p ≡ two-byte
-form-two e = ap form_of e
+pub form_two : {p : ℕ} → p ≡ 0x1000 → form_of p ≡ two_byte
+form_two e = ap form_of e
 
-pub form-other : {p : ℕ} → (p ≡ 0xBEDE → ⊥) → (p ≡ 0x1000 → ⊥) → form_of p ≡ other
-form-other {p} n m = rw (ne_eqb p 0xBEDE n, ne_eqb p 0x1000 m)
+pub form_other : {p : ℕ} → (p ≡ 0xBEDE → ⊥) → (p ≡ 0x1000 → ⊥) → form_of p ≡ other
+form_other {p} n m = rw (ne_eqb p 0xBEDE n, ne_eqb p 0x1000 m)
 
 -- ---- sizes counted from the record
 
-pub heads-few : (profile count : ℕ) → count ≤ 32 → count * perElement (form_of profile) ≤ 64
-heads-few profile count h = mul-le-mul h (few (form_of profile))
+pub heads_few : (profile count : ℕ) → count ≤ 32 → count * per_element (form_of profile) ≤ 64
+heads_few profile count h = mul-le-mul h (few (form_of profile))
   where
-    few : (form : Form) → perElement form ≤ 2
+    few : (form : Form) → per_element form ≤ 2
     few one_byte = omega arith
-    few two-byte = omega arith
+    few two_byte = omega arith
     few other = omega arith

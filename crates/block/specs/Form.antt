@@ -3,30 +3,30 @@ use Rattle.std.specs.Prelude.{cond, ℕ, ◌+◌, ◌*◌, ◌/◌, leb, eqb}
 
 -- how a profile lays its elements out
 pub data Form : Type 0 where
-  one_byte two-byte other : Form
+  one_byte two_byte other : Form
 
 -- "Profile 0xBEDE", "Profile 0x1000", "Other profiles"
 abbrev pub form_of : ℕ → Form
-form_of profile = cond (eqb profile 0xBEDE) one_byte (cond (eqb profile 0x1000) two-byte other)
+form_of profile = cond (eqb profile 0xBEDE) one_byte (cond (eqb profile 0x1000) two_byte other)
 
 -- how many bytes an element's head takes
-abbrev pub perElement : Form → ℕ
-perElement one_byte = 1
-perElement two-byte = 2
-perElement other = 0
+abbrev pub per_element : Form → ℕ
+per_element one_byte = 1
+per_element two_byte = 2
+per_element other = 0
 
 -- `count` elements of `bytes` data bytes in all, with their heads
-abbrev pub lengthFor : ℕ → ℕ → ℕ → ℕ
-lengthFor profile count bytes = bytes + count * perElement (form_of profile)
+abbrev pub length_for : ℕ → ℕ → ℕ → ℕ
+length_for profile count bytes = bytes + count * per_element (form_of profile)
 
 -- n bytes in words of 4, the last one filled up
-abbrev pub wordsFor : ℕ → ℕ
-wordsFor n = (n + 3) / 4
+abbrev pub words_for : ℕ → ℕ
+words_for n = (n + 3) / 4
 
 -- "The first set picks 0xBEDE for 0 to 16 bytes, 0x1000 for 17 to 255, else keeps the profile; it does not check the id." Where it
 -- keeps the profile, 000 counts no bytes for the element's head.
-abbrev pub firstProfile : ℕ → ℕ → ℕ
-firstProfile profile len = cond (leb len 16) 0xBEDE (cond (leb len 255) 0x1000 profile)
+abbrev pub first_profile : ℕ → ℕ → ℕ
+first_profile profile len = cond (leb len 16) 0xBEDE (cond (leb len 255) 0x1000 profile)
 
-abbrev pub firstHead : ℕ → ℕ
-firstHead len = cond (leb len 16) 1 (cond (leb len 255) 2 0)
+abbrev pub first_head : ℕ → ℕ
+first_head len = cond (leb len 16) 1 (cond (leb len 255) 2 0)

@@ -3,7 +3,7 @@ use Rattle.std.specs.Prelude.{Bool, true, false, cond, List, [], ◌∷◌, ◌+
 use Rattle.error.specs.Said.{Said, says, refuse}
 use Rattle.wire.specs.Turns.{Turn, more, done, run}
 use Rattle.elements.specs.Elements.{Element, room_for}
-use Rattle.block.specs.Form.{Form, one_byte, two-byte, other}
+use Rattle.block.specs.Form.{Form, one_byte, two_byte, other}
 
 -- ---- the elements of a block
 
@@ -20,20 +20,20 @@ within head id len rest = cond (ltb (length rest) len) past (element head id len
 
 -- "Profile 0xBEDE: byte 0x00 is padding and counted; otherwise id is the high four bits, length the low four plus 1. Id 15 ends
 -- reading at once"
-unfoldable pub oneByte : List ℕ → Item
-oneByte [] = past
-oneByte (b ∷ rest) = cond (eqb b 0) pad (cond (eqb (b / 16) 15) stop (within 1 (b / 16) (b % 16 + 1) rest))
+unfoldable pub one_byte_item : List ℕ → Item
+one_byte_item [] = past
+one_byte_item (b ∷ rest) = cond (eqb b 0) pad (cond (eqb (b / 16) 15) stop (within 1 (b / 16) (b % 16 + 1) rest))
 
 -- "Profile 0x1000: byte 0x00 is padding; otherwise id, length byte, data."
-unfoldable pub twoByte : List ℕ → Item
-twoByte [] = past
-twoByte (b ∷ []) = cond (eqb b 0) pad past
-twoByte (b ∷ len ∷ rest) = cond (eqb b 0) pad (within 2 b len rest)
+unfoldable pub two_byte_item : List ℕ → Item
+two_byte_item [] = past
+two_byte_item (b ∷ []) = cond (eqb b 0) pad past
+two_byte_item (b ∷ len ∷ rest) = cond (eqb b 0) pad (within 2 b len rest)
 
 -- the elements of one of the two profiles
-abbrev pub itemsBy : Bool → List ℕ → Item
-itemsBy false = oneByte
-itemsBy true = twoByte
+abbrev pub items_by : Bool → List ℕ → Item
+items_by false = one_byte_item
+items_by true = two_byte_item
 
 -- a block while it is read
 pub record Block : Type 0 where
@@ -51,8 +51,8 @@ skip n b = record { rest = drop n b.rest; left = b.left - n; elements = b.elemen
 abbrev pub padded : Block → Block
 padded b = record { rest = b.rest; left = b.left; elements = b.elements; pads = b.pads + 1 }
 
-abbrev pub with-element : Element → Block → Block
-with-element e b = record { rest = b.rest; left = b.left; elements = b.elements ++ (e ∷ []); pads = b.pads }
+abbrev pub with_element : Element → Block → Block
+with_element e b = record { rest = b.rest; left = b.left; elements = b.elements ++ (e ∷ []); pads = b.pads }
 
 -- "then per element 3, 7": 7 is given where it "would pass 32 elements or 1,024 data bytes"
 unfoldable pub taken : Block → Item → Turn Block (Said Block)
@@ -61,7 +61,7 @@ taken b stop = done (says (skip 1 b))
 taken b past = done (refuse 3)
 taken b (element head id len) =
     cond (room_for b.elements len)
-    (more (with-element (record { id = id; bytes = take len (drop head b.rest) }) (skip (head + len) b)))
+    (more (with_element (record { id = id; bytes = take len (drop head b.rest) }) (skip (head + len) b)))
     (done (refuse 7))
 
 unfoldable pub turn : (List ℕ → Item) → Block → Turn Block (Said Block)
@@ -72,16 +72,16 @@ abbrev pub items : (List ℕ → Item) → Block → Said Block
 items item b = run (turn item) (refuse 3) (b.left + 1) b
 
 -- "Other profiles: one element, id 0, the whole block."
-unfoldable pub wholeBlock : Block → Said Block
-wholeBlock b =
+unfoldable pub whole_block : Block → Said Block
+whole_block b =
     cond (room_for b.elements b.left)
-    (says (with-element (record { id = 0; bytes = take b.left b.rest }) (skip b.left b)))
+    (says (with_element (record { id = 0; bytes = take b.left b.rest }) (skip b.left b)))
     (refuse 7)
 
-abbrev pub readBlock : Form → Block → Said Block
-readBlock one_byte b = items (itemsBy false) b
-readBlock two-byte b = items (itemsBy true) b
-readBlock other b = wholeBlock b
+abbrev pub read_block : Form → Block → Said Block
+read_block one_byte b = items (items_by false) b
+read_block two_byte b = items (items_by true) b
+read_block other b = whole_block b
 
 -- the block that begins at `at` and has `len` bytes
 abbrev pub block_at : List ℕ → ℕ → ℕ → Block

@@ -1,8 +1,8 @@
 -- What the functions of src/lib.rt answer, in the paper's numbers and values. Assumes nothing.
 use Rattle.std.specs.Prelude.{◌≡◌, List, [], ℕ, ◌-◌, length}
-use Rattle.error.specs.Refusal.{refusalOf}
+use Rattle.error.specs.Refusal.{refusal_of}
 use Rattle.error.specs.Said.{Said, says, refused}
-use Rattle.elements.specs.Elements.{Element, layElements}
+use Rattle.elements.specs.Elements.{Element, lay_elements}
 use Rattle.block_read.specs.declared.Next.{Next}
 use Rattle.block_read.specs.declared.Next.TheVariants as next
 use Rattle.block_read.specs.declared.Ending.{Ending}
@@ -17,9 +17,9 @@ item_of next.Past = past
 item_of (next.Element head id len) = element head id len
 
 -- "A refusal returns its number"
-abbrev pub saidEnding : Ending → Said ℕ
-saidEnding (ending.Payload place) = says place
-saidEnding (ending.Refused e) = refused (refusalOf e)
+abbrev pub said_ending : Ending → Said ℕ
+said_ending (ending.Payload place) = says place
+said_ending (ending.Refused e) = refused (refusal_of e)
 
 -- the answer, and what stands beside it
 pub record BlockSeen : Type 0 where
@@ -27,13 +27,13 @@ pub record BlockSeen : Type 0 where
   pub count : ℕ
   pub pads : ℕ
 
-abbrev pub heardSeen : Seen → BlockSeen
-heardSeen b = record { answer = saidEnding b.ending; count = b.count; pads = b.padding }
+abbrev pub heard_seen : Seen → BlockSeen
+heard_seen b = record { answer = said_ending b.ending; count = b.count; pads = b.padding }
 
 -- the payload's place in a packet of `n` bytes
-abbrev pub blockSeen : ℕ → Said Block → BlockSeen
-blockSeen n (says b) = record { answer = says (n - length b.rest); count = length b.elements; pads = b.pads }
-blockSeen n (refused r) = record { answer = refused r; count = 0; pads = 0 }
+abbrev pub block_seen : ℕ → Said Block → BlockSeen
+block_seen n (says b) = record { answer = says (n - length b.rest); count = length b.elements; pads = b.pads }
+block_seen n (refused r) = record { answer = refused r; count = 0; pads = 0 }
 
 -- ---- filling
 
@@ -43,12 +43,12 @@ Answers (says b) = Unit
 Answers (refused r) = ⊥
 
 -- the elements that were read
-abbrev pub elementsRead : Said Block → List Element
-elementsRead (says b) = b.elements
-elementsRead (refused r) = []
+abbrev pub elements_read : Said Block → List Element
+elements_read (says b) = b.elements
+elements_read (refused r) = []
 
 -- the arrays of a record hold these elements, and zeros behind them
 pub record Laid (es : List Element) (ids lens bytes : List ℕ) : Type 0 where
-  pub names : ids ≡ (layElements es).ids
-  pub sizes : lens ≡ (layElements es).lens
-  pub packed : bytes ≡ (layElements es).bytes
+  pub names : ids ≡ (lay_elements es).ids
+  pub sizes : lens ≡ (lay_elements es).lens
+  pub packed : bytes ≡ (lay_elements es).bytes

@@ -2,11 +2,11 @@
 //
 // Only proved code calls this crate, so its function may ask that the block lies in the packet.
 ghost use Rattle.std.specs.Prelude.{◌≡◌, [], ◌+◌, ◌<◌, ◌≤◌, length, drop};
-ghost use Rattle.error.specs.Refusal.{refusalOf};
+ghost use Rattle.error.specs.Refusal.{refusal_of};
 ghost use Rattle.error.specs.Said.{says, refused};
 ghost use Rattle.block.specs.Form.{form_of};
-ghost use Rattle.block_read.specs.Read.{oneByte, twoByte, itemsBy, items, readBlock, block_at};
-ghost use Rattle.block_read.specs.Said.{item_of, heardSeen, blockSeen, Answers, elementsRead, Laid};
+ghost use Rattle.block_read.specs.Read.{one_byte_item, two_byte_item, items_by, items, read_block, block_at};
+ghost use Rattle.block_read.specs.Said.{item_of, heard_seen, block_seen, Answers, elements_read, Laid};
 
 use block::{EXTENSION_ID_RESERVED, EXTENSION_PROFILE_ONE_BYTE, EXTENSION_PROFILE_TWO_BYTE};
 use error::Error;
@@ -46,7 +46,7 @@ enum Next {
 // +-+-+-+-+-+-+-+-+
 fn one_byte(packet: &[u8], at: usize) -> Next
     requires { at < length packet.now }
-    ensures { item_of result ≡ oneByte (drop at packet.now) }
+    ensures { item_of result ≡ one_byte_item (drop at packet.now) }
 {
     let b = packet[at];
     if b == 0 {
@@ -72,7 +72,7 @@ fn one_byte(packet: &[u8], at: usize) -> Next
 // +-+-+-+-+-+-+-+-+-+-+-+-+-+-+-+-+
 fn two_byte(packet: &[u8], at: usize) -> Next
     requires { at < length packet.now }
-    ensures { item_of result ≡ twoByte (drop at packet.now) }
+    ensures { item_of result ≡ two_byte_item (drop at packet.now) }
 {
     let id = packet[at];
     if id == 0 {
@@ -90,7 +90,7 @@ fn two_byte(packet: &[u8], at: usize) -> Next
 
 fn next_at(packet: &[u8], at: usize, two: bool) -> Next
     requires { at < length packet.now }
-    ensures { item_of result ≡ itemsBy two (drop at packet.now) }
+    ensures { item_of result ≡ items_by two (drop at packet.now) }
 {
     if two {
         two_byte(packet, at)
@@ -100,7 +100,7 @@ fn next_at(packet: &[u8], at: usize, two: bool) -> Next
 }
 
 fn refused_block(e: Error) -> Seen
-    ensures { heardSeen result ≡ blockSeen 0 (refused (refusalOf e)) }
+    ensures { heard_seen result ≡ block_seen 0 (refused (refusal_of e)) }
 {
     Seen {
         ending: Ending::Refused(e),
@@ -111,7 +111,7 @@ fn refused_block(e: Error) -> Seen
 
 // The payload begins at `place`.
 fn ended(place: usize, count: usize, padding: usize) -> Seen
-    ensures { heardSeen result ≡ record { answer = says place; count = count; pads = padding } }
+    ensures { heard_seen result ≡ record { answer = says place; count = count; pads = padding } }
 {
     Seen {
         ending: Ending::Payload(place),
@@ -123,7 +123,7 @@ fn ended(place: usize, count: usize, padding: usize) -> Seen
 // The elements of a block of `len` bytes. An element may run past the block: `at` then lies behind its end.
 fn see_items(packet: &[u8], start: usize, len: usize, two: bool) -> Seen
     requires { start + len ≤ length packet.now }
-    ensures { heardSeen result ≡ blockSeen (length packet.now) (items (itemsBy two) (block_at packet.now start len)) }
+    ensures { heard_seen result ≡ block_seen (length packet.now) (items (items_by two) (block_at packet.now start len)) }
 {
     let end = start + len;
     let mut at = start;
@@ -166,7 +166,7 @@ fn see_items(packet: &[u8], start: usize, len: usize, two: bool) -> Seen
 // What a block holds and where the payload begins behind it.
 pub fn see_block(packet: &[u8], start: usize, len: usize, profile: u16) -> Seen
     requires { start + len ≤ length packet.now }
-    ensures { heardSeen result ≡ blockSeen (length packet.now) (readBlock (form_of profile) (block_at packet.now start len)) }
+    ensures { heard_seen result ≡ block_seen (length packet.now) (read_block (form_of profile) (block_at packet.now start len)) }
 {
     if profile == EXTENSION_PROFILE_ONE_BYTE {
         return see_items(packet, start, len, false);
@@ -191,9 +191,9 @@ fn fill_items(
     bytes: &mut [u8; 1024],
 )
     requires len_in_bounds { start + len ≤ length packet.now }
-    requires answers { Answers (items (itemsBy two) (block_at packet.now start len)) }
+    requires answers { Answers (items (items_by two) (block_at packet.now start len)) }
     requires laid { Laid [] ids.old lens.old bytes.old }
-    ensures { Laid (elementsRead (items (itemsBy two) (block_at packet.now start len))) ids.new lens.new bytes.new }
+    ensures { Laid (elements_read (items (items_by two) (block_at packet.now start len))) ids.new lens.new bytes.new }
 {
     let end = start + len;
     let mut at = start;
@@ -231,9 +231,9 @@ pub fn fill_block(
     bytes: &mut [u8; 1024],
 )
     requires len_in_bounds { start + len ≤ length packet.now }
-    requires answers { Answers (readBlock (form_of profile) (block_at packet.now start len)) }
+    requires answers { Answers (read_block (form_of profile) (block_at packet.now start len)) }
     requires laid { Laid [] ids.old lens.old bytes.old }
-    ensures { Laid (elementsRead (readBlock (form_of profile) (block_at packet.now start len))) ids.new lens.new bytes.new }
+    ensures { Laid (elements_read (read_block (form_of profile) (block_at packet.now start len))) ids.new lens.new bytes.new }
 {
     if profile == EXTENSION_PROFILE_ONE_BYTE {
         fill_items(packet, start, len, false, ids, lens, bytes);

@@ -2,40 +2,40 @@
 use Rattle.std.specs.Prelude.{Bool, true, cond, ◌&&◌, List, [], ◌∷◌, ◌++◌, ℕ, ◌+◌, ◌-◌, ◌*◌, leb, length, replicate}
 use Rattle.wire.specs.Net.{be16}
 use Rattle.elements.specs.Elements.{Element, sum}
-use Rattle.block.specs.Form.{Form, one_byte, two-byte, other, form_of, wordsFor}
+use Rattle.block.specs.Form.{Form, one_byte, two_byte, other, form_of, words_for}
 
 -- ---- the octets
 
 -- RFC 8285's one_byte element: id and length less one in one byte; its two-byte element: id, length
-abbrev pub elementOctets : Form → Element → List ℕ
-elementOctets one_byte e = (e.id * 16 + (length e.bytes - 1)) ∷ e.bytes
-elementOctets two-byte e = e.id ∷ length e.bytes ∷ e.bytes
-elementOctets other e = e.bytes
+abbrev pub element_octets : Form → Element → List ℕ
+element_octets one_byte e = (e.id * 16 + (length e.bytes - 1)) ∷ e.bytes
+element_octets two_byte e = e.id ∷ length e.bytes ∷ e.bytes
+element_octets other e = e.bytes
 
-abbrev pub blockOctets : Form → List Element → List ℕ
-blockOctets form [] = []
-blockOctets form (e ∷ es) = elementOctets form e ++ blockOctets form es
+abbrev pub block_octets : Form → List Element → List ℕ
+block_octets form [] = []
+block_octets form (e ∷ es) = element_octets form e ++ block_octets form es
 
 -- profile, length in words, elements of `len` bytes with their heads, zeros up to a whole word
-unfoldable pub extensionFor : ℕ → ℕ → List Element → List ℕ
-extensionFor profile len es =
+unfoldable pub extension_for : ℕ → ℕ → List Element → List ℕ
+extension_for profile len es =
     be16 profile
-    ++ (be16 (wordsFor len) ++ (blockOctets (form_of profile) es ++ replicate (4 * wordsFor len - len) 0))
+    ++ (be16 (words_for len) ++ (block_octets (form_of profile) es ++ replicate (4 * words_for len - len) 0))
 
 -- ---- the call
 
 -- "in the one_byte profile ids 0 to 15 and lengths 1 to 16, in the two-byte profile lengths 0 to 255"
 abbrev pub fits : Form → ℕ → ℕ → Bool
 fits one_byte id len = leb id 15 && (leb 1 len && leb len 16)
-fits two-byte id len = leb len 255
+fits two_byte id len = leb len 255
 fits other id len = true
 
 abbrev pub writable : Form → Element → Bool
 writable form e = fits form e.id (length e.bytes)
 
-abbrev pub allWritable : Form → List Element → Bool
-allWritable form [] = true
-allWritable form (e ∷ es) = writable form e && allWritable form es
+abbrev pub all_writable : Form → List Element → Bool
+all_writable form [] = true
+all_writable form (e ∷ es) = writable form e && all_writable form es
 
 -- the same of elements with these ids and lengths
 abbrev pub all_fit : Form → List ℕ → List ℕ → Bool

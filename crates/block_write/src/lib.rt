@@ -2,10 +2,10 @@
 //
 // Only proved code calls this crate, so its functions may ask that the buffer has room.
 ghost use Rattle.std.specs.Prelude.{◌≡◌, true, ◌+◌, ◌≤◌, length, take};
-ghost use Rattle.elements.specs.Elements.{Packed, elementsIn, sum};
-ghost use Rattle.block.specs.Form.{form_of, lengthFor};
+ghost use Rattle.elements.specs.Elements.{Packed, elements_in, sum};
+ghost use Rattle.block.specs.Form.{form_of, length_for};
 ghost use Rattle.wire.specs.Part.{Put};
-ghost use Rattle.block_write.specs.Write.{elementOctets, blockOctets, extensionFor, fits, weight, allWritable};
+ghost use Rattle.block_write.specs.Write.{element_octets, block_octets, extension_for, fits, weight, all_writable};
 
 use block::{EXTENSION_PROFILE_ONE_BYTE, EXTENSION_PROFILE_TWO_BYTE};
 use wire::wide16;
@@ -55,8 +55,8 @@ pub fn weigh<'a>(profile: u16, count: usize, ids: &'a [u8; 32], lens: &'a [u16; 
 // +-+-+-+-+-+-+-+-+-+-+-+-+-+-+-+-+
 fn put_element(buf: &mut [u8], at: usize, profile: u16, id: u8, data: &[u8]) -> usize
     requires data_value { fits (form_of profile) id (length «data».now) ≡ true }
-    requires data_in_bounds { at + length (elementOctets (form_of profile) (record { id = id; bytes = «data».now })) ≤ length buf.old }
-    ensures { Put buf.old at (elementOctets (form_of profile) (record { id = id; bytes = «data».now })) result buf.new }
+    requires data_in_bounds { at + length (element_octets (form_of profile) (record { id = id; bytes = «data».now })) ≤ length buf.old }
+    ensures { Put buf.old at (element_octets (form_of profile) (record { id = id; bytes = «data».now })) result buf.new }
 {
     let len = data.len();
     match profile {
@@ -89,9 +89,9 @@ fn put_elements<'a>(
     bytes: &'a [u8],
 ) -> usize
     requires packed { Packed count ids.now lens.now bytes.now }
-    requires bytes_value { allWritable (form_of profile) (elementsIn count ids.now lens.now bytes.now) ≡ true }
-    requires bytes_in_bounds { start + length (blockOctets (form_of profile) (elementsIn count ids.now lens.now bytes.now)) ≤ length buf.old }
-    ensures { Put buf.old start (blockOctets (form_of profile) (elementsIn count ids.now lens.now bytes.now)) result buf.new }
+    requires bytes_value { all_writable (form_of profile) (elements_in count ids.now lens.now bytes.now) ≡ true }
+    requires bytes_in_bounds { start + length (block_octets (form_of profile) (elements_in count ids.now lens.now bytes.now)) ≤ length buf.old }
+    ensures { Put buf.old start (block_octets (form_of profile) (elements_in count ids.now lens.now bytes.now)) result buf.new }
 {
     let mut at = start;
     let mut used = 0;
@@ -125,10 +125,10 @@ pub fn put_extension<'a>(
     bytes: &'a [u8],
 ) -> usize
     requires packed { Packed count ids.now lens.now bytes.now }
-    requires bytes_value { allWritable (form_of profile) (elementsIn count ids.now lens.now bytes.now) ≡ true }
-    requires len_value { (len ≡ lengthFor profile count (sum (take count lens.now))) × (len ≤ 1088) }
-    requires bytes_in_bounds { at + length (extensionFor profile len (elementsIn count ids.now lens.now bytes.now)) ≤ length buf.old }
-    ensures { Put buf.old at (extensionFor profile len (elementsIn count ids.now lens.now bytes.now)) result buf.new }
+    requires bytes_value { all_writable (form_of profile) (elements_in count ids.now lens.now bytes.now) ≡ true }
+    requires len_value { (len ≡ length_for profile count (sum (take count lens.now))) × (len ≤ 1088) }
+    requires bytes_in_bounds { at + length (extension_for profile len (elements_in count ids.now lens.now bytes.now)) ≤ length buf.old }
+    ensures { Put buf.old at (extension_for profile len (elements_in count ids.now lens.now bytes.now)) result buf.new }
 {
     wire::put_u16(buf, at, profile);
     let words = (len + 3) / 4;

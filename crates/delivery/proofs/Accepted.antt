@@ -6,8 +6,8 @@ use mathlib.Core.List.{List, [], ◌∷◌, ◌++◌, map}
 use mathlib.Core.Logic.{◌⊎◌, inl, inr, ◌↔◌}
 use Prim.Native.Nat.{ℕ, ◌<◌}
 use lib.ListN.{length, get_or}
-use Rattle.sequence.specs.Arrival.{Arrival, ours, other, isAccepted, acceptedCalls}
-use Rattle.sequence.proofs.Accepting.{Arrived, accepted-sentence}
+use Rattle.sequence.specs.Arrival.{Arrival, ours, other, is_accepted, accepted_calls}
+use Rattle.sequence.proofs.Accepting.{Arrived, accepted_sentence}
 use Rattle.joiner_step.specs.Play as play
 use Rattle.joiner.specs.Join.{Stepped}
 use Rattle.delivery.specs.Show.{Show}
@@ -21,45 +21,45 @@ module _ {B : Type 0} where
   onto (a ∷ before) earlier = onto before (a ∷ earlier)
 
   call_at : (earlier before later : List (Arrival B)) (a : Arrival B) →
-      get_or (acceptedCalls earlier (before ++ (a ∷ later))) (length before) false ≡ isAccepted (onto before earlier) a
+      get_or (accepted_calls earlier (before ++ (a ∷ later))) (length before) false ≡ is_accepted (onto before earlier) a
   unfolding onto
   call_at earlier [] later a = refl
   call_at earlier (b ∷ before) later a = call_at (b ∷ earlier) before later a
 
-  arrived-onto : (j : ℕ) (before earlier : List (Arrival B)) → Arrived j before ⊎ Arrived j earlier → Arrived j (onto before earlier)
+  arrived_onto : (j : ℕ) (before earlier : List (Arrival B)) → Arrived j before ⊎ Arrived j earlier → Arrived j (onto before earlier)
   unfolding onto
-  arrived-onto j [] earlier (inr h) = h
-  arrived-onto j (ours i ∷ before) earlier (inl (inl e)) = arrived-onto j before (ours i ∷ earlier) (inr (inl e))
-  arrived-onto j (ours i ∷ before) earlier (inl (inr h)) = arrived-onto j before (ours i ∷ earlier) (inl h)
-  arrived-onto j (ours i ∷ before) earlier (inr h) = arrived-onto j before (ours i ∷ earlier) (inr (inr h))
-  arrived-onto j (other b ∷ before) earlier (inl h) = arrived-onto j before (other b ∷ earlier) (inl h)
-  arrived-onto j (other b ∷ before) earlier (inr h) = arrived-onto j before (other b ∷ earlier) (inr h)
+  arrived_onto j [] earlier (inr h) = h
+  arrived_onto j (ours i ∷ before) earlier (inl (inl e)) = arrived_onto j before (ours i ∷ earlier) (inr (inl e))
+  arrived_onto j (ours i ∷ before) earlier (inl (inr h)) = arrived_onto j before (ours i ∷ earlier) (inl h)
+  arrived_onto j (ours i ∷ before) earlier (inr h) = arrived_onto j before (ours i ∷ earlier) (inr (inr h))
+  arrived_onto j (other b ∷ before) earlier (inl h) = arrived_onto j before (other b ∷ earlier) (inl h)
+  arrived_onto j (other b ∷ before) earlier (inr h) = arrived_onto j before (other b ∷ earlier) (inr h)
 
-  onto-arrived : (j : ℕ) (before earlier : List (Arrival B)) → Arrived j (onto before earlier) → Arrived j before ⊎ Arrived j earlier
+  onto_arrived : (j : ℕ) (before earlier : List (Arrival B)) → Arrived j (onto before earlier) → Arrived j before ⊎ Arrived j earlier
   unfolding onto
-  onto-arrived j [] earlier h = inr h
-  onto-arrived j (ours i ∷ before) earlier h = by (onto-arrived j before (ours i ∷ earlier) h)
+  onto_arrived j [] earlier h = inr h
+  onto_arrived j (ours i ∷ before) earlier h = by (onto_arrived j before (ours i ∷ earlier) h)
     where
       by : Arrived j before ⊎ ((j ≡ i) ⊎ Arrived j earlier) → ((j ≡ i) ⊎ Arrived j before) ⊎ Arrived j earlier
       by (inl h) = inl (inr h)
       by (inr (inl e)) = inl (inl e)
       by (inr (inr h)) = inr h
-  onto-arrived j (other b ∷ before) earlier h = onto-arrived j before (other b ∷ earlier) h
+  onto_arrived j (other b ∷ before) earlier h = onto_arrived j before (other b ∷ earlier) h
 
 -- the call for an arrival of ours accepts exactly when the index is above every index that arrived before
-pub accepted-exactly : (avc : Bool) (m : Machine) (w : Show) → Delivered avc m w → (before later : List (Arrival (List ℕ))) (i : ℕ) → w.arrivals ≡ before ++ (ours i ∷ later) →
-    (get_or (map (λ (st : Stepped). play.isAccepted st.answer) (played m w)) (length before) false ≡ true) ↔ ((j : ℕ) → Arrived j before → j < i)
-accepted-exactly avc m w d before later i e = (above, accepts)
+pub accepted_exactly : (avc : Bool) (m : Machine) (w : Show) → Delivered avc m w → (before later : List (Arrival (List ℕ))) (i : ℕ) → w.arrivals ≡ before ++ (ours i ∷ later) →
+    (get_or (map (λ (st : Stepped). play.is_accepted st.answer) (played m w)) (length before) false ≡ true) ↔ ((j : ℕ) → Arrived j before → j < i)
+accepted_exactly avc m w d before later i e = (above, accepts)
   where
-    told : get_or (map (λ (st : Stepped). play.isAccepted st.answer) (played m w)) (length before) false ≡ isAccepted (onto before []) (ours i)
+    told : get_or (map (λ (st : Stepped). play.is_accepted st.answer) (played m w)) (length before) false ≡ is_accepted (onto before []) (ours i)
     told =
-        ap (λ (l : List Bool). get_or l (length before) false) (d.accepts ∙ ap (acceptedCalls []) e) ∙ call_at [] before later (ours i)
+        ap (λ (l : List Bool). get_or l (length before) false) (d.accepts ∙ ap (accepted_calls []) e) ∙ call_at [] before later (ours i)
 
-    before-only : (j : ℕ) → Arrived j before ⊎ ⊥ → Arrived j before
-    before-only j (inl h) = h
+    before_only : (j : ℕ) → Arrived j before ⊎ ⊥ → Arrived j before
+    before_only j (inl h) = h
 
-    above : get_or (map (λ (st : Stepped). play.isAccepted st.answer) (played m w)) (length before) false ≡ true → (j : ℕ) → Arrived j before → j < i
-    above t j h = (accepted-sentence i (onto before [])).0 (sym told ∙ t) j (arrived-onto j before [] (inl h))
+    above : get_or (map (λ (st : Stepped). play.is_accepted st.answer) (played m w)) (length before) false ≡ true → (j : ℕ) → Arrived j before → j < i
+    above t j h = (accepted_sentence i (onto before [])).0 (sym told ∙ t) j (arrived_onto j before [] (inl h))
 
-    accepts : ((j : ℕ) → Arrived j before → j < i) → get_or (map (λ (st : Stepped). play.isAccepted st.answer) (played m w)) (length before) false ≡ true
-    accepts h = told ∙ (accepted-sentence i (onto before [])).1 (λ j g. h j (before-only j (onto-arrived j before [] g)))
+    accepts : ((j : ℕ) → Arrived j before → j < i) → get_or (map (λ (st : Stepped). play.is_accepted st.answer) (played m w)) (length before) false ≡ true
+    accepts h = told ∙ (accepted_sentence i (onto before [])).1 (λ j g. h j (before_only j (onto_arrived j before [] g)))

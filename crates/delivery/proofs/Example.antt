@@ -8,34 +8,34 @@ use native.Mathlib.Omega.{arith}
 use lib.Dec.{eqb, ltb}
 use lib.ListN.{replicate}
 use Rattle.error.specs.Said.{Said, says, refused}
-use Rattle.wire.specs.Net.{u16At, u32_at, be16, be32}
+use Rattle.wire.specs.Net.{u16_at, u32_at, be16, be32}
 use Rattle.wire.specs.Part.{splice}
 use Rattle.wire.specs.Turns.{run}
-use Rattle.header.specs.Read.{fields_at, readFixed, readHeader}
-use Rattle.header_write.specs.Fixed.{fixedFor}
-use Rattle.header.specs.Write.{octetsOf}
-use Rattle.packet.specs.Read.{PacketReading, readPacket}
-use Rattle.packet.specs.Write.{payloadOctets, packetOctets}
-use Rattle.packet.specs.Plain.{plainPacket}
-use Rattle.annexb.specs.Units.{units, unitsAt}
-use Rattle.h264_put.specs.Groups.{nothingSaved, keep, stapA, fragment, pairFor, unit_for, groupsFor}
+use Rattle.header.specs.Read.{fields_at, read_fixed, read_header}
+use Rattle.header_write.specs.Fixed.{fixed_for}
+use Rattle.header.specs.Write.{octets_of}
+use Rattle.packet.specs.Read.{PacketReading, read_packet}
+use Rattle.packet.specs.Write.{payload_octets, packet_octets}
+use Rattle.packet.specs.Plain.{plain_packet}
+use Rattle.annexb.specs.Units.{units, units_at}
+use Rattle.h264_put.specs.Groups.{nothing_saved, keep, stap_a, fragment, pair_for, unit_for, groups_for}
 use Rattle.nal_read.specs.Kind.{shape}
 use Rattle.nal_read.specs.Unpack.{unpack}
-use Rattle.nal.specs.Unpack.{unpackTurn}
+use Rattle.nal.specs.Unpack.{unpack_turn}
 use Rattle.nal.specs.Unpack as unpacking
-use Rattle.nal.specs.Fed.{prefixed, layBytes, layBoth}
+use Rattle.nal.specs.Fed.{prefixed, lay_bytes, lay_both}
 use Rattle.sequence.specs.Arrival.{Arrival, ours, other, Window}
-use Rattle.joiner_step.specs.Step.{bySource, step, closing, opening}
-use Rattle.joiner_step.specs.Play.{isAccepted, handedOut}
+use Rattle.joiner_step.specs.Step.{by_source, step, closing, opening}
+use Rattle.joiner_step.specs.Play.{is_accepted, handed_out}
 use Rattle.joiner_feed.specs.H264.{check}
 use Rattle.joiner.specs.declared.Prefix.{Prefix}
 use Rattle.joiner.specs.declared.Prefix.TheVariants as prefix
-use Rattle.joiner.specs.Join.{Stepped, avcFor, joinStep, closeStep, openedWith}
-use Rattle.delivery.specs.Play.{ourJoiner, played}
+use Rattle.joiner.specs.Join.{Stepped, avc_for, join_step, close_step, opened_with}
+use Rattle.delivery.specs.Play.{our_joiner, played}
 use Rattle.delivery.specs.Play as play
 use Rattle.delivery.specs.Show.{largest}
 use Rattle.delivery.specs.Demand.{Foreign, OthersForeign}
-use Rattle.delivery.specs.Frames.{Sending, showOf, SendingPremises}
+use Rattle.delivery.specs.Frames.{Sending, show_of, SendingPremises}
 use Rattle.delivery.specs.Calls.{Lent, LentEnough}
 
 -- a packet of source 9
@@ -43,8 +43,8 @@ unfoldable pub stranger : List ℕ
 stranger = 0x80 ∷ 0x60 ∷ 0 ∷ 1 ∷ 0 ∷ 0 ∷ 0 ∷ 2 ∷ 0 ∷ 0 ∷ 0 ∷ 9 ∷ 0x65 ∷ 1 ∷ 2 ∷ []
 
 -- the timestamp of packet i: one for each frame, 3,600 ticks apart, with a wrap behind the first; the marker stands on each frame's last packet
-abbrev timeOf : ℕ → ℕ
-timeOf i = cond (ltb i 2) 4294963696 (cond (ltb i 5) 0 (cond (ltb i 8) 3600 7200))
+abbrev time_of : ℕ → ℕ
+time_of i = cond (ltb i 2) 4294963696 (cond (ltb i 5) 0 (cond (ltb i 8) 3600 7200))
 
 abbrev is_last : ℕ → Bool
 is_last i = eqb i 1 || (eqb i 4 || (eqb i 7 || eqb i 8))
@@ -62,7 +62,7 @@ nine arrivals =
       mtu = 30;
       source = 3;
       first = 65531;
-      stamps = λ i. record { marker = is_last i; type = 96; time = timeOf i };
+      stamps = λ i. record { marker = is_last i; type = 96; time = time_of i };
       gather = replicate 84 0;
       outs = λ i. replicate 89 0;
       arrivals = arrivals;
@@ -74,45 +74,45 @@ show = nine (ours 0 ∷ ours 0 ∷ other stranger ∷ ours 2 ∷ ours 1 ∷ ours
 
 -- ---- it meets the premises
 
-of-another : Foreign 3 stranger
-unfolding stranger readPacket readHeader readFixed fields_at u16At u32_at
-of-another r e same = let nine : 9 ≡ r.fields.source = ap source_of e in omega arith
+of_another : Foreign 3 stranger
+unfolding stranger read_packet read_header read_fixed fields_at u16_at u32_at
+of_another r e same = let nine : 9 ≡ r.fields.source = ap source_of e in omega arith
   where
     source_of : Said PacketReading → ℕ
     source_of (says x) = x.fields.source
     source_of (refused x) = 0
 
 -- one of two times
-pub of-32-bits : (t u : ℕ) → t < 4294967296 → u < 4294967296 → (b : Bool) → cond b t u < 4294967296
-of-32-bits t u early late true = early
-of-32-bits t u early late false = late
+pub of_32_bits : (t u : ℕ) → t < 4294967296 → u < 4294967296 → (b : Bool) → cond b t u < 4294967296
+of_32_bits t u early late true = early
+of_32_bits t u early late false = late
 
-time-32 : (i : ℕ) → timeOf i < 4294967296
-time-32 i =
-    of-32-bits 4294963696 _ (omega arith) (of-32-bits 0 _ (omega arith) (of-32-bits 3600 7200 (omega arith) (omega arith) (ltb i 8)) (ltb i 5)) (ltb i 2)
+time_32 : (i : ℕ) → time_of i < 4294967296
+time_32 i =
+    of_32_bits 4294963696 _ (omega arith) (of_32_bits 0 _ (omega arith) (of_32_bits 3600 7200 (omega arith) (omega arith) (ltb i 8)) (ltb i 5)) (ltb i 2)
 
 -- whatever the prefix, the largest group takes 89 bytes
-largest-out : (avc : Bool) (arrivals : List (Arrival (List ℕ))) → largest avc (showOf (nine arrivals)).groups ≤ 89
-unfolding nine units unitsAt keep stapA pairFor unit_for groupsFor fragment be16 be32
-largest-out false arrivals = omega arith
-largest-out true arrivals = omega arith
+largest_out : (avc : Bool) (arrivals : List (Arrival (List ℕ))) → largest avc (show_of (nine arrivals)).groups ≤ 89
+unfolding nine units units_at keep stap_a pair_for unit_for groups_for fragment be16 be32
+largest_out false arrivals = omega arith
+largest_out true arrivals = omega arith
 
-pub nine-premises : (avc : Bool) (arrivals : List (Arrival (List ℕ))) → OthersForeign 3 arrivals → Window 9 0 arrivals →
+pub nine_premises : (avc : Bool) (arrivals : List (Arrival (List ℕ))) → OthersForeign 3 arrivals → Window 9 0 arrivals →
     SendingPremises avc (nine arrivals)
-unfolding nine units unitsAt keep stapA pairFor unit_for groupsFor fragment be16
-nine-premises avc arrivals foreign window =
+unfolding nine units units_at keep stap_a pair_for unit_for groups_for fragment be16
+nine_premises avc arrivals foreign window =
     record {
       frames = omega arith;
-      mtu-low = omega arith;
-      mtu-high = omega arith;
+      mtu_low = omega arith;
+      mtu_high = omega arith;
       received =
           record {
             few = omega arith;
-            gather-room = omega arith;
-            out-room = λ i. largest-out avc arrivals;
+            gather_room = omega arith;
+            out_room = λ i. largest_out avc arrivals;
             source = omega arith;
             first = omega arith;
-            stamps = λ i. record { type = omega arith; time = time-32 i };
+            stamps = λ i. record { type = omega arith; time = time_32 i };
             one_time = omega arith;
             foreign = foreign;
             window = window;
@@ -121,44 +121,44 @@ nine-premises avc arrivals foreign window =
 
 pub premises : (avc : Bool) → SendingPremises avc show
 unfolding show
-premises avc = nine-premises avc _ (of-another, tt) (omega arith)
+premises avc = nine_premises avc _ (of_another, tt) (omega arith)
 
 -- ---- its outcome, as it computes
 
 -- what is handed out: the pair, the first fragmented unit and the last unit
-abbrev pub pairOut : Bool → List ℕ
-pairOut avc = prefixed avc ((0x67 ∷ 0xAA ∷ []) ∷ (0x68 ∷ 0xBB ∷ []) ∷ [])
+abbrev pub pair_out : Bool → List ℕ
+pair_out avc = prefixed avc ((0x67 ∷ 0xAA ∷ []) ∷ (0x68 ∷ 0xBB ∷ []) ∷ [])
 
-abbrev pub joinedOut : Bool → List ℕ
-joinedOut avc = prefixed avc ((0x65 ∷ replicate 84 7) ∷ [])
+abbrev pub joined_out : Bool → List ℕ
+joined_out avc = prefixed avc ((0x65 ∷ replicate 84 7) ∷ [])
 
-abbrev pub lastOut : Bool → List ℕ
-lastOut avc = prefixed avc ((0x41 ∷ 11 ∷ 12 ∷ []) ∷ [])
+abbrev pub last_out : Bool → List ℕ
+last_out avc = prefixed avc ((0x41 ∷ 11 ∷ 12 ∷ []) ∷ [])
 
 -- which calls accept, what is handed out, how many packets were missed
 pub record Outcome (chosen : Prefix) (accepts : List Bool) (out : List (List ℕ)) (missed : ℕ) : Type 0 where
-  pub accepts-these : map (λ (st : Stepped). isAccepted st.answer) (played (ourJoiner chosen) (showOf show)) ≡ accepts
-  pub hands_out : handedOut (played (ourJoiner chosen) (showOf show)) ≡ out
-  pub misses : (play.closing (ourJoiner chosen) (showOf show)).joiner.missed ≡ missed
+  pub accepts_these : map (λ (st : Stepped). is_accepted st.answer) (played (our_joiner chosen) (show_of show)) ≡ accepts
+  pub hands_out : handed_out (played (our_joiner chosen) (show_of show)) ≡ out
+  pub misses : (play.closing (our_joiner chosen) (show_of show)).joiner.missed ≡ missed
 
 -- the repeat, the stranger and the packet behind a later one are not accepted; packets 1 and 6 are missed
 pub outcome : (chosen : Prefix) → Outcome chosen
     (true ∷ false ∷ false ∷ true ∷ false ∷ true ∷ true ∷ true ∷ true ∷ true ∷ [])
-    (pairOut (avcFor chosen) ∷ joinedOut (avcFor chosen) ∷ lastOut (avcFor chosen) ∷ [])
+    (pair_out (avc_for chosen) ∷ joined_out (avc_for chosen) ∷ last_out (avc_for chosen) ∷ [])
     2
-unfolding show nine stranger units unitsAt keep stapA pairFor unit_for groupsFor fragment joinStep step closeStep closing bySource check shape unpack unpacking.unpack unpackTurn run layBoth layBytes splice readPacket readHeader readFixed fields_at u16At u32_at plainPacket packetOctets payloadOctets octetsOf fixedFor be16 be32 openedWith opening
-outcome prefix.Length = record { accepts-these = refl; hands_out = refl; misses = refl }
-outcome prefix.StartCode = record { accepts-these = refl; hands_out = refl; misses = refl }
+unfolding show nine stranger units units_at keep stap_a pair_for unit_for groups_for fragment join_step step close_step closing by_source check shape unpack unpacking.unpack unpack_turn run lay_both lay_bytes splice read_packet read_header read_fixed fields_at u16_at u32_at plain_packet packet_octets payload_octets octets_of fixed_for be16 be32 opened_with opening
+outcome prefix.Length = record { accepts_these = refl; hands_out = refl; misses = refl }
+outcome prefix.StartCode = record { accepts_these = refl; hands_out = refl; misses = refl }
 
 -- ---- its calls answer
 
 -- an output of 90 bytes and a table of three ends for each call
-abbrev pub lentTo : ℕ → Lent
-lentTo i = record { out = replicate 90 0; ends = replicate 3 0 }
+abbrev pub lent_to : ℕ → Lent
+lent_to i = record { out = replicate 90 0; ends = replicate 3 0 }
 
-pub lent-enough : LentEnough show.mtu nothingSaved lentTo show.frames
-unfolding show nine units unitsAt keep stapA pairFor unit_for groupsFor fragment be16
-lent-enough = (
+pub lent_enough : LentEnough show.mtu nothing_saved lent_to show.frames
+unfolding show nine units units_at keep stap_a pair_for unit_for groups_for fragment be16
+lent_enough = (
   (refl, (refl, (refl, tt))),
   record { bytes = omega arith; places = omega arith },
   (

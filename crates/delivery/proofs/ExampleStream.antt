@@ -8,33 +8,33 @@ use Prim.Native.Nat.{ℕ, ◌≤◌}
 use native.Mathlib.Omega.{arith}
 use lib.Dec.{eqb, ltb}
 use lib.ListN.{replicate}
-use Rattle.wire.specs.Net.{u16At, u32_at, be16, be32}
+use Rattle.wire.specs.Net.{u16_at, u32_at, be16, be32}
 use Rattle.wire.specs.Part.{splice}
 use Rattle.wire.specs.Turns.{run}
-use Rattle.header.specs.Read.{fields_at, readFixed, readHeader}
-use Rattle.header_write.specs.Fixed.{fixedFor}
+use Rattle.header.specs.Read.{fields_at, read_fixed, read_header}
+use Rattle.header_write.specs.Fixed.{fixed_for}
 use Rattle.header.specs.Write as header
-use Rattle.packet.specs.Read.{readPacket}
-use Rattle.packet.specs.Write.{payloadOctets, packetOctets}
-use Rattle.packet.specs.Plain.{plainPacket}
-use Rattle.rfc6184.specs.Sending.{Nal, octet, octetsOf, Part, single, stapA, fuA, fragment}
+use Rattle.packet.specs.Read.{read_packet}
+use Rattle.packet.specs.Write.{payload_octets, packet_octets}
+use Rattle.packet.specs.Plain.{plain_packet}
+use Rattle.rfc6184.specs.Sending.{Nal, octet, octets_of, Part, single, stap_a, fu_a, fragment}
 use Rattle.nal_read.specs.Kind.{shape}
 use Rattle.nal_read.specs.Unpack.{unpack}
-use Rattle.nal.specs.Unpack.{unpackTurn}
+use Rattle.nal.specs.Unpack.{unpack_turn}
 use Rattle.nal.specs.Unpack as unpacking
-use Rattle.nal.specs.Fed.{layBytes, layBoth}
+use Rattle.nal.specs.Fed.{lay_bytes, lay_both}
 use Rattle.sequence.specs.Arrival.{ours}
-use Rattle.joiner_step.specs.Step.{bySource, step, closing, opening}
-use Rattle.joiner_step.specs.Play.{handedOut}
+use Rattle.joiner_step.specs.Step.{by_source, step, closing, opening}
+use Rattle.joiner_step.specs.Play.{handed_out}
 use Rattle.joiner_feed.specs.H264.{check}
 use Rattle.joiner.specs.declared.Prefix.{Prefix}
 use Rattle.joiner.specs.declared.Prefix.TheVariants as prefix
-use Rattle.joiner.specs.Join.{joinStep, closeStep, openedWith}
+use Rattle.joiner.specs.Join.{join_step, close_step, opened_with}
 use Rattle.delivery.specs.Show.{largest}
-use Rattle.delivery.specs.Play.{ourJoiner, played}
+use Rattle.delivery.specs.Play.{our_joiner, played}
 use Rattle.delivery.specs.Play as play
-use Rattle.delivery.specs.AnySender.{Stream, streamShow, StreamPremises}
-use Rattle.delivery.proofs.Example.{of-32-bits}
+use Rattle.delivery.specs.AnySender.{Stream, stream_show, StreamPremises}
+use Rattle.delivery.proofs.Example.{of_32_bits}
 
 abbrev unit : ℕ → ℕ → List ℕ → Nal
 unit nri type payload = record { f = 0; nri = nri; type = type; payload = payload }
@@ -48,8 +48,8 @@ stream =
     record {
       sendings =
           single (unit 0 9 (0xF0 ∷ []))
-          ∷ stapA 0 3 (unit 3 7 (0xAA ∷ []) ∷ unit 3 8 (0xBB ∷ []) ∷ [])
-          ∷ fuA (record { f = 0; nri = 3; type = 5; first = part (1 ∷ 2 ∷ []); middle = part (3 ∷ []) ∷ []; last = part (4 ∷ []) })
+          ∷ stap_a 0 3 (unit 3 7 (0xAA ∷ []) ∷ unit 3 8 (0xBB ∷ []) ∷ [])
+          ∷ fu_a (record { f = 0; nri = 3; type = 5; first = part (1 ∷ 2 ∷ []); middle = part (3 ∷ []) ∷ []; last = part (4 ∷ []) })
           ∷ single (unit 2 1 (1 ∷ 2 ∷ []))
           ∷ [];
       marks = λ i. eqb i 1 || eqb i 3;
@@ -62,14 +62,14 @@ stream =
     }
 
 -- whatever the prefix, the largest group takes 12 bytes
-largest-out : (avc : Bool) → largest avc (streamShow stream).groups ≤ 12
-unfolding stream octetsOf fragment octet be16 be32
-largest-out false = omega arith
-largest-out true = omega arith
+largest_out : (avc : Bool) → largest avc (stream_show stream).groups ≤ 12
+unfolding stream octets_of fragment octet be16 be32
+largest_out false = omega arith
+largest_out true = omega arith
 
-pub stream-premises : (avc : Bool) → StreamPremises avc stream
-unfolding stream octetsOf fragment octet be16
-stream-premises avc =
+pub stream_premises : (avc : Bool) → StreamPremises avc stream
+unfolding stream octets_of fragment octet be16
+stream_premises avc =
     record {
       formed = omega arith;
       ruled = omega arith;
@@ -79,11 +79,11 @@ stream-premises avc =
       received =
           record {
             few = omega arith;
-            gather-room = omega arith;
-            out-room = λ i. largest-out avc;
+            gather_room = omega arith;
+            out_room = λ i. largest_out avc;
             source = omega arith;
             first = omega arith;
-            stamps = λ i. record { type = omega arith; time = of-32-bits 4294967295 3599 (omega arith) (omega arith) (ltb i 5) };
+            stamps = λ i. record { type = omega arith; time = of_32_bits 4294967295 3599 (omega arith) (omega arith) (ltb i 5) };
             one_time = omega arith;
             foreign = tt;
             window = omega arith;
@@ -92,11 +92,11 @@ stream-premises avc =
 
 -- what is handed out, as it computes: the units of the STAP-A as they are, the fragmented unit with its top bit set; and how many packets were missed
 pub record Outcome (chosen : Prefix) (out : List (List ℕ)) : Type 0 where
-  pub hands_out : handedOut (played (ourJoiner chosen) (streamShow stream)) ≡ out
-  pub misses : (play.closing (ourJoiner chosen) (streamShow stream)).joiner.missed ≡ 1
+  pub hands_out : handed_out (played (our_joiner chosen) (stream_show stream)) ≡ out
+  pub misses : (play.closing (our_joiner chosen) (stream_show stream)).joiner.missed ≡ 1
 
-pub stream-outcome :
+pub stream_outcome :
     Outcome prefix.Length ((0 ∷ 0 ∷ 0 ∷ 2 ∷ 9 ∷ 0xF0 ∷ []) ∷ (0 ∷ 0 ∷ 0 ∷ 2 ∷ 0x67 ∷ 0xAA ∷ 0 ∷ 0 ∷ 0 ∷ 2 ∷ 0x68 ∷ 0xBB ∷ []) ∷ (0 ∷ 0 ∷ 0 ∷ 5 ∷ 0xE5 ∷ 1 ∷ 2 ∷ 3 ∷ 4 ∷ []) ∷ [])
     × Outcome prefix.StartCode ((0 ∷ 0 ∷ 0 ∷ 1 ∷ 9 ∷ 0xF0 ∷ []) ∷ (0 ∷ 0 ∷ 0 ∷ 1 ∷ 0x67 ∷ 0xAA ∷ 0 ∷ 0 ∷ 0 ∷ 1 ∷ 0x68 ∷ 0xBB ∷ []) ∷ (0 ∷ 0 ∷ 0 ∷ 1 ∷ 0xE5 ∷ 1 ∷ 2 ∷ 3 ∷ 4 ∷ []) ∷ [])
-unfolding stream octetsOf fragment octet joinStep step closeStep closing bySource check shape unpack unpacking.unpack unpackTurn run layBoth layBytes splice readPacket readHeader readFixed fields_at u16At u32_at plainPacket packetOctets payloadOctets header.octetsOf fixedFor be16 be32 openedWith opening
-stream-outcome = (record { hands_out = refl; misses = refl }, record { hands_out = refl; misses = refl })
+unfolding stream octets_of fragment octet join_step step close_step closing by_source check shape unpack unpacking.unpack unpack_turn run lay_both lay_bytes splice read_packet read_header read_fixed fields_at u16_at u32_at plain_packet packet_octets payload_octets header.octets_of fixed_for be16 be32 opened_with opening
+stream_outcome = (record { hands_out = refl; misses = refl }, record { hands_out = refl; misses = refl })

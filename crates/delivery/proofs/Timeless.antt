@@ -9,42 +9,42 @@ use native.Mathlib.Omega.{arith}
 use lib.ListN.{length, replicate}
 use Rattle.error.specs.Said.{Said, says, refused}
 use Rattle.wire.specs.Each.{Each}
-use Rattle.wire.specs.Net.{u16At, u32_at, be16, be32}
+use Rattle.wire.specs.Net.{u16_at, u32_at, be16, be32}
 use Rattle.wire.specs.Part as wire
-use Rattle.header.specs.Read.{fields_at, readFixed, readHeader}
-use Rattle.header.specs.Write.{octetsOf}
-use Rattle.header_write.specs.Fixed.{fixedFor}
-use Rattle.packet.specs.Plain.{Stamp, plainPacket}
-use Rattle.packet.specs.Read.{PacketReading, readPacket}
-use Rattle.packet.specs.Write.{payloadOctets, packetOctets}
-use Rattle.rfc6184.specs.Sending.{fuA, fragment, octet}
+use Rattle.header.specs.Read.{fields_at, read_fixed, read_header}
+use Rattle.header.specs.Write.{octets_of}
+use Rattle.header_write.specs.Fixed.{fixed_for}
+use Rattle.packet.specs.Plain.{Stamp, plain_packet}
+use Rattle.packet.specs.Read.{PacketReading, read_packet}
+use Rattle.packet.specs.Write.{payload_octets, packet_octets}
+use Rattle.rfc6184.specs.Sending.{fu_a, fragment, octet}
 use Rattle.nal_read.specs.Kind.{shape}
 use Rattle.nal.specs.Fed.{prefixed}
 use Rattle.sequence.specs.Arrival.{ours}
 use Rattle.joiner_step.specs.Run.{Units}
-use Rattle.joiner_step.specs.Play.{handedOut}
+use Rattle.joiner_step.specs.Play.{handed_out}
 use Rattle.joiner_feed.specs.Content.{Fragment, Content, whole, start, middle, end}
 use Rattle.joiner_feed.specs.H264.{check}
 use Rattle.delivery.specs.Show.{largest}
 use Rattle.delivery.specs.Play.{Machine, arriving, played}
-use Rattle.delivery.specs.AnySender.{Stream, streamShow, StreamPremises, DeliversAny}
+use Rattle.delivery.specs.AnySender.{Stream, stream_show, StreamPremises, DeliversAny}
 use Rattle.delivery.specs.OneMoment.{Among, Bears, Origin, Untorn, OneMoment}
 use Rattle.delivery.specs.Wrong.{Timeless}
 use Rattle.delivery.proofs.ExampleStream.{part}
 use Rattle.delivery.proofs.OneMoment.{started}
 
-abbrev stampsAt : (ℕ → ℕ) → ℕ → Stamp
-stampsAt times i = record { marker = false; type = 96; time = times i }
+abbrev stamps_at : (ℕ → ℕ) → ℕ → Stamp
+stamps_at times i = record { marker = false; type = 96; time = times i }
 
 -- the two fragments of one unit; the time of packet i is `times i`
 unfoldable two : (ℕ → ℕ) → Stream
 two times =
     record {
-      sendings = fuA (record { f = 0; nri = 3; type = 5; first = part (1 ∷ []); middle = []; last = part (2 ∷ []) }) ∷ [];
+      sendings = fu_a (record { f = 0; nri = 3; type = 5; first = part (1 ∷ []); middle = []; last = part (2 ∷ []) }) ∷ [];
       marks = λ i. false;
       source = 3;
       first = 7;
-      stamps = stampsAt times;
+      stamps = stamps_at times;
       gather = replicate 2 0;
       outs = λ i. replicate 7 0;
       arrivals = ours 0 ∷ ours 1 ∷ [];
@@ -52,14 +52,14 @@ two times =
 
 -- ---- at one time something is handed out
 
-largest-out : (avc : Bool) → largest avc (streamShow (two (λ i. 5))).groups ≤ 7
+largest_out : (avc : Bool) → largest avc (stream_show (two (λ i. 5))).groups ≤ 7
 unfolding two fragment octet be16 be32
-largest-out false = omega arith
-largest-out true = omega arith
+largest_out false = omega arith
+largest_out true = omega arith
 
-two-premises : (avc : Bool) → StreamPremises avc (two (λ i. 5))
+two_premises : (avc : Bool) → StreamPremises avc (two (λ i. 5))
 unfolding two fragment octet be16 be32
-two-premises avc =
+two_premises avc =
     record {
       formed = omega arith;
       ruled = omega arith;
@@ -69,8 +69,8 @@ two-premises avc =
       received =
           record {
             few = omega arith;
-            gather-room = omega arith;
-            out-room = λ i. largest-out avc;
+            gather_room = omega arith;
+            out_room = λ i. largest_out avc;
             source = omega arith;
             first = omega arith;
             stamps = λ i. record { type = omega arith; time = omega arith };
@@ -80,46 +80,46 @@ two-premises avc =
           };
     }
 
-handed : (avc : Bool) (m : Machine) → DeliversAny avc m → length (handedOut (played m (streamShow (two (λ i. 5))))) ≡ 1
+handed : (avc : Bool) (m : Machine) → DeliversAny avc m → length (handed_out (played m (stream_show (two (λ i. 5))))) ≡ 1
 unfolding two fragment octet
-handed avc m d = ap length (d (two (λ i. 5)) (two-premises avc)).handsOut
+handed avc m d = ap length (d (two (λ i. 5)) (two_premises avc)).hands_out
 
 -- ---- at two times nothing may be
 
 abbrev came : List (List ℕ)
-came = arriving (streamShow (two (λ i. i)))
+came = arriving (stream_show (two (λ i. i)))
 
 -- what a packet holds, by its kind, and its time
-abbrev kindIn : Said Content → ℕ
-kindIn (says (whole units)) = 0
-kindIn (says (start f)) = 1
-kindIn (says (middle f)) = 2
-kindIn (says (end head f)) = 3
-kindIn (refused r) = 4
+abbrev kind_in : Said Content → ℕ
+kind_in (says (whole units)) = 0
+kind_in (says (start f)) = 1
+kind_in (says (middle f)) = 2
+kind_in (says (end head f)) = 3
+kind_in (refused r) = 4
 
 abbrev kind_of : List ℕ → Said PacketReading → ℕ
-kind_of p (says r) = kindIn (check (wire.part p r.payload.place r.payload.len))
+kind_of p (says r) = kind_in (check (wire.part p r.payload.place r.payload.len))
 kind_of p (refused r) = 4
 
-abbrev timeIn : Said PacketReading → ℕ
-timeIn (says r) = r.fields.time
-timeIn (refused r) = 0
+abbrev time_in : Said PacketReading → ℕ
+time_in (says r) = r.fields.time
+time_in (refused r) = 0
 
 -- the first is a start at the time 0, the second an end at the time 1
 abbrev Told : (kind time : ℕ) → Type 0
 Told kind time = ((kind ≡ 1) × (time ≡ 0)) ⊎ ((kind ≡ 3) × (time ≡ 1))
 
-these : (p : List ℕ) → Among came p → Told (kind_of p (readPacket p)) (timeIn (readPacket p))
-unfolding two fragment octet check shape readPacket readHeader readFixed fields_at u16At u32_at plainPacket packetOctets payloadOctets octetsOf fixedFor be16 be32
-these p (inl e) = inl (ap (λ (q : List ℕ). kind_of q (readPacket q)) e, ap (λ (q : List ℕ). timeIn (readPacket q)) e)
-these p (inr (inl e)) = inr (ap (λ (q : List ℕ). kind_of q (readPacket q)) e, ap (λ (q : List ℕ). timeIn (readPacket q)) e)
+these : (p : List ℕ) → Among came p → Told (kind_of p (read_packet p)) (time_in (read_packet p))
+unfolding two fragment octet check shape read_packet read_header read_fixed fields_at u16_at u32_at plain_packet packet_octets payload_octets octets_of fixed_for be16 be32
+these p (inl e) = inl (ap (λ (q : List ℕ). kind_of q (read_packet q)) e, ap (λ (q : List ℕ). time_in (read_packet q)) e)
+these p (inr (inl e)) = inr (ap (λ (q : List ℕ). kind_of q (read_packet q)) e, ap (λ (q : List ℕ). time_in (read_packet q)) e)
 these p (inr (inr e)) = absurd e
 
 -- so is a packet that bears this at that time
-told : (number time : ℕ) (x : Content) → Bears came 3 number time x → Told (kindIn (says x)) time
+told : (number time : ℕ) (x : Content) → Bears came 3 number time x → Told (kind_in (says x)) time
 told number time x b =
-    subst (λ (k : ℕ). Told k time) (ap (kind_of b.packet) b.read ∙ ap kindIn b.holds)
-    (subst (Told (kind_of b.packet (readPacket b.packet))) (ap timeIn b.read ∙ b.of-time) (these b.packet b.there))
+    subst (λ (k : ℕ). Told k time) (ap (kind_of b.packet) b.read ∙ ap kind_in b.holds)
+    (subst (Told (kind_of b.packet (read_packet b.packet))) (ap time_in b.read ∙ b.of_time) (these b.packet b.there))
 
 no_origin : (units : Units) → Origin came 3 units → ⊥
 no_origin units (inl u) = go (told u.number u.time (whole units) u.bears)
@@ -140,13 +140,13 @@ no_origin units (inr u) =
 
 -- ---- and both at once cannot be
 
-pub no-timeless : (avc : Bool) (m : Machine) → Timeless m → DeliversAny avc m → OneMoment avc m → ⊥
+pub no_timeless : (avc : Bool) (m : Machine) → Timeless m → DeliversAny avc m → OneMoment avc m → ⊥
 unfolding two
-no-timeless avc m same d one = go u.groups (sym u.hands_out ∙ same (streamShow (two (λ i. 5))) (stampsAt (λ i. i))) u.origins
+no_timeless avc m same d one = go u.groups (sym u.hands_out ∙ same (stream_show (two (λ i. 5))) (stamps_at (λ i. i))) u.origins
   where
-    u : Untorn avc m (streamShow (two (λ i. i))) came
-    u = one (streamShow (two (λ i. i))) came
+    u : Untorn avc m (stream_show (two (λ i. i))) came
+    u = one (stream_show (two (λ i. i))) came
 
-    go : (gs : List Units) → map (prefixed avc) gs ≡ handedOut (played m (streamShow (two (λ i. 5)))) → Each (Origin came 3) gs → ⊥
+    go : (gs : List Units) → map (prefixed avc) gs ≡ handed_out (played m (stream_show (two (λ i. 5)))) → Each (Origin came 3) gs → ⊥
     go [] e w = let n : ◌≡◌ {A = ℕ} 0 1 = ap length e ∙ handed avc m d in omega arith
     go (g ∷ gs) e w = no_origin g w.0

@@ -11,44 +11,44 @@ use lib.ListN.{length, take, drop, get_or, replicate}
 use Rattle.error.specs.Said.{Said, says, refused}
 use Rattle.wire.specs.Each.{Each}
 use Rattle.wire.specs.Net.{be16, be32}
-use Rattle.wire.proofs.Each.{each_append, each-by}
-use Rattle.header_write.specs.Fixed.{fixedFor}
-use Rattle.header.specs.Write.{octetsOf}
-use Rattle.packet.specs.Write.{payloadOctets, packetOctets}
-use Rattle.packet.specs.Plain.{plainPacket}
-use Rattle.nal.proofs.Handing.{length-one}
-use Rattle.annexb.specs.Units.{units, unitsAt}
-use Rattle.h264_put.specs.Groups.{keep, stapA, fragment, pairFor, unit_for, groupsFor}
+use Rattle.wire.proofs.Each.{each_append, each_by}
+use Rattle.header_write.specs.Fixed.{fixed_for}
+use Rattle.header.specs.Write.{octets_of}
+use Rattle.packet.specs.Write.{payload_octets, packet_octets}
+use Rattle.packet.specs.Plain.{plain_packet}
+use Rattle.nal.proofs.Handing.{length_one}
+use Rattle.annexb.specs.Units.{units, units_at}
+use Rattle.h264_put.specs.Groups.{keep, stap_a, fragment, pair_for, unit_for, groups_for}
 use Rattle.rfc6184.specs.Sending as rfc
 use Rattle.sequence.specs.Arrival.{Arrival}
-use Rattle.sequence.proofs.InOrder.{inOrder, in-order-within}
+use Rattle.sequence.proofs.InOrder.{in_order, in_order_within}
 use Rattle.joiner.specs.declared.Joiner.{Joiner}
 use Rattle.joiner_step.specs.Step.{Answer, accepted, late}
-use Rattle.joiner_step.specs.Play.{steps, handedIn, handedOut}
+use Rattle.joiner_step.specs.Play.{steps, handed_in, handed_out}
 use Rattle.joiner.specs.Join.{Stepped}
 use Rattle.delivery.specs.Show.{packet}
 use Rattle.delivery.specs.Play.{Machine, arriving, played, closing}
-use Rattle.delivery.specs.Frames.{showOf, Delivers}
-use Rattle.delivery.specs.AnySender.{streamShow, DeliversAny}
+use Rattle.delivery.specs.Frames.{show_of, Delivers}
+use Rattle.delivery.specs.AnySender.{stream_show, DeliversAny}
 use Rattle.delivery.specs.Wrong.{Silent, FromItsOwn, Advancing, Inventing, Unmarking}
-use Rattle.delivery.proofs.Example.{nine, show, stranger, nine-premises, premises, pairOut, joinedOut, lastOut}
-use Rattle.delivery.proofs.ExampleStream.{stream, stream-premises}
+use Rattle.delivery.proofs.Example.{nine, show, stranger, nine_premises, premises, pair_out, joined_out, last_out}
+use Rattle.delivery.proofs.ExampleStream.{stream, stream_premises}
 
 -- ---- what must be handed out
 
-handed : (avc : Bool) (m : Machine) → Delivers avc m → handedOut (played m (showOf show)) ≡ pairOut avc ∷ joinedOut avc ∷ lastOut avc ∷ []
-unfolding show nine units unitsAt keep stapA pairFor unit_for groupsFor fragment be16
-handed avc m d = (d show (premises avc)).handsOut
+handed : (avc : Bool) (m : Machine) → Delivers avc m → handed_out (played m (show_of show)) ≡ pair_out avc ∷ joined_out avc ∷ last_out avc ∷ []
+unfolding show nine units units_at keep stap_a pair_for unit_for groups_for fragment be16
+handed avc m d = (d show (premises avc)).hands_out
 
-pub no-silent-joiner : (avc : Bool) (m : Machine) → Silent m → Delivers avc m → ⊥
-no-silent-joiner avc m silent d =
-    let none : [] ≡ pairOut avc ∷ joinedOut avc ∷ lastOut avc ∷ [] = sym (silent (showOf show)) ∙ handed avc m d in
+pub no_silent_joiner : (avc : Bool) (m : Machine) → Silent m → Delivers avc m → ⊥
+no_silent_joiner avc m silent d =
+    let none : [] ≡ pair_out avc ∷ joined_out avc ∷ last_out avc ∷ [] = sym (silent (show_of show)) ∙ handed avc m d in
     let z : ◌≡◌ {A = ℕ} 0 3 = ap length none in
     omega arith
 
 -- ---- what later calls can hand out
 
-one_at_most : (a : Said Answer) (out : List ℕ) → (handedIn a out ≡ []) ⊎ ((l : List ℕ) × (handedIn a out ≡ l ∷ []))
+one_at_most : (a : Said Answer) (out : List ℕ) → (handed_in a out ≡ []) ⊎ ((l : List ℕ) × (handed_in a out ≡ l ∷ []))
 one_at_most (refused r) out = inl refl
 one_at_most (says late) out = inl refl
 one_at_most (says (accepted a)) out = go (eqb a.bytes 0)
@@ -62,13 +62,13 @@ module _ (m : Machine) (n : ℕ) where
   Short l = length l ≤ n
 
   all_short : (bytes : List (List ℕ)) (j : Joiner) (gather : List ℕ) (outs : ℕ → List ℕ) → Each (λ (b : List ℕ). 2 * length b ≤ n) bytes →
-      FromItsOwn bytes (steps m.step j gather outs bytes) → Each Short (handedOut (steps m.step j gather outs bytes))
+      FromItsOwn bytes (steps m.step j gather outs bytes) → Each Short (handed_out (steps m.step j gather outs bytes))
   all_short [] j gather outs few own = tt
   all_short (b ∷ bytes) j gather outs few own =
       let st : Stepped = m.step j b gather (outs 0) in
-      let now : List (List ℕ) = handedIn st.answer st.out in
-      each_append Short now (handedOut (steps m.step st.joiner st.gather (λ i. outs (suc i)) bytes))
-      (each-by Short (λ (l : List ℕ). length l ≤ 2 * length b) (λ l h. omega (arith, h, few.0)) now own.0)
+      let now : List (List ℕ) = handed_in st.answer st.out in
+      each_append Short now (handed_out (steps m.step st.joiner st.gather (λ i. outs (suc i)) bytes))
+      (each_by Short (λ (l : List ℕ). length l ≤ 2 * length b) (λ l h. omega (arith, h, few.0)) now own.0)
       (all_short bytes st.joiner st.gather (λ i. outs (suc i)) few.1 own.1)
 
 second : (Short : List ℕ → Type 0) (x y : List ℕ) (zs front back : List (List ℕ)) → front ++ back ≡ x ∷ y ∷ zs →
@@ -81,46 +81,46 @@ second Short x y zs front back e (inr one) w =
     (subst (Each Short) rest w).0
 
 -- no packet of the show is longer than 42 bytes
-packets-few : Each (λ (b : List ℕ). 2 * length b ≤ 84) (drop 1 (arriving (showOf show)))
-unfolding show nine stranger units unitsAt keep stapA pairFor unit_for groupsFor fragment plainPacket packetOctets payloadOctets octetsOf fixedFor be16 be32
-packets-few = omega arith
+packets_few : Each (λ (b : List ℕ). 2 * length b ≤ 84) (drop 1 (arriving (show_of show)))
+unfolding show nine stranger units units_at keep stap_a pair_for unit_for groups_for fragment plain_packet packet_octets payload_octets octets_of fixed_for be16 be32
+packets_few = omega arith
 
-pub no-advancer : (avc : Bool) (m : Machine) → Advancing m → Delivers avc m → ⊥
+pub no_advancer : (avc : Bool) (m : Machine) → Advancing m → Delivers avc m → ⊥
 unfolding show nine
-no-advancer avc m own d =
-    let st : Stepped = m.step (m.opening 3 65531) (packet (showOf show) 0) (replicate 84 0) (replicate 89 0) in
-    let bytes : List (List ℕ) = drop 1 (arriving (showOf show)) in
+no_advancer avc m own d =
+    let st : Stepped = m.step (m.opening 3 65531) (packet (show_of show) 0) (replicate 84 0) (replicate 89 0) in
+    let bytes : List (List ℕ) = drop 1 (arriving (show_of show)) in
     let outs : ℕ → List ℕ = λ i. replicate 89 0 in
-    let short : length (joinedOut avc) ≤ 84 =
-    second (λ (l : List ℕ). length l ≤ 84) (pairOut avc) (joinedOut avc) (lastOut avc ∷ []) (handedIn st.answer st.out)
-    (handedOut (steps m.step st.joiner st.gather outs bytes)) (handed avc m d) (one_at_most st.answer st.out)
-    (all_short m 84 bytes st.joiner st.gather outs packets-few (own (showOf show))) in
-    omega (arith, length-one avc (0x65 ∷ replicate 84 7))
+    let short : length (joined_out avc) ≤ 84 =
+    second (λ (l : List ℕ). length l ≤ 84) (pair_out avc) (joined_out avc) (last_out avc ∷ []) (handed_in st.answer st.out)
+    (handed_out (steps m.step st.joiner st.gather outs bytes)) (handed avc m d) (one_at_most st.answer st.out)
+    (all_short m 84 bytes st.joiner st.gather outs packets_few (own (show_of show))) in
+    omega (arith, length_one avc (0x65 ∷ replicate 84 7))
 
 -- ---- the missed total
 
-pub no-invented-total : (avc : Bool) (m : Machine) → Inventing m → Delivers avc m → ⊥
-unfolding show nine units unitsAt keep stapA pairFor unit_for groupsFor fragment be16
-no-invented-total avc m same d =
-    let all : List (Arrival (List ℕ)) = inOrder 0 9 in
-    let two : (closing m (showOf show)).joiner.missed ≡ 2 = (d show (premises avc)).counts in
-    let none : (closing m (showOf (nine all))).joiner.missed ≡ 0 =
-    (d (nine all) (nine-premises avc all tt (in-order-within (List ℕ) 9))).counts in
-    omega (arith, two, none, same (showOf show) all)
+pub no_invented_total : (avc : Bool) (m : Machine) → Inventing m → Delivers avc m → ⊥
+unfolding show nine units units_at keep stap_a pair_for unit_for groups_for fragment be16
+no_invented_total avc m same d =
+    let all : List (Arrival (List ℕ)) = in_order 0 9 in
+    let two : (closing m (show_of show)).joiner.missed ≡ 2 = (d show (premises avc)).counts in
+    let none : (closing m (show_of (nine all))).joiner.missed ≡ 0 =
+    (d (nine all) (nine_premises avc all tt (in_order_within (List ℕ) 9))).counts in
+    omega (arith, two, none, same (show_of show) all)
 
 -- ---- the mark
 
 -- the third group of the stream is the marked unit
-third-marked : (avc : Bool) (m : Machine) → DeliversAny avc m → (ls : List (List ℕ)) → ls ≡ handedOut (played m (streamShow stream)) → get_or (get_or ls 2 []) 4 0 ≡ 0xE5
-unfolding stream rfc.octetsOf rfc.fragment rfc.octet be16 be32
-third-marked false m d ls e = ap (λ (l : List (List ℕ)). get_or (get_or l 2 []) 4 0) (e ∙ (d stream (stream-premises false)).handsOut)
-third-marked true m d ls e = ap (λ (l : List (List ℕ)). get_or (get_or l 2 []) 4 0) (e ∙ (d stream (stream-premises true)).handsOut)
+third_marked : (avc : Bool) (m : Machine) → DeliversAny avc m → (ls : List (List ℕ)) → ls ≡ handed_out (played m (stream_show stream)) → get_or (get_or ls 2 []) 4 0 ≡ 0xE5
+unfolding stream rfc.octets_of rfc.fragment rfc.octet be16 be32
+third_marked false m d ls e = ap (λ (l : List (List ℕ)). get_or (get_or l 2 []) 4 0) (e ∙ (d stream (stream_premises false)).hands_out)
+third_marked true m d ls e = ap (λ (l : List (List ℕ)). get_or (get_or l 2 []) 4 0) (e ∙ (d stream (stream_premises true)).hands_out)
 
-pub no-unmarker : (avc : Bool) (m : Machine) → Unmarking m → DeliversAny avc m → ⊥
-no-unmarker avc m clear d = go (handedOut (played m (streamShow stream))) refl (clear (streamShow stream))
+pub no_unmarker : (avc : Bool) (m : Machine) → Unmarking m → DeliversAny avc m → ⊥
+no_unmarker avc m clear d = go (handed_out (played m (stream_show stream))) refl (clear (stream_show stream))
   where
-    go : (ls : List (List ℕ)) → ls ≡ handedOut (played m (streamShow stream)) → Each (λ (l : List ℕ). get_or l 4 0 < 128) ls → ⊥
-    go [] e w = omega (arith, third-marked avc m d [] e)
-    go (x ∷ []) e w = omega (arith, third-marked avc m d (x ∷ []) e)
-    go (x ∷ y ∷ []) e w = omega (arith, third-marked avc m d (x ∷ y ∷ []) e)
-    go (x ∷ y ∷ z ∷ ls) e w = omega (arith, third-marked avc m d (x ∷ y ∷ z ∷ ls) e, w.1.1.0)
+    go : (ls : List (List ℕ)) → ls ≡ handed_out (played m (stream_show stream)) → Each (λ (l : List ℕ). get_or l 4 0 < 128) ls → ⊥
+    go [] e w = omega (arith, third_marked avc m d [] e)
+    go (x ∷ []) e w = omega (arith, third_marked avc m d (x ∷ []) e)
+    go (x ∷ y ∷ []) e w = omega (arith, third_marked avc m d (x ∷ y ∷ []) e)
+    go (x ∷ y ∷ z ∷ ls) e w = omega (arith, third_marked avc m d (x ∷ y ∷ z ∷ ls) e, w.1.1.0)

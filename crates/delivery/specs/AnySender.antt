@@ -3,7 +3,7 @@
 use Rattle.std.specs.Prelude.{◌≡◌, Bool, false, ◌||◌, List, [], ◌∷◌, map, ◌⊎◌, ℕ, suc, ◌≤◌, ◌<◌, length, drop, get_or}
 use Rattle.wire.specs.Each.{Each}
 use Rattle.packet.specs.Plain.{Stamp}
-use Rattle.rfc6184.specs.Sending.{octet, octetsOf, Part, Fragmented, single, stapA, fuA, payloadsOf, body_of, UnitType, FormedSending}
+use Rattle.rfc6184.specs.Sending.{octet, octets_of, Part, Fragmented, single, stap_a, fu_a, payloads_of, body_of, UnitType, FormedSending}
 use Rattle.rfc6184.specs.Sending as rfc
 use Rattle.sequence.specs.Arrival.{Arrival}
 use Rattle.sequence.specs.Group.{Group}
@@ -27,30 +27,30 @@ behind [] marks = marks
 behind (p ∷ ps) marks = behind ps (λ i. marks (suc i))
 
 -- one of them has F set
-abbrev pub anyMarked : List (List ℕ) → Bool
-anyMarked [] = false
-anyMarked (p ∷ ps) = forbidden p || anyMarked ps
+abbrev pub any_marked : List (List ℕ) → Bool
+any_marked [] = false
+any_marked (p ∷ ps) = forbidden p || any_marked ps
 
 module _ (marks : ℕ → Bool) where
   -- the units that a sending is handed out as: plain units and those of a STAP-A byte for byte, a fragmented one with NRI and type, and "the
   -- rebuilt top bit is set if any fragment of the unit had it set" (E3)
-  abbrev pub handedFor : rfc.Sending → Units
-  handedFor (single u) = topped (marks 0) (octetsOf u) ∷ []
-  handedFor (stapA f nri us) = map octetsOf us
-  handedFor (fuA g) = (top_bit (anyMarked (relayed marks (payloadsOf (fuA g)))) (octet 0 g.nri g.type) ∷ body_of g) ∷ []
+  abbrev pub handed_for : rfc.Sending → Units
+  handed_for (single u) = topped (marks 0) (octets_of u) ∷ []
+  handed_for (stap_a f nri us) = map octets_of us
+  handed_for (fu_a g) = (top_bit (any_marked (relayed marks (payloads_of (fu_a g)))) (octet 0 g.nri g.type) ∷ body_of g) ∷ []
 
   -- "A group is one STAP-A, one plain unit, or all fragments of one unit": the payloads of one sending
-  abbrev pub groupBy : rfc.Sending → Group (List ℕ) Units
-  groupBy s =
+  abbrev pub group_by : rfc.Sending → Group (List ℕ) Units
+  group_by s =
       record {
-        first = get_or (relayed marks (payloadsOf s)) 0 [];
-        others = drop 1 (relayed marks (payloadsOf s));
-        handed = handedFor s;
+        first = get_or (relayed marks (payloads_of s)) 0 [];
+        others = drop 1 (relayed marks (payloads_of s));
+        handed = handed_for s;
       }
 
-abbrev pub groupsBy : (ℕ → Bool) → List rfc.Sending → List (Group (List ℕ) Units)
-groupsBy marks [] = []
-groupsBy marks (s ∷ ss) = groupBy marks s ∷ groupsBy (behind (payloadsOf s) marks) ss
+abbrev pub groups_by : (ℕ → Bool) → List rfc.Sending → List (Group (List ℕ) Units)
+groups_by marks [] = []
+groups_by marks (s ∷ ss) = group_by marks s ∷ groups_by (behind (payloads_of s) marks) ss
 
 -- sendings, with what a show has besides
 pub record Stream : Type 0 where
@@ -64,10 +64,10 @@ pub record Stream : Type 0 where
   pub outs : ℕ → List ℕ
   pub arrivals : List (Arrival (List ℕ))
 
-abbrev pub streamShow : Stream → Show
-streamShow y =
+abbrev pub stream_show : Stream → Show
+stream_show y =
     record {
-      groups = groupsBy y.marks y.sendings;
+      groups = groups_by y.marks y.sendings;
       source = y.source;
       first = y.first;
       stamps = y.stamps;
@@ -85,8 +85,8 @@ ReservedClear g = (g.first.reserved ≡ 0) × Each (λ (p : Part). p.reserved �
 -- of RFC 6184's rules on the fields those that count: whatever F and NRI an STAP-A has, and whatever units stand in it or in fragments
 abbrev pub Ruled : rfc.Sending → Type 0
 Ruled (single u) = UnitType u.type
-Ruled (stapA f nri us) = Unit {0}
-Ruled (fuA g) = ReservedClear g
+Ruled (stap_a f nri us) = Unit {0}
+Ruled (fu_a g) = ReservedClear g
 
 -- no part is empty
 abbrev pub NoneEmpty : Fragmented → Type 0
@@ -95,9 +95,9 @@ NoneEmpty g =
 
 -- what the paper's joiner takes: units "of 3 bytes or more", or an access unit delimiter, "2 bytes unless type 9"; fragments that are not empty
 abbrev pub Taken : rfc.Sending → Type 0
-Taken (single u) = (3 ≤ length (octetsOf u)) ⊎ ((length (octetsOf u) ≡ 2) × (u.type ≡ 9))
-Taken (stapA f nri us) = Unit {0}
-Taken (fuA g) = NoneEmpty g
+Taken (single u) = (3 ≤ length (octets_of u)) ⊎ ((length (octets_of u) ≡ 2) × (u.type ≡ 9))
+Taken (stap_a f nri us) = Unit {0}
+Taken (fu_a g) = NoneEmpty g
 
 pub record StreamPremises (avc : Bool) (y : Stream) : Type 0 where
   -- each is a sending of RFC 6184: its fields fit into their bits, and keep these rules
@@ -105,11 +105,11 @@ pub record StreamPremises (avc : Bool) (y : Stream) : Type 0 where
   pub ruled : Each Ruled y.sendings
   pub taken : Each Taken y.sendings
   -- "mtu 3 to 65,523", and "Every packet fits the mtu"
-  pub short : Each (λ (p : List ℕ). length p ≤ 65523) (payloads (streamShow y))
+  pub short : Each (λ (p : List ℕ). length p ≤ 65523) (payloads (stream_show y))
   -- "frames up to 16,777,216": the longest unit less one byte
-  pub domain : longest (streamShow y).groups ≤ 16777215
-  pub received : Received avc (streamShow y)
+  pub domain : longest (stream_show y).groups ≤ 16777215
+  pub received : Received avc (stream_show y)
 
 -- demand 3 of the joiner m and this prefix, whatever sendings are passed on
 abbrev pub DeliversAny : Bool → Machine → Type 0
-DeliversAny avc m = (y : Stream) → StreamPremises avc y → Delivered avc m (streamShow y)
+DeliversAny avc m = (y : Stream) → StreamPremises avc y → Delivered avc m (stream_show y)

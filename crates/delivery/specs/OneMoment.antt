@@ -3,15 +3,15 @@ use Rattle.std.specs.Prelude.{◌≡◌, Bool, false, ◌||◌, List, [], ◌∷
 use Rattle.error.specs.Said.{says}
 use Rattle.wire.specs.Each.{Each}
 use Rattle.wire.specs.Part.{part}
-use Rattle.packet.specs.Read.{PacketReading, readPacket}
+use Rattle.packet.specs.Read.{PacketReading, read_packet}
 use Rattle.nal.specs.Fed.{prefixed}
 use Rattle.sequence.specs.Number.{distance_of, next_of}
 use Rattle.joiner_step.specs.Run.{Units}
-use Rattle.joiner_step.specs.Play.{handedOut}
+use Rattle.joiner_step.specs.Play.{handed_out}
 use Rattle.joiner_feed.specs.Content.{Fragment, Content, whole, start, middle, end, topped}
 use Rattle.joiner_feed.specs.H264.{check}
 use Rattle.delivery.specs.Show.{Show}
-use Rattle.delivery.specs.Play.{Machine, playedOn}
+use Rattle.delivery.specs.Play.{Machine, played_on}
 
 -- it is one of these
 abbrev pub Among : List (List ℕ) → List ℕ → Type 0
@@ -25,9 +25,9 @@ abbrev pub parts_in : List Fragment → List ℕ
 parts_in [] = []
 parts_in (f ∷ fs) = parts_in fs ++ f.part
 
-abbrev pub anyIn : List Fragment → Bool
-anyIn [] = false
-anyIn (f ∷ fs) = anyIn fs || f.marked
+abbrev pub any_in : List Fragment → Bool
+any_in [] = false
+any_in (f ∷ fs) = any_in fs || f.marked
 
 -- of all that came, and of this source
 module _ (came : List (List ℕ)) (source : ℕ) where
@@ -36,10 +36,10 @@ module _ (came : List (List ℕ)) (source : ℕ) where
     pub packet : List ℕ
     pub there : Among came packet
     pub reading : PacketReading
-    pub read : readPacket packet ≡ says reading
-    pub of-source : reading.fields.source ≡ source
+    pub read : read_packet packet ≡ says reading
+    pub of_source : reading.fields.source ≡ source
     pub of_number : reading.fields.number ≡ number
-    pub of-time : reading.fields.time ≡ time
+    pub of_time : reading.fields.time ≡ time
     pub holds : check (part packet reading.payload.place reading.payload.len) ≡ says x
 
   -- a start fragment, and others that each follow the one before "without a gap", all of one time; `next` is the number behind the last
@@ -50,10 +50,10 @@ module _ (came : List (List ℕ)) (source : ℕ) where
       (number before : ℕ) × Bears number time (middle f) × (next ≡ next_of number) × (distance_of number before ≡ 0) × Begun time before (g ∷ fs)
 
   -- their packets
-  abbrev pub packetsOf : (time next : ℕ) (fs : List Fragment) → Begun time next fs → List (List ℕ)
-  packetsOf time next [] w = []
-  packetsOf time next (f ∷ []) w = w.1.packet ∷ []
-  packetsOf time next (f ∷ g ∷ fs) w = w.2.packet ∷ packetsOf time w.1 (g ∷ fs) w.5
+  abbrev pub packets_of : (time next : ℕ) (fs : List Fragment) → Begun time next fs → List (List ℕ)
+  packets_of time next [] w = []
+  packets_of time next (f ∷ []) w = w.1.packet ∷ []
+  packets_of time next (f ∷ g ∷ fs) w = w.2.packet ∷ packets_of time w.1 (g ∷ fs) w.5
 
   -- ---- what is handed out
 
@@ -76,7 +76,7 @@ module _ (came : List (List ℕ)) (source : ℕ) where
     pub ends : Bears number time (end head last)
     pub follows : distance_of number before ≡ 0
     pub begun : Begun time before others
-    pub is : units ≡ (topped (anyIn (last ∷ others)) head ++ parts_in (last ∷ others)) ∷ []
+    pub is : units ≡ (topped (any_in (last ∷ others)) head ++ parts_in (last ∷ others)) ∷ []
 
   abbrev pub Origin : Units → Type 0
   Origin units = OfOne units ⊎ OfMany units
@@ -90,12 +90,12 @@ module _ (came : List (List ℕ)) (source : ℕ) where
 
   -- all fragments of the unit are of its last one's sender
   abbrev pub OneSender : {A : Type 0} → (sender : List ℕ → A) (units : Units) → OfMany units → Type 0
-  OneSender sender units u = Each (λ (p : List ℕ). sender p ≡ sender u.ends.packet) (packetsOf u.time u.before u.others u.begun)
+  OneSender sender units u = Each (λ (p : List ℕ). sender p ≡ sender u.ends.packet) (packets_of u.time u.before u.others u.begun)
 
 -- the joiner m tears nothing: whatever comes, each group of units that it hands out behind its prefixes is of one packet, or of one unit's fragments
 pub record Untorn (avc : Bool) (m : Machine) (w : Show) (came : List (List ℕ)) : Type 0 where
   pub groups : List Units
-  pub hands_out : handedOut (playedOn m w came) ≡ map (prefixed avc) groups
+  pub hands_out : handed_out (played_on m w came) ≡ map (prefixed avc) groups
   pub origins : Each (Origin came w.source) groups
 
 abbrev pub OneMoment : Bool → Machine → Type 0

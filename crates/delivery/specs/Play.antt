@@ -2,10 +2,10 @@
 use Rattle.std.specs.Prelude.{List, map, ℕ}
 use Rattle.sequence.specs.Number.{number_of}
 use Rattle.sequence.specs.Joiner.{bytes_of}
-use Rattle.joiner_step.specs.Play.{steps, joinerAfter}
+use Rattle.joiner_step.specs.Play.{steps, joiner_after}
 use Rattle.joiner.specs.declared.Joiner.{Joiner}
 use Rattle.joiner.specs.declared.Prefix.{Prefix}
-use Rattle.joiner.specs.Join.{Stepped, ClosingStepped, joinStep, closeStep, openedWith, opened}
+use Rattle.joiner.specs.Join.{Stepped, ClosingStepped, join_step, close_step, opened_with, opened}
 use Rattle.delivery.specs.Show.{Show, packet, count}
 
 -- a joiner, whatever it does: how it is opened with an SSRC and a first number, its call for a packet, and its closing
@@ -16,29 +16,29 @@ pub record Machine : Type 0 where
   pub close : Joiner → ℕ → ClosingStepped
 
 -- ours, opened with this prefix: the definitions that the contracts of `open_with`, `join` and `close` cite
-abbrev pub ourJoiner : Prefix → Machine
-ourJoiner chosen = record { opening = λ source first. openedWith source first chosen; step = joinStep; close = closeStep }
+abbrev pub our_joiner : Prefix → Machine
+our_joiner chosen = record { opening = λ source first. opened_with source first chosen; step = join_step; close = close_step }
 
 -- ours as it is opened by default: `opened` is what the contract of `open` cites
-abbrev pub defaultJoiner : Machine
-defaultJoiner = record { opening = opened; step = joinStep; close = closeStep }
+abbrev pub default_joiner : Machine
+default_joiner = record { opening = opened; step = join_step; close = close_step }
 
 module _ (m : Machine) (w : Show) where
   -- these bytes arrive: "The joiner is opened with the sender's SSRC and first"
-  abbrev pub playedOn : List (List ℕ) → List Stepped
-  playedOn bytes = steps m.step (m.opening w.source w.first) w.gather w.outs bytes
+  abbrev pub played_on : List (List ℕ) → List Stepped
+  played_on bytes = steps m.step (m.opening w.source w.first) w.gather w.outs bytes
 
   -- "Closing takes the number after the last sent"
-  abbrev pub closingOn : List (List ℕ) → ClosingStepped
-  closingOn bytes =
-      m.close (joinerAfter m.step (m.opening w.source w.first) w.gather w.outs bytes) (number_of w.first (count w))
+  abbrev pub closing_on : List (List ℕ) → ClosingStepped
+  closing_on bytes =
+      m.close (joiner_after m.step (m.opening w.source w.first) w.gather w.outs bytes) (number_of w.first (count w))
 
 -- what arrives of the show's packets, and beside them
 abbrev pub arriving : Show → List (List ℕ)
 arriving w = map (bytes_of (packet w)) w.arrivals
 
 abbrev pub played : Machine → Show → List Stepped
-played m w = playedOn m w (arriving w)
+played m w = played_on m w (arriving w)
 
 abbrev pub closing : Machine → Show → ClosingStepped
-closing m w = closingOn m w (arriving w)
+closing m w = closing_on m w (arriving w)

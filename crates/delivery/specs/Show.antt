@@ -1,11 +1,11 @@
 -- A show: what is sent, with what it is received, and what arrives. Assumes nothing.
 use Rattle.std.specs.Prelude.{Bool, List, [], ◌∷◌, ℕ, ◌-◌, max, length, get_or}
 use Rattle.wire.specs.Packets.{joined}
-use Rattle.packet.specs.Plain.{Stamp, plainPacket}
+use Rattle.packet.specs.Plain.{Stamp, plain_packet}
 use Rattle.nal.specs.Fed.{prefixed}
 use Rattle.sequence.specs.Number.{number_of}
 use Rattle.sequence.specs.Arrival.{Arrival}
-use Rattle.sequence.specs.Group.{Group, packetsOf}
+use Rattle.sequence.specs.Group.{Group, packets_of}
 use Rattle.joiner_step.specs.Run.{Units}
 
 pub record Show : Type 0 where
@@ -25,7 +25,7 @@ pub record Show : Type 0 where
 
 -- the payloads in order, and how many there are
 abbrev pub payloads : Show → List (List ℕ)
-payloads w = packetsOf w.groups
+payloads w = packets_of w.groups
 
 abbrev pub count : Show → ℕ
 count w = length (payloads w)
@@ -35,17 +35,17 @@ payload w i = get_or (payloads w) i []
 
 -- packet i: "version 2, no padding, extensions or CSRCs; packet i bears (first + i) mod 65,536"
 abbrev pub packet : Show → ℕ → List ℕ
-packet w i = plainPacket (w.stamps i) (number_of w.first i) w.source (payload w i)
+packet w i = plain_packet (w.stamps i) (number_of w.first i) w.source (payload w i)
 
 -- how many bytes are gathered of a group: of one in several packets its "unit less one byte"
-abbrev pub gatheredBy : (others : List (List ℕ)) → Units → ℕ
-gatheredBy [] units = 0
-gatheredBy (p ∷ ps) units = length (joined units) - 1
+abbrev pub gathered_by : (others : List (List ℕ)) → Units → ℕ
+gathered_by [] units = 0
+gathered_by (p ∷ ps) units = length (joined units) - 1
 
 -- "the longest unit less one byte"
 abbrev pub longest : List (Group (List ℕ) Units) → ℕ
 longest [] = 0
-longest (g ∷ gs) = max (gatheredBy g.others g.handed) (longest gs)
+longest (g ∷ gs) = max (gathered_by g.others g.handed) (longest gs)
 
 -- "the largest group as handed out, prefixes included"; `avc`: each unit follows a 4-byte length, and not a start code
 abbrev pub largest : (avc : Bool) → List (Group (List ℕ) Units) → ℕ

@@ -13,18 +13,18 @@ use lib.Seq.{length-take-le, take_at, drop_at, take-length}
 use borrow.Author.Tests.{eqb-true, eqb-false, eq-eqb, ne_eqb}
 use Rattle.elements.specs.declared.Extensions.{Extensions}
 use Rattle.elements.specs.declared.Run.{Run}
-use Rattle.elements.specs.Elements.{Element, data_of, size_of, sum, elementsOf}
+use Rattle.elements.specs.Elements.{Element, data_of, size_of, sum, elements_of}
 use Rattle.elements.specs.Named.{absent, at, find, replace, remove, append, Absent, First}
-use Rattle.elements.specs.Runs.{Stands, Holds, run_of, element, replacedAt}
-use Rattle.elements.proofs.Elements.{dataOf-append}
-use Rattle.elements.proofs.Packed.{PackedIn, length-elementsOf, length-dataOf}
-use Rattle.elements.proofs.Runs.{data-split}
+use Rattle.elements.specs.Runs.{Stands, Holds, run_of, element, replaced_at}
+use Rattle.elements.proofs.Elements.{data_of_append}
+use Rattle.elements.proofs.Packed.{PackedIn, length_elements_of, length_data_of}
+use Rattle.elements.proofs.Runs.{data_split}
 
 -- ---- absent-or-first no element has the id, or one is the first that has it
 
-pub absent-or-first : (id : ℕ) (es : List Element) → Absent id es ⊎ First id es
-absent-or-first id [] = inl tt
-absent-or-first id (e ∷ es) = go (eqb e.id id) refl (absent-or-first id es)
+pub absent_or_first : (id : ℕ) (es : List Element) → Absent id es ⊎ First id es
+absent_or_first id [] = inl tt
+absent_or_first id (e ∷ es) = go (eqb e.id id) refl (absent_or_first id es)
   where
     go : (b : Bool) → eqb e.id id ≡ b → Absent id es ⊎ First id es → Absent id (e ∷ es) ⊎ First id (e ∷ es)
     go true q s = inr (record { front = []; held = e; back = es; whole = refl; others = tt; named = eqb-true e.id id q })
@@ -60,16 +60,16 @@ module _ (id : ℕ) (rest : List Element) where
       let one : i + 1 + length front ≡ i + length (e ∷ front) = omega arith in
       rw (ne_eqb e.id id n.0) (run_past (i + 1) (place + size_of e) front n.1 ∙ ap₂ (λ (j k : ℕ). run_of id j k rest) one more)
 
-  replace-past : (bytes : List ℕ) (front : List Element) → Absent id front →
+  replace_past : (bytes : List ℕ) (front : List Element) → Absent id front →
       replace id bytes (front ++ rest) ≡ front ++ replace id bytes rest
-  replace-past bytes [] n = refl
-  replace-past bytes (e ∷ front) n =
-      rw (ne_eqb e.id id n.0) (ap (λ (l : List Element). e ∷ l) (replace-past bytes front n.1))
+  replace_past bytes [] n = refl
+  replace_past bytes (e ∷ front) n =
+      rw (ne_eqb e.id id n.0) (ap (λ (l : List Element). e ∷ l) (replace_past bytes front n.1))
 
-  remove-past : (front : List Element) → Absent id front → remove id (front ++ rest) ≡ front ++ remove id rest
-  remove-past [] n = refl
-  remove-past (e ∷ front) n =
-      rw (ne_eqb e.id id n.0) (ap (λ (l : List Element). e ∷ l) (remove-past front n.1))
+  remove_past : (front : List Element) → Absent id front → remove id (front ++ rest) ≡ front ++ remove id rest
+  remove_past [] n = refl
+  remove_past (e ∷ front) n =
+      rw (ne_eqb e.id id n.0) (ap (λ (l : List Element). e ∷ l) (remove_past front n.1))
 
 -- ---- the changes, where an element has the id
 
@@ -85,15 +85,15 @@ module _ (id : ℕ) (es : List Element) (f : First id es) where
       ∙ rw (is, zero-add (length (data_of f.front)))
 
   -- the first is replaced, and all others stay where they stand
-  pub replace-first : (bytes : List ℕ) → replace id bytes es ≡ f.front ++ (element id bytes ∷ f.back)
-  replace-first bytes =
+  pub replace_first : (bytes : List ℕ) → replace id bytes es ≡ f.front ++ (element id bytes ∷ f.back)
+  replace_first bytes =
       ap (replace id bytes) f.whole
-      ∙ replace-past id (f.held ∷ f.back) bytes f.front f.others
+      ∙ replace_past id (f.held ∷ f.back) bytes f.front f.others
       ∙ rw is
 
   -- the first is left out, and all others stay in their order
   pub remove_first : remove id es ≡ f.front ++ f.back
-  remove_first = ap (remove id) f.whole ∙ remove-past id (f.held ∷ f.back) f.front f.others ∙ rw is
+  remove_first = ap (remove id) f.whole ∙ remove_past id (f.held ∷ f.back) f.front f.others ∙ rw is
 
 -- ---- the changes, where no element has the id
 
@@ -106,23 +106,23 @@ find_absent id place es n = ap (find id place) (sym (append-nil es)) ∙ find_pa
 pub record Placed (id : ℕ) (es : List Element) (r : Run) : Type 0 where
   pub stands : Stands r es
   pub none : r.count ≡ 0 → find id 0 es ≡ absent
-  pub appended : r.count ≡ 0 → (bytes : List ℕ) → replacedAt r (element id bytes ∷ []) es ≡ append id bytes es
+  pub appended : r.count ≡ 0 → (bytes : List ℕ) → replaced_at r (element id bytes ∷ []) es ≡ append id bytes es
   pub some : (r.count ≡ 0 → ⊥) → find id 0 es ≡ at r.at r.len
-  pub replaced : (r.count ≡ 0 → ⊥) → (bytes : List ℕ) → replacedAt r (element id bytes ∷ []) es ≡ replace id bytes es
-  pub removed : (r.count ≡ 0 → ⊥) → replacedAt r [] es ≡ remove id es
+  pub replaced : (r.count ≡ 0 → ⊥) → (bytes : List ℕ) → replaced_at r (element id bytes ∷ []) es ≡ replace id bytes es
+  pub removed : (r.count ≡ 0 → ⊥) → replaced_at r [] es ≡ remove id es
 
 -- the end of a list: a run of no element there
 abbrev pub end_of : List Element → Run
 end_of es = record { first = length es; count = 0; at = length (data_of es); len = 0 }
 
-pub at-end : (es new : List Element) → replacedAt (end_of es) new es ≡ es ++ new
-at-end es new =
+pub at_end_lem : (es new : List Element) → replaced_at (end_of es) new es ≡ es ++ new
+at_end_lem es new =
     let past : length es ≤ length es + 0 = omega arith in
     ap₂ (λ (l r : List Element). l ++ (new ++ r)) (take-length es) (drop_of_length-le es past)
     ∙ ap (λ (r : List Element). es ++ r) (append-nil new)
 
-pub stands-end : (es : List Element) → Stands (end_of es) es
-stands-end es =
+pub stands_end : (es : List Element) → Stands (end_of es) es
+stands_end es =
     let e : length es + 0 ≡ length es = omega arith in
     record {
       within = omega arith;
@@ -142,7 +142,7 @@ module _ (id : ℕ) (front : List Element) (e : Element) (back : List Element) w
   through : length (front ++ (e ∷ [])) ≡ length front + 1
   through = length-append front (e ∷ [])
 
-  at_one : (new : List Element) → replacedAt one new (front ++ (e ∷ back)) ≡ front ++ (new ++ back)
+  at_one : (new : List Element) → replaced_at one new (front ++ (e ∷ back)) ≡ front ++ (new ++ back)
   at_one new =
       ap₂ (λ (l r : List Element). l ++ (new ++ r)) (take_at front (e ∷ back) (length front) refl)
       (ap (drop (length front + 1)) cut ∙ drop_at (front ++ (e ∷ [])) back (length front + 1) through)
@@ -156,20 +156,20 @@ module _ (id : ℕ) (front : List Element) (e : Element) (back : List Element) w
       record {
         within = omega (arith, length-append front (e ∷ back));
         from = ap (λ (l : List Element). length (data_of l)) (sym (take_at front (e ∷ back) (length front) refl));
-        to = sym (ap (λ (l : List Element). length (data_of l)) taken ∙ ap length (dataOf-append front (e ∷ [])) ∙ bytes);
+        to = sym (ap (λ (l : List Element). length (data_of l)) taken ∙ ap length (data_of_append front (e ∷ [])) ∙ bytes);
       }
 
-placed-absent : (id : ℕ) (es : List Element) → Absent id es → Placed id es (run_of id 0 0 es)
-placed-absent id es n =
+placed_absent : (id : ℕ) (es : List Element) → Absent id es → Placed id es (run_of id 0 0 es)
+placed_absent id es n =
     let e : run_of id 0 0 es ≡ end_of es =
     ap (run_of id 0 0) (sym (append-nil es))
     ∙ run_past id [] 0 0 es n
     ∙ ap₂ (λ (i k : ℕ). record { first = i; count = 0; at = k; len = 0 }) (zero-add (length es)) (zero-add (length (data_of es))) in
     subst (λ (r : Run). Placed id es r) (sym e)
     (record {
-      stands = stands-end es;
+      stands = stands_end es;
       none = λ q. find_absent id 0 es n;
-      appended = λ q bytes. at-end es (element id bytes ∷ []);
+      appended = λ q bytes. at_end_lem es (element id bytes ∷ []);
       some = λ no. absurd (no refl);
       replaced = λ no. absurd (no refl);
       removed = λ no. absurd (no refl);
@@ -182,26 +182,26 @@ placed_first id es f =
     ap (run_of id 0 0) f.whole
     ∙ run_past id (f.held ∷ f.back) 0 0 f.front f.others
     ∙ rw (is id es f, zero-add (length f.front), zero-add (length (data_of f.front))) in
-    let put : (new : List Element) → replacedAt r new es ≡ f.front ++ (new ++ f.back) =
-    λ new. ap (replacedAt r new) f.whole ∙ at_one id f.front f.held f.back new in
+    let put : (new : List Element) → replaced_at r new es ≡ f.front ++ (new ++ f.back) =
+    λ new. ap (replaced_at r new) f.whole ∙ at_one id f.front f.held f.back new in
     subst (λ (r : Run). Placed id es r) (sym e)
     (record {
       stands = subst (Stands r) (sym f.whole) (stands_one id f.front f.held f.back);
       none = λ q. absurd (omega arith);
       appended = λ q. absurd (omega arith);
       some = λ no. find_first id es f;
-      replaced = λ no bytes. put (element id bytes ∷ []) ∙ sym (replace-first id es f bytes);
+      replaced = λ no bytes. put (element id bytes ∷ []) ∙ sym (replace_first id es f bytes);
       removed = λ no. put [] ∙ sym (remove_first id es f);
     })
 
 pub placed : (id : ℕ) (es : List Element) → Placed id es (run_of id 0 0 es)
-placed id es = ⊎_elim (placed-absent id es) (placed_first id es) (absent-or-first id es)
+placed id es = ⊎_elim (placed_absent id es) (placed_first id es) (absent_or_first id es)
 
 -- ---- how long a list is with a run replaced, and what its limits say
 
 module _ (r : Run) (es : List Element) (s : Stands r es) (new : List Element) where
-  pub replaced-many : length (replacedAt r new es) ≡ length es - r.count + length new
-  replaced-many =
+  pub replaced_many : length (replaced_at r new es) ≡ length es - r.count + length new
+  replaced_many =
       let front : length (take r.first es) ≡ r.first = length-take-le r.first es (omega (arith, s.within)) in
       let back : length (drop (r.first + r.count) es) ≡ length es - (r.first + r.count) = length-drop (r.first + r.count) es in
       omega (
@@ -211,26 +211,26 @@ module _ (r : Run) (es : List Element) (s : Stands r es) (new : List Element) wh
         length-append new (drop (r.first + r.count) es),
       )
 
-  pub replaced-data : length (data_of (replacedAt r new es)) ≡ length (data_of es) - r.len + length (data_of new)
-  replaced-data =
+  pub replaced_data : length (data_of (replaced_at r new es)) ≡ length (data_of es) - r.len + length (data_of new)
+  replaced_data =
       let front : List ℕ = data_of (take r.first es) in
       let back : List ℕ = data_of (drop (r.first + r.count) es) in
-      let e : data_of (replacedAt r new es) ≡ front ++ (data_of new ++ back) =
-      dataOf-append (take r.first es) (new ++ drop (r.first + r.count) es)
-      ∙ ap (λ (l : List ℕ). front ++ l) (dataOf-append new (drop (r.first + r.count) es)) in
+      let e : data_of (replaced_at r new es) ≡ front ++ (data_of new ++ back) =
+      data_of_append (take r.first es) (new ++ drop (r.first + r.count) es)
+      ∙ ap (λ (l : List ℕ). front ++ l) (data_of_append new (drop (r.first + r.count) es)) in
       let all : length (data_of es) ≡ length (data_of (take (r.first + r.count) es)) + length back =
-      ap length (data-split (r.first + r.count) es) ∙ length-append (data_of (take (r.first + r.count) es)) back in
+      ap length (data_split (r.first + r.count) es) ∙ length-append (data_of (take (r.first + r.count) es)) back in
       omega (arith, ap length e, length-append front (data_of new ++ back), length-append (data_of new) back, s.from, s.to)
 
 -- one element in the place of a run of a record's elements
 module _ (x : Extensions) (p : PackedIn x) (r : Run) (h : Holds x r) (id : ℕ) (bytes : List ℕ) where
-  pub put-many : length (replacedAt r (element id bytes ∷ []) (elementsOf x)) ≡ x.count - r.count + 1
-  put-many =
-      replaced-many r (elementsOf x) h.stands (element id bytes ∷ [])
-      ∙ ap (λ (n : ℕ). n - r.count + 1) (length-elementsOf x p)
+  pub put_many : length (replaced_at r (element id bytes ∷ []) (elements_of x)) ≡ x.count - r.count + 1
+  put_many =
+      replaced_many r (elements_of x) h.stands (element id bytes ∷ [])
+      ∙ ap (λ (n : ℕ). n - r.count + 1) (length_elements_of x p)
 
-  pub put-bytes : length (data_of (replacedAt r (element id bytes ∷ []) (elementsOf x)))
+  pub put_bytes : length (data_of (replaced_at r (element id bytes ∷ []) (elements_of x)))
       ≡ sum (take x.count x.lens) - r.len + length bytes
-  put-bytes =
-      replaced-data r (elementsOf x) h.stands (element id bytes ∷ [])
-      ∙ ap₂ (λ (n : ℕ) (b : List ℕ). n - r.len + length b) (length-dataOf x p) (append-nil bytes)
+  put_bytes =
+      replaced_data r (elements_of x) h.stands (element id bytes ∷ [])
+      ∙ ap₂ (λ (n : ℕ) (b : List ℕ). n - r.len + length b) (length_data_of x p) (append-nil bytes)

@@ -1,6 +1,6 @@
 -- Extension elements as the paper speaks of them, a list, and the record with its arrays that they are laid out in. Assumes nothing.
 use Rattle.std.specs.Prelude.{Bool, ◌&&◌, List, [], ◌∷◌, ◌++◌, map, ℕ, ◌+◌, ◌≤◌, leb, length, take, drop, set}
-use Rattle.wire.specs.Part.{padTo, splice}
+use Rattle.wire.specs.Part.{pad_to, splice}
 use Rattle.elements.specs.declared.Extensions.{Extensions}
 
 -- an extension element
@@ -28,17 +28,17 @@ unpack [] lens bytes = []
 unpack (i ∷ ids) [] bytes = []
 unpack (i ∷ ids) (l ∷ lens) bytes = record { id = i; bytes = take l bytes } ∷ unpack ids lens (drop l bytes)
 
-unfoldable pub elementsOf : Extensions → List Element
-elementsOf x = unpack (take x.count x.ids) (take x.count x.lens) x.bytes
+unfoldable pub elements_of : Extensions → List Element
+elements_of x = unpack (take x.count x.ids) (take x.count x.lens) x.bytes
 
 -- the places of the arrays beyond the counts are zeros
-unfoldable pub layElements : List Element → Extensions
-layElements es =
+unfoldable pub lay_elements : List Element → Extensions
+lay_elements es =
     record {
       count = length es;
-      ids = padTo 32 (map (λ (e : Element). e.id) es);
-      lens = padTo 32 (map size_of es);
-      bytes = padTo 1024 (data_of es);
+      ids = pad_to 32 (map (λ (e : Element). e.id) es);
+      lens = pad_to 32 (map size_of es);
+      bytes = pad_to 1024 (data_of es);
     }
 
 -- one element more: what a record becomes whose packed data have `used` bytes
@@ -63,5 +63,5 @@ pub record Packed (count : ℕ) (ids lens bytes : List ℕ) : Type 0 where
   pub packed : sum (take count lens) ≤ length bytes
 
 -- the first `count` elements of the arrays of a record
-abbrev pub elementsIn : ℕ → List ℕ → List ℕ → List ℕ → List Element
-elementsIn count ids lens bytes = unpack (take count ids) (take count lens) bytes
+abbrev pub elements_in : ℕ → List ℕ → List ℕ → List ℕ → List Element
+elements_in count ids lens bytes = unpack (take count ids) (take count lens) bytes

@@ -4,7 +4,7 @@ use Rattle.std.specs.Prelude.{◌≡◌, cond, List, [], ◌∷◌, ◌++◌, ma
 use Rattle.wire.specs.Part.{splice, part}
 use Rattle.elements.specs.declared.Extensions.{Extensions}
 use Rattle.elements.specs.declared.Run.{Run}
-use Rattle.elements.specs.Elements.{Element, data_of, size_of, sum, elementsOf}
+use Rattle.elements.specs.Elements.{Element, data_of, size_of, sum, elements_of}
 
 -- these are `count` elements, of which the arrays hold the ids and lengths
 pub record Shown (es : List Element) (count : ℕ) (ids lens : List ℕ) : Type 0 where
@@ -22,7 +22,7 @@ pub record Stands (r : Run) (es : List Element) : Type 0 where
 pub record Holds (x : Extensions) (r : Run) : Type 0 where
   pub few : x.count ≤ 32
   pub fits : sum (take x.count x.lens) ≤ 1024
-  pub stands : Stands r (elementsOf x)
+  pub stands : Stands r (elements_of x)
 
 -- all elements in front of a run; all behind it, of `count` in all with `total` data bytes
 abbrev pub before : Run → Run
@@ -48,8 +48,8 @@ abbrev pub element : ℕ → List ℕ → Element
 element id bytes = record { id = id; bytes = bytes }
 
 -- the list with others in the place of a run
-abbrev pub replacedAt : Run → List Element → List Element → List Element
-replacedAt r new es = take r.first es ++ (new ++ drop (r.first + r.count) es)
+abbrev pub replaced_at : Run → List Element → List Element → List Element
+replaced_at r new es = take r.first es ++ (new ++ drop (r.first + r.count) es)
 
 -- a run of `old` behind the elements of x, whose packed data have `used` bytes
 unfoldable pub kept : Extensions → ℕ → Extensions → Run → Extensions

@@ -1,7 +1,7 @@
 // A run of elements: the first one of an id, and a record with a run of it replaced.
 ghost use Rattle.std.specs.Prelude.{◌≡◌, List, [], ◌∷◌, ◌+◌, ◌-◌, ◌<◌, ◌≤◌, length, take};
-ghost use Rattle.elements.specs.Elements.{Element, elementsOf, layElements, sum};
-ghost use Rattle.elements.specs.Runs.{Shown, Holds, behind, kept, run_of, element, replacedAt};
+ghost use Rattle.elements.specs.Elements.{Element, elements_of, lay_elements, sum};
+ghost use Rattle.elements.specs.Runs.{Shown, Holds, behind, kept, run_of, element, replaced_at};
 
 use crate::list::{push, total};
 use crate::{Extensions, Run};
@@ -92,7 +92,7 @@ impl Extensions {
     // The elements in front of the run alone.
     fn front(self, run: Run) -> Self
         requires { Holds self run }
-        ensures { result ≡ layElements (take run.first (elementsOf self)) }
+        ensures { result ≡ lay_elements (take run.first (elements_of self)) }
     {
         let before = Run {
             first: 0,
@@ -109,7 +109,7 @@ pub fn replaced(list: Extensions, run: Run, id: u8, data: &[u8]) -> Extensions
     requires holds { Holds list run }
     requires count_bound { list.count - run.count < 32 }
     requires data_bound { sum (take list.count list.lens) - run.len + length «data».now ≤ 1024 }
-    ensures { result ≡ layElements (replacedAt run (element id «data».now ∷ []) (elementsOf list)) }
+    ensures { result ≡ lay_elements (replaced_at run (element id «data».now ∷ []) (elements_of list)) }
 {
     let behind = run.behind(list.count, total(list.count, &list.lens));
     let put = push(list.front(run), run.at, id, data);
@@ -119,7 +119,7 @@ pub fn replaced(list: Extensions, run: Run, id: u8, data: &[u8]) -> Extensions
 // Nothing in the place of the run.
 pub fn without(list: Extensions, run: Run) -> Extensions
     requires { Holds list run }
-    ensures { result ≡ layElements (replacedAt run [] (elementsOf list)) }
+    ensures { result ≡ lay_elements (replaced_at run [] (elements_of list)) }
 {
     let behind = run.behind(list.count, total(list.count, &list.lens));
     list.front(run).keep(run.at, list, behind)

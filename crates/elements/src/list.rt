@@ -1,12 +1,12 @@
 // The list of elements in its record.
 ghost use Rattle.std.specs.Prelude.{◌≡◌, [], ◌+◌, ◌<◌, ◌≤◌, length, take};
-ghost use Rattle.elements.specs.Elements.{layElements, pushed, sum};
+ghost use Rattle.elements.specs.Elements.{lay_elements, pushed, sum};
 
 use crate::Extensions;
 
 impl Extensions {
     pub fn new() -> Self
-        ensures { result ≡ layElements [] }
+        ensures { result ≡ lay_elements [] }
     {
         Extensions {
             count: 0,

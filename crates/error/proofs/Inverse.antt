@@ -1,4 +1,4 @@
--- No two refusals have one number and one list of carried values: `refusalOf` has an inverse, which goes through the numbers.
+-- No two refusals have one number and one list of carried values: `refusal_of` has an inverse, which goes through the numbers.
 -- Assumes nothing.
 use mathlib.Core.Path.{◌≡◌, refl}
 use mathlib.Core.Bool.{cond}
@@ -7,7 +7,7 @@ use lib.Dec.{eqb}
 use lib.ListN.{get_or}
 use Rattle.error.specs.declared.Error.{Error}
 use Rattle.error.specs.declared.Error.TheVariants.{ErrHeaderSizeInsufficient, ErrHeaderSizeInsufficientForExtension, ElementPastPacket, ErrShortPacket, ErrBufferTooSmall, GatherTooSmall, OverLimits, OutsideDomain, HeaderExtensionPayloadNot32BitWords, ErrRfc3550headerIdrange, ErrRfc8285oneByteHeaderIdrange, ErrRfc8285oneByteHeaderSize, ErrRfc8285twoByteHeaderIdrange, ErrRfc8285twoByteHeaderSize, ErrHeaderExtensionNotFound, ErrHeaderExtensionsNotEnabled, StapASizeLargerThanBuffer, StapASizeCut, NaluTypeIsNotHandled, OtherSource, StartAndEnd, AlreadyClosed, ClosingTooFar, MissedTotalFull, OtherTime}
-use Rattle.error.specs.Refusal.{Refusal, refusalOf}
+use Rattle.error.specs.Refusal.{Refusal, refusal_of}
 
 -- the refusal of a number, carrying a and b where it carries any
 abbrev numbered : ℕ → ℕ → ℕ → Error
@@ -37,32 +37,32 @@ numbered n a b =
     cond (eqb n 23) ClosingTooFar (
     cond (eqb n 24) MissedTotalFull OtherTime)))))))))))))))))))))))
 
-abbrev pub errorOf : Refusal → Error
-errorOf r = numbered r.number (get_or r.carried 0 0) (get_or r.carried 1 0)
+abbrev pub error_of : Refusal → Error
+error_of r = numbered r.number (get_or r.carried 0 0) (get_or r.carried 1 0)
 
-pub errorOf-refusalOf : (e : Error) → errorOf (refusalOf e) ≡ e
-errorOf-refusalOf ErrHeaderSizeInsufficient = refl
-errorOf-refusalOf ErrHeaderSizeInsufficientForExtension = refl
-errorOf-refusalOf ElementPastPacket = refl
-errorOf-refusalOf ErrShortPacket = refl
-errorOf-refusalOf ErrBufferTooSmall = refl
-errorOf-refusalOf GatherTooSmall = refl
-errorOf-refusalOf OverLimits = refl
-errorOf-refusalOf OutsideDomain = refl
-errorOf-refusalOf HeaderExtensionPayloadNot32BitWords = refl
-errorOf-refusalOf ErrRfc3550headerIdrange = refl
-errorOf-refusalOf ErrRfc8285oneByteHeaderIdrange = refl
-errorOf-refusalOf ErrRfc8285oneByteHeaderSize = refl
-errorOf-refusalOf ErrRfc8285twoByteHeaderIdrange = refl
-errorOf-refusalOf ErrRfc8285twoByteHeaderSize = refl
-errorOf-refusalOf ErrHeaderExtensionNotFound = refl
-errorOf-refusalOf ErrHeaderExtensionsNotEnabled = refl
-errorOf-refusalOf (StapASizeLargerThanBuffer size left) = refl
-errorOf-refusalOf StapASizeCut = refl
-errorOf-refusalOf (NaluTypeIsNotHandled type) = refl
-errorOf-refusalOf OtherSource = refl
-errorOf-refusalOf StartAndEnd = refl
-errorOf-refusalOf AlreadyClosed = refl
-errorOf-refusalOf ClosingTooFar = refl
-errorOf-refusalOf MissedTotalFull = refl
-errorOf-refusalOf OtherTime = refl
+pub error_of_refusal_of : (e : Error) → error_of (refusal_of e) ≡ e
+error_of_refusal_of ErrHeaderSizeInsufficient = refl
+error_of_refusal_of ErrHeaderSizeInsufficientForExtension = refl
+error_of_refusal_of ElementPastPacket = refl
+error_of_refusal_of ErrShortPacket = refl
+error_of_refusal_of ErrBufferTooSmall = refl
+error_of_refusal_of GatherTooSmall = refl
+error_of_refusal_of OverLimits = refl
+error_of_refusal_of OutsideDomain = refl
+error_of_refusal_of HeaderExtensionPayloadNot32BitWords = refl
+error_of_refusal_of ErrRfc3550headerIdrange = refl
+error_of_refusal_of ErrRfc8285oneByteHeaderIdrange = refl
+error_of_refusal_of ErrRfc8285oneByteHeaderSize = refl
+error_of_refusal_of ErrRfc8285twoByteHeaderIdrange = refl
+error_of_refusal_of ErrRfc8285twoByteHeaderSize = refl
+error_of_refusal_of ErrHeaderExtensionNotFound = refl
+error_of_refusal_of ErrHeaderExtensionsNotEnabled = refl
+error_of_refusal_of (StapASizeLargerThanBuffer size left) = refl
+error_of_refusal_of StapASizeCut = refl
+error_of_refusal_of (NaluTypeIsNotHandled type) = refl
+error_of_refusal_of OtherSource = refl
+error_of_refusal_of StartAndEnd = refl
+error_of_refusal_of AlreadyClosed = refl
+error_of_refusal_of ClosingTooFar = refl
+error_of_refusal_of MissedTotalFull = refl
+error_of_refusal_of OtherTime = refl

@@ -4,19 +4,19 @@ use mathlib.Core.Path.{◌≡◌, refl, sym, ap, ◌∙◌}
 use mathlib.Core.Bool.{Bool, true, false, cond}
 use Prim.Native.Nat.{ℕ}
 use Rattle.error.specs.declared.Error.{Error}
-use Rattle.error.specs.Refusal.{Refusal, number_of, refusalOf}
+use Rattle.error.specs.Refusal.{Refusal, number_of, refusal_of}
 use Rattle.error.specs.Said.{Said, says, refused}
 use Rattle.error.specs.Only.{Determined}
-use Rattle.error.proofs.Inverse.{errorOf}
+use Rattle.error.proofs.Inverse.{error_of}
 
 -- the contract is an equation of the answer itself
 pub by_value {ℓ} : {A : Type ℓ} (a : A) → Determined (λ (r : A). r ≡ a)
 by_value a = record { answer = a; holds = refl; only = λ r e. e }
 
 -- the contract is an equation of what the answer says, by a map that has an inverse
-pub by-view {ℓ κ} : {A : Type ℓ} {S : Type κ} (view : A → S) (back : S → A) → ((a : A) → back (view a) ≡ a) →
+pub by_view {ℓ κ} : {A : Type ℓ} {S : Type κ} (view : A → S) (back : S → A) → ((a : A) → back (view a) ≡ a) →
     (a : A) (v : S) → view a ≡ v → Determined (λ (r : A). view r ≡ v)
-by-view view back inverse a v e =
+by_view view back inverse a v e =
     record { answer = a; holds = e; only = λ r q. sym (inverse r) ∙ ap back (q ∙ sym e) ∙ inverse a }
 
 -- the contract is one of the result beside one of a buffer at exit
@@ -34,17 +34,17 @@ by_both c d =
 -- a refusal as `Error` has it
 abbrev pub spoken : {A : Type 0} → Said A → Said A
 spoken (says x) = says x
-spoken (refused r) = refused (refusalOf (errorOf r))
+spoken (refused r) = refused (refusal_of (error_of r))
 
 -- some answer says this: its refusal, if it is one, is one of `Error`
 abbrev pub Sayable : {A : Type 0} → Said A → Type 0
 Sayable x = spoken x ≡ x
 
-pub either-sayable : {A : Type 0} {x y : Said A} (b : Bool) → Sayable x → Sayable y → Sayable (cond b x y)
-either-sayable true p q = p
-either-sayable false p q = q
+pub either_sayable : {A : Type 0} {x y : Said A} (b : Bool) → Sayable x → Sayable y → Sayable (cond b x y)
+either_sayable true p q = p
+either_sayable false p q = q
 
-pub known : {A : Type 0} {r : Refusal} → Sayable {A = A} (refused r) → refusalOf (errorOf r) ≡ r
+pub known : {A : Type 0} {r : Refusal} → Sayable {A = A} (refused r) → refusal_of (error_of r) ≡ r
 known e = cc
 
 -- a refusal that is passed on
@@ -58,5 +58,5 @@ tested said x y false p q = q
 
 -- ---- this crate's own call
 
-pub number-only : (e : Error) → Determined (λ (n : ℕ). n ≡ number_of e)
-number-only e = by_value (number_of e)
+pub number_only : (e : Error) → Determined (λ (n : ℕ). n ≡ number_of e)
+number_only e = by_value (number_of e)

@@ -5,8 +5,8 @@ use native.Mathlib.Omega.{arith}
 use Rattle.error.specs.Refusal.{Refusal}
 use Rattle.error.specs.Said.{Said, says, refused}
 
-pub not-says : {A : Type 0} {r : Refusal} {x : A} → refused r ≡ says x → ⊥
-not-says e = let z : ◌≡◌ {A = ℕ} 0 1 = cc in omega arith
+pub not_says : {A : Type 0} {r : Refusal} {x : A} → refused r ≡ says x → ⊥
+not_says e = let z : ◌≡◌ {A = ℕ} 0 1 = cc in omega arith
 
 pub same_answer : {A : Type 0} (a : Said A) (r t : A) → a ≡ says r → a ≡ says t → r ≡ t
 same_answer a r t p q = cc

@@ -11,30 +11,30 @@ use Rattle.elements.specs.declared.Extensions.{Extensions}
 use Rattle.header_write.specs.declared.Fixed.{Fixed}
 use Rattle.header.specs.declared.Header.{Header}
 use Rattle.header.specs.Fields.{blank}
-use Rattle.header.specs.Read.{readHeader}
-use Rattle.header.specs.Size.{sizeAsked, lengthAsked}
-use Rattle.header.specs.Write.{writeHeader}
-use Rattle.header.specs.Extension.{setExtension, delExtension, getExtension, getExtensionIds}
-use Rattle.header.specs.Said.{Written, written, changeHeard, idsHeard, readingHeard as headerHeard}
-use Rattle.header.specs.Parts.{together, bare, Lent as Arrays, frontHeard as headerFront, lentRead as headerLent}
-use Rattle.packet.specs.Read.{readPacket}
-use Rattle.packet.specs.Write.{packetSizeAsked, writePacket}
-use Rattle.packet.specs.Said.{readingHeard as packetHeard}
-use Rattle.packet.specs.Fronts.{frontHeard as packetFront, lentRead as packetLent}
+use Rattle.header.specs.Read.{read_header}
+use Rattle.header.specs.Size.{size_asked, length_asked}
+use Rattle.header.specs.Write.{write_header}
+use Rattle.header.specs.Extension.{set_extension, del_extension, get_extension, get_extension_ids}
+use Rattle.header.specs.Said.{Written, written, change_heard, ids_heard, reading_heard as headerHeard}
+use Rattle.header.specs.Parts.{together, bare, Lent as Arrays, front_heard as headerFront, lent_read as headerLent}
+use Rattle.packet.specs.Read.{read_packet}
+use Rattle.packet.specs.Write.{packet_size_asked, write_packet}
+use Rattle.packet.specs.Said.{reading_heard as packetHeard}
+use Rattle.packet.specs.Fronts.{front_heard as packetFront, lent_read as packetLent}
 use Rattle.vp8_send.specs.declared.Vp8Payloader.{Vp8Payloader}
 use Rattle.vp8_read.specs.declared.Vp8Packet.{Vp8Packet}
 use Rattle.vp8_send.specs.Send.{Sending, payloaded}
 use Rattle.vp8_read.specs.Read.{depacketized}
-use Rattle.vp8_read.specs.Partition.{partitionHead}
+use Rattle.vp8_read.specs.Partition.{partition_head}
 use Rattle.h264.specs.declared.send.H264Payloader.{H264Payloader}
-use Rattle.h264_put.specs.Groups.{nothingSaved}
-use Rattle.h264.specs.Payload.{Lent, LeftIn, Left, layOut, payloadOf, lent_of}
+use Rattle.h264_put.specs.Groups.{nothing_saved}
+use Rattle.h264.specs.Payload.{Lent, LeftIn, Left, lay_out, payload_of, lent_of}
 use Rattle.h264_packet.specs.declared.H264Packet.{H264Packet}
-use Rattle.h264_packet.specs.Depacketize.{headTest}
+use Rattle.h264_packet.specs.Depacketize.{head_test}
 use Rattle.h264_packet.specs.Depacketize.{depacketized as depacketizedBy}
-use Rattle.h264_packet.specs.Said.{Heard, depacketizedHeard}
+use Rattle.h264_packet.specs.Said.{Heard, depacketized_heard}
 use Rattle.joiner.specs.declared.Joiner.{Joiner}
-use Rattle.joiner.specs.Join.{Stepped, opened, joinStep, closeStep}
+use Rattle.joiner.specs.Join.{Stepped, opened, join_step, close_step}
 use Rattle.gateway.specs.declared.refused.RtpTest.{RtpTest}
 use Rattle.gateway.specs.declared.rtp_header.RtpHeaderRead.{RtpHeaderRead}
 use Rattle.gateway.specs.declared.rtp_header.RtpLength.{RtpLength}
@@ -53,13 +53,13 @@ use Rattle.gateway.specs.declared.rtp_vp8.RtpVp8Read.{RtpVp8Read}
 use Rattle.gateway.specs.declared.rtp_joiner.RtpJoined.{RtpJoined}
 use Rattle.gateway.specs.declared.rtp_joiner.RtpClosed.{RtpClosed}
 use Rattle.gateway.specs.declared.rtp_sizes.RtpSizes.{RtpSizes}
-use Rattle.gateway.specs.Refused.{testAs}
-use Rattle.gateway.specs.HeaderAnswers.{headerReadAs, lengthAs, headerChangedAs, elementAs, idsAs}
-use Rattle.gateway.specs.PacketAnswers.{packetReadAs}
-use Rattle.gateway.specs.PartsAnswers.{bytesAs, headerFrontAs, packetFrontAs}
-use Rattle.gateway.specs.H264Answers.{h264SentAs, h264LentSentAs, h264ReadAs}
-use Rattle.gateway.specs.Vp8Answers.{vp8SentAs, vp8ReadAs}
-use Rattle.gateway.specs.JoinerAnswers.{joinedAs, closedAs}
+use Rattle.gateway.specs.Refused.{test_as}
+use Rattle.gateway.specs.HeaderAnswers.{header_read_as, length_as, header_changed_as, element_as, ids_as}
+use Rattle.gateway.specs.PacketAnswers.{packet_read_as}
+use Rattle.gateway.specs.PartsAnswers.{bytes_as, header_front_as, packet_front_as}
+use Rattle.gateway.specs.H264Answers.{h264_sent_as, h264_lent_sent_as, h264_read_as}
+use Rattle.gateway.specs.Vp8Answers.{vp8_sent_as, vp8_read_as}
+use Rattle.gateway.specs.JoinerAnswers.{joined_as, closed_as}
 use Rattle.gateway.specs.Sizes.{sizes}
 
 -- the contract is an equation of the result, and one of each of two buffers
@@ -68,183 +68,183 @@ by_three a b c = by_both (by_value a) (by_both (by_value b) (by_value c))
 
 -- ---- the header
 
-pub header-default-only : Determined (λ (r : Header). r ≡ blank)
-header-default-only = by_value blank
+pub header_default_only : Determined (λ (r : Header). r ≡ blank)
+header_default_only = by_value blank
 
-pub header-unmarshal-only : (s : List ℕ) → Determined (λ (r : RtpHeaderRead). r ≡ headerReadAs (headerHeard (readHeader s)))
-header-unmarshal-only s = by_value (headerReadAs (headerHeard (readHeader s)))
+pub header_unmarshal_only : (s : List ℕ) → Determined (λ (r : RtpHeaderRead). r ≡ header_read_as (headerHeard (read_header s)))
+header_unmarshal_only s = by_value (header_read_as (headerHeard (read_header s)))
 
-pub header-marshal-size-only : (h : Header) → Determined (λ (r : RtpLength). r ≡ lengthAs (sizeAsked h))
-header-marshal-size-only h = by_value (lengthAs (sizeAsked h))
+pub header_marshal_size_only : (h : Header) → Determined (λ (r : RtpLength). r ≡ length_as (size_asked h))
+header_marshal_size_only h = by_value (length_as (size_asked h))
 
-pub header-marshal-to-only : (h : Header) (buf : List ℕ) →
-    let w = written buf (writeHeader h (length buf)) in
-    Determined (λ (r : RtpLength × List ℕ). (r.0 ≡ lengthAs w.answer) × (r.1 ≡ w.buffer))
-header-marshal-to-only h buf =
-    let w : Written = written buf (writeHeader h (length buf)) in
-    by_both (by_value (lengthAs w.answer)) (by_value w.buffer)
+pub header_marshal_to_only : (h : Header) (buf : List ℕ) →
+    let w = written buf (write_header h (length buf)) in
+    Determined (λ (r : RtpLength × List ℕ). (r.0 ≡ length_as w.answer) × (r.1 ≡ w.buffer))
+header_marshal_to_only h buf =
+    let w : Written = written buf (write_header h (length buf)) in
+    by_both (by_value (length_as w.answer)) (by_value w.buffer)
 
-pub header-payload-len-only : (h : Header) → Determined (λ (r : RtpLength). r ≡ lengthAs (lengthAsked h))
-header-payload-len-only h = by_value (lengthAs (lengthAsked h))
+pub header_payload_len_only : (h : Header) → Determined (λ (r : RtpLength). r ≡ length_as (length_asked h))
+header_payload_len_only h = by_value (length_as (length_asked h))
 
-pub header-set-extension-only : (h : Header) (id : ℕ) (s : List ℕ) →
-    Determined (λ (r : RtpHeaderChanged). r ≡ headerChangedAs (changeHeard h (setExtension h id s)))
-header-set-extension-only h id s = by_value (headerChangedAs (changeHeard h (setExtension h id s)))
+pub header_set_extension_only : (h : Header) (id : ℕ) (s : List ℕ) →
+    Determined (λ (r : RtpHeaderChanged). r ≡ header_changed_as (change_heard h (set_extension h id s)))
+header_set_extension_only h id s = by_value (header_changed_as (change_heard h (set_extension h id s)))
 
-pub header-del-extension-only : (h : Header) (id : ℕ) →
-    Determined (λ (r : RtpHeaderChanged). r ≡ headerChangedAs (changeHeard h (delExtension h id)))
-header-del-extension-only h id = by_value (headerChangedAs (changeHeard h (delExtension h id)))
+pub header_del_extension_only : (h : Header) (id : ℕ) →
+    Determined (λ (r : RtpHeaderChanged). r ≡ header_changed_as (change_heard h (del_extension h id)))
+header_del_extension_only h id = by_value (header_changed_as (change_heard h (del_extension h id)))
 
-pub header-get-extension-only : (h : Header) (id : ℕ) → Determined (λ (r : RtpElement). r ≡ elementAs (getExtension h id))
-header-get-extension-only h id = by_value (elementAs (getExtension h id))
+pub header_get_extension_only : (h : Header) (id : ℕ) → Determined (λ (r : RtpElement). r ≡ element_as (get_extension h id))
+header_get_extension_only h id = by_value (element_as (get_extension h id))
 
-pub header-get-extension-ids-only : (h : Header) → Determined (λ (r : RtpIds). r ≡ idsAs (idsHeard (getExtensionIds h)))
-header-get-extension-ids-only h = by_value (idsAs (idsHeard (getExtensionIds h)))
+pub header_get_extension_ids_only : (h : Header) → Determined (λ (r : RtpIds). r ≡ ids_as (ids_heard (get_extension_ids h)))
+header_get_extension_ids_only h = by_value (ids_as (ids_heard (get_extension_ids h)))
 
 -- ---- the packet
 
-pub packet-unmarshal-only : (s : List ℕ) → Determined (λ (r : RtpPacketRead). r ≡ packetReadAs (packetHeard (readPacket s)))
-packet-unmarshal-only s = by_value (packetReadAs (packetHeard (readPacket s)))
+pub packet_unmarshal_only : (s : List ℕ) → Determined (λ (r : RtpPacketRead). r ≡ packet_read_as (packetHeard (read_packet s)))
+packet_unmarshal_only s = by_value (packet_read_as (packetHeard (read_packet s)))
 
-pub packet-marshal-size-only : (h : Header) (payload : List ℕ) → Determined (λ (r : RtpLength). r ≡ lengthAs (packetSizeAsked h payload))
-packet-marshal-size-only h payload = by_value (lengthAs (packetSizeAsked h payload))
+pub packet_marshal_size_only : (h : Header) (payload : List ℕ) → Determined (λ (r : RtpLength). r ≡ length_as (packet_size_asked h payload))
+packet_marshal_size_only h payload = by_value (length_as (packet_size_asked h payload))
 
-pub packet-marshal-to-only : (h : Header) (payload buf : List ℕ) →
-    let w = written buf (writePacket h payload (length buf)) in
-    Determined (λ (r : RtpLength × List ℕ). (r.0 ≡ lengthAs w.answer) × (r.1 ≡ w.buffer))
-packet-marshal-to-only h payload buf =
-    let w : Written = written buf (writePacket h payload (length buf)) in
-    by_both (by_value (lengthAs w.answer)) (by_value w.buffer)
+pub packet_marshal_to_only : (h : Header) (payload buf : List ℕ) →
+    let w = written buf (write_packet h payload (length buf)) in
+    Determined (λ (r : RtpLength × List ℕ). (r.0 ≡ length_as w.answer) × (r.1 ≡ w.buffer))
+packet_marshal_to_only h payload buf =
+    let w : Written = written buf (write_packet h payload (length buf)) in
+    by_both (by_value (length_as w.answer)) (by_value w.buffer)
 
 -- ---- headers and packets in parts: of every header that has these parts
 
 -- the bytes counted, and the buffer
-wrote-only : (w : Written) → Determined (λ (r : RtpBytes × List ℕ). (r.0 ≡ bytesAs w.answer) × (r.1 ≡ w.buffer))
-wrote-only w = by_both (by_value (bytesAs w.answer)) (by_value w.buffer)
+wrote_only : (w : Written) → Determined (λ (r : RtpBytes × List ℕ). (r.0 ≡ bytes_as w.answer) × (r.1 ≡ w.buffer))
+wrote_only w = by_both (by_value (bytes_as w.answer)) (by_value w.buffer)
 
 module _ (f : Fixed) (sources : ℕ) (csrc : List ℕ) (profile : ℕ) (x : Extensions) (pads : ℕ) where
   abbrev whole : Header
   whole = together f sources csrc profile x pads
 
-  pub header-marshal-size-parts-only : Determined (λ (r : RtpBytes). r ≡ bytesAs (sizeAsked whole))
-  header-marshal-size-parts-only = by_value (bytesAs (sizeAsked whole))
+  pub header_marshal_size_parts_only : Determined (λ (r : RtpBytes). r ≡ bytes_as (size_asked whole))
+  header_marshal_size_parts_only = by_value (bytes_as (size_asked whole))
 
-  pub header-payload-len-parts-only : Determined (λ (r : RtpBytes). r ≡ bytesAs (lengthAsked whole))
-  header-payload-len-parts-only = by_value (bytesAs (lengthAsked whole))
+  pub header_payload_len_parts_only : Determined (λ (r : RtpBytes). r ≡ bytes_as (length_asked whole))
+  header_payload_len_parts_only = by_value (bytes_as (length_asked whole))
 
-  pub header-get-extension-parts-only : (id : ℕ) → Determined (λ (r : RtpElement). r ≡ elementAs (getExtension whole id))
-  header-get-extension-parts-only id = by_value (elementAs (getExtension whole id))
+  pub header_get_extension_parts_only : (id : ℕ) → Determined (λ (r : RtpElement). r ≡ element_as (get_extension whole id))
+  header_get_extension_parts_only id = by_value (element_as (get_extension whole id))
 
-  pub header-get-extension-ids-parts-only : Determined (λ (r : RtpIds). r ≡ idsAs (idsHeard (getExtensionIds whole)))
-  header-get-extension-ids-parts-only = by_value (idsAs (idsHeard (getExtensionIds whole)))
+  pub header_get_extension_ids_parts_only : Determined (λ (r : RtpIds). r ≡ ids_as (ids_heard (get_extension_ids whole)))
+  header_get_extension_ids_parts_only = by_value (ids_as (ids_heard (get_extension_ids whole)))
 
-  pub packet-marshal-size-parts-only : (s : List ℕ) → Determined (λ (r : RtpBytes). r ≡ bytesAs (packetSizeAsked whole s))
-  packet-marshal-size-parts-only s = by_value (bytesAs (packetSizeAsked whole s))
+  pub packet_marshal_size_parts_only : (s : List ℕ) → Determined (λ (r : RtpBytes). r ≡ bytes_as (packet_size_asked whole s))
+  packet_marshal_size_parts_only s = by_value (bytes_as (packet_size_asked whole s))
 
-  pub header-marshal-parts-only : (buf : List ℕ) →
-      let w = written buf (writeHeader whole (length buf)) in
-      Determined (λ (r : RtpBytes × List ℕ). (r.0 ≡ bytesAs w.answer) × (r.1 ≡ w.buffer))
-  header-marshal-parts-only buf = wrote-only (written buf (writeHeader whole (length buf)))
+  pub header_marshal_parts_only : (buf : List ℕ) →
+      let w = written buf (write_header whole (length buf)) in
+      Determined (λ (r : RtpBytes × List ℕ). (r.0 ≡ bytes_as w.answer) × (r.1 ≡ w.buffer))
+  header_marshal_parts_only buf = wrote_only (written buf (write_header whole (length buf)))
 
-  pub packet-marshal-parts-only : (s buf : List ℕ) →
-      let w = written buf (writePacket whole s (length buf)) in
-      Determined (λ (r : RtpBytes × List ℕ). (r.0 ≡ bytesAs w.answer) × (r.1 ≡ w.buffer))
-  packet-marshal-parts-only s buf = wrote-only (written buf (writePacket whole s (length buf)))
+  pub packet_marshal_parts_only : (s buf : List ℕ) →
+      let w = written buf (write_packet whole s (length buf)) in
+      Determined (λ (r : RtpBytes × List ℕ). (r.0 ≡ bytes_as w.answer) × (r.1 ≡ w.buffer))
+  packet_marshal_parts_only s buf = wrote_only (written buf (write_packet whole s (length buf)))
 
-pub header-marshal-bare-only : (f : Fixed) (profile pads : ℕ) (buf : List ℕ) →
-    let w = written buf (writeHeader (bare f profile pads) (length buf)) in
-    Determined (λ (r : RtpBytes × List ℕ). (r.0 ≡ bytesAs w.answer) × (r.1 ≡ w.buffer))
-header-marshal-bare-only f profile pads buf = wrote-only (written buf (writeHeader (bare f profile pads) (length buf)))
+pub header_marshal_bare_only : (f : Fixed) (profile pads : ℕ) (buf : List ℕ) →
+    let w = written buf (write_header (bare f profile pads) (length buf)) in
+    Determined (λ (r : RtpBytes × List ℕ). (r.0 ≡ bytes_as w.answer) × (r.1 ≡ w.buffer))
+header_marshal_bare_only f profile pads buf = wrote_only (written buf (write_header (bare f profile pads) (length buf)))
 
-pub packet-marshal-bare-only : (f : Fixed) (profile pads : ℕ) (s buf : List ℕ) →
-    let w = written buf (writePacket (bare f profile pads) s (length buf)) in
-    Determined (λ (r : RtpBytes × List ℕ). (r.0 ≡ bytesAs w.answer) × (r.1 ≡ w.buffer))
-packet-marshal-bare-only f profile pads s buf = wrote-only (written buf (writePacket (bare f profile pads) s (length buf)))
+pub packet_marshal_bare_only : (f : Fixed) (profile pads : ℕ) (s buf : List ℕ) →
+    let w = written buf (write_packet (bare f profile pads) s (length buf)) in
+    Determined (λ (r : RtpBytes × List ℕ). (r.0 ≡ bytes_as w.answer) × (r.1 ≡ w.buffer))
+packet_marshal_bare_only f profile pads s buf = wrote_only (written buf (write_packet (bare f profile pads) s (length buf)))
 
-pub header-unmarshal-front-only : (s : List ℕ) →
-    Determined (λ (r : RtpHeaderFront). r ≡ headerFrontAs (headerFront (headerHeard (readHeader s))))
-header-unmarshal-front-only s = by_value (headerFrontAs (headerFront (headerHeard (readHeader s))))
+pub header_unmarshal_front_only : (s : List ℕ) →
+    Determined (λ (r : RtpHeaderFront). r ≡ header_front_as (headerFront (headerHeard (read_header s))))
+header_unmarshal_front_only s = by_value (header_front_as (headerFront (headerHeard (read_header s))))
 
-pub header-unmarshal-parts-only : (s : List ℕ) (old : Arrays) →
+pub header_unmarshal_parts_only : (s : List ℕ) (old : Arrays) →
     Determined (λ (r : RtpHeaderFront × Arrays).
-    (r.0 ≡ headerFrontAs (headerFront (headerHeard (readHeader s)))) × (r.1 ≡ headerLent old (readHeader s)))
-header-unmarshal-parts-only s old = by_both (header-unmarshal-front-only s) (by_value (headerLent old (readHeader s)))
+    (r.0 ≡ header_front_as (headerFront (headerHeard (read_header s)))) × (r.1 ≡ headerLent old (read_header s)))
+header_unmarshal_parts_only s old = by_both (header_unmarshal_front_only s) (by_value (headerLent old (read_header s)))
 
-pub packet-unmarshal-front-only : (s : List ℕ) →
-    Determined (λ (r : RtpPacketFront). r ≡ packetFrontAs (packetFront (packetHeard (readPacket s))))
-packet-unmarshal-front-only s = by_value (packetFrontAs (packetFront (packetHeard (readPacket s))))
+pub packet_unmarshal_front_only : (s : List ℕ) →
+    Determined (λ (r : RtpPacketFront). r ≡ packet_front_as (packetFront (packetHeard (read_packet s))))
+packet_unmarshal_front_only s = by_value (packet_front_as (packetFront (packetHeard (read_packet s))))
 
-pub packet-unmarshal-parts-only : (s : List ℕ) (old : Arrays) →
+pub packet_unmarshal_parts_only : (s : List ℕ) (old : Arrays) →
     Determined (λ (r : RtpPacketFront × Arrays).
-    (r.0 ≡ packetFrontAs (packetFront (packetHeard (readPacket s)))) × (r.1 ≡ packetLent old (readPacket s)))
-packet-unmarshal-parts-only s old = by_both (packet-unmarshal-front-only s) (by_value (packetLent old (readPacket s)))
+    (r.0 ≡ packet_front_as (packetFront (packetHeard (read_packet s)))) × (r.1 ≡ packetLent old (read_packet s)))
+packet_unmarshal_parts_only s old = by_both (packet_unmarshal_front_only s) (by_value (packetLent old (read_packet s)))
 
 -- ---- H.264
 
-pub h264-payloader-new-only : Determined (λ (r : H264Payloader). r ≡ layOut nothingSaved)
-h264-payloader-new-only = by_value (layOut nothingSaved)
+pub h264_payloader_new_only : Determined (λ (r : H264Payloader). r ≡ lay_out nothing_saved)
+h264_payloader_new_only = by_value (lay_out nothing_saved)
 
-pub h264-payload-only : (k : H264Payloader) (mtu : ℕ) (frame out ends : List ℕ) →
-    let l = payloadOf k mtu frame out ends in
-    Determined (λ (r : RtpH264Sent × (List ℕ × List ℕ)). (r.0 ≡ h264SentAs l) × ((r.1.0 ≡ l.out) × (r.1.1 ≡ l.ends)))
-h264-payload-only k mtu frame out ends =
-    let l : Left = payloadOf k mtu frame out ends in
-    by_three (h264SentAs l) l.out l.ends
+pub h264_payload_only : (k : H264Payloader) (mtu : ℕ) (frame out ends : List ℕ) →
+    let l = payload_of k mtu frame out ends in
+    Determined (λ (r : RtpH264Sent × (List ℕ × List ℕ)). (r.0 ≡ h264_sent_as l) × ((r.1.0 ≡ l.out) × (r.1.1 ≡ l.ends)))
+h264_payload_only k mtu frame out ends =
+    let l : Left = payload_of k mtu frame out ends in
+    by_three (h264_sent_as l) l.out l.ends
 
-pub h264-lent-payload-only : (k : Lent) (mtu : ℕ) (frame out ends : List ℕ) →
+pub h264_lent_payload_only : (k : Lent) (mtu : ℕ) (frame out ends : List ℕ) →
     let l = lent_of k mtu frame out ends in
     Determined (λ (r : RtpH264LentSent × (List ℕ × (List ℕ × (List ℕ × List ℕ)))).
-    (r.0 ≡ h264LentSentAs l) × ((r.1.0 ≡ l.sender.sps) × ((r.1.1.0 ≡ l.sender.pps) × ((r.1.1.1.0 ≡ l.out) × (r.1.1.1.1 ≡ l.ends)))))
-h264-lent-payload-only k mtu frame out ends =
+    (r.0 ≡ h264_lent_sent_as l) × ((r.1.0 ≡ l.sender.sps) × ((r.1.1.0 ≡ l.sender.pps) × ((r.1.1.1.0 ≡ l.out) × (r.1.1.1.1 ≡ l.ends)))))
+h264_lent_payload_only k mtu frame out ends =
     let l : LeftIn Lent = lent_of k mtu frame out ends in
-    by_both (by_value (h264LentSentAs l)) (by_both (by_value l.sender.sps) (by_three l.sender.pps l.out l.ends))
+    by_both (by_value (h264_lent_sent_as l)) (by_both (by_value l.sender.sps) (by_three l.sender.pps l.out l.ends))
 
-pub h264-depacketize-only : (k : H264Packet) (payload gather out : List ℕ) →
-    let h = depacketizedHeard k payload (depacketizedBy k.is_avc k.gathered payload gather out) in
-    Determined (λ (r : RtpH264Read × (List ℕ × List ℕ)). (r.0 ≡ h264ReadAs h (length payload) (length gather)) × ((r.1.0 ≡ h.gather) × (r.1.1 ≡ h.out)))
-h264-depacketize-only k payload gather out =
-    let h : Heard = depacketizedHeard k payload (depacketizedBy k.is_avc k.gathered payload gather out) in
-    by_three (h264ReadAs h (length payload) (length gather)) h.gather h.out
+pub h264_depacketize_only : (k : H264Packet) (payload gather out : List ℕ) →
+    let h = depacketized_heard k payload (depacketizedBy k.is_avc k.gathered payload gather out) in
+    Determined (λ (r : RtpH264Read × (List ℕ × List ℕ)). (r.0 ≡ h264_read_as h (length payload) (length gather)) × ((r.1.0 ≡ h.gather) × (r.1.1 ≡ h.out)))
+h264_depacketize_only k payload gather out =
+    let h : Heard = depacketized_heard k payload (depacketizedBy k.is_avc k.gathered payload gather out) in
+    by_three (h264_read_as h (length payload) (length gather)) h.gather h.out
 
-pub h264-partition-head-only : (s : List ℕ) → Determined (λ (r : RtpTest). r ≡ testAs (headTest s))
-h264-partition-head-only s = by_value (testAs (headTest s))
+pub h264_partition_head_only : (s : List ℕ) → Determined (λ (r : RtpTest). r ≡ test_as (head_test s))
+h264_partition_head_only s = by_value (test_as (head_test s))
 
 -- ---- VP8
 
-pub vp8-payload-only : (k : Vp8Payloader) (mtu : ℕ) (frame out ends : List ℕ) →
+pub vp8_payload_only : (k : Vp8Payloader) (mtu : ℕ) (frame out ends : List ℕ) →
     let s = payloaded k mtu frame out ends in
-    Determined (λ (r : RtpVp8Sent × (List ℕ × List ℕ)). (r.0 ≡ vp8SentAs s) × ((r.1.0 ≡ s.out) × (r.1.1 ≡ s.ends)))
-vp8-payload-only k mtu frame out ends =
+    Determined (λ (r : RtpVp8Sent × (List ℕ × List ℕ)). (r.0 ≡ vp8_sent_as s) × ((r.1.0 ≡ s.out) × (r.1.1 ≡ s.ends)))
+vp8_payload_only k mtu frame out ends =
     let s : Sending = payloaded k mtu frame out ends in
-    by_three (vp8SentAs s) s.out s.ends
+    by_three (vp8_sent_as s) s.out s.ends
 
-pub vp8-depacketize-only : (k : Vp8Packet) (s : List ℕ) → Determined (λ (r : RtpVp8Read). r ≡ vp8ReadAs (depacketized k s))
-vp8-depacketize-only k s = by_value (vp8ReadAs (depacketized k s))
+pub vp8_depacketize_only : (k : Vp8Packet) (s : List ℕ) → Determined (λ (r : RtpVp8Read). r ≡ vp8_read_as (depacketized k s))
+vp8_depacketize_only k s = by_value (vp8_read_as (depacketized k s))
 
-pub vp8-partition-head-only : (s : List ℕ) → Determined (λ (r : RtpTest). r ≡ testAs (partitionHead s))
-vp8-partition-head-only s = by_value (testAs (partitionHead s))
+pub vp8_partition_head_only : (s : List ℕ) → Determined (λ (r : RtpTest). r ≡ test_as (partition_head s))
+vp8_partition_head_only s = by_value (test_as (partition_head s))
 
 -- the partition tails of both: the marker
-pub partition-tail-only : (marker : Bool) → Determined (λ (r : Bool). r ≡ marker)
-partition-tail-only marker = by_value marker
+pub partition_tail_only : (marker : Bool) → Determined (λ (r : Bool). r ≡ marker)
+partition_tail_only marker = by_value marker
 
 -- ---- the joiner
 
-pub joiner-open-only : (source first : ℕ) → Determined (λ (r : Joiner). r ≡ opened source first)
-joiner-open-only source first = by_value (opened source first)
+pub joiner_open_only : (source first : ℕ) → Determined (λ (r : Joiner). r ≡ opened source first)
+joiner_open_only source first = by_value (opened source first)
 
-pub joiner-join-only : (j : Joiner) (packet gather out : List ℕ) →
-    let s = joinStep j packet gather out in
+pub joiner_join_only : (j : Joiner) (packet gather out : List ℕ) →
+    let s = join_step j packet gather out in
     Determined (λ (r : RtpJoined × (Joiner × (List ℕ × List ℕ))).
-    (r.0 ≡ joinedAs s.answer) × ((r.1.0 ≡ s.joiner) × ((r.1.1.0 ≡ s.gather) × (r.1.1.1 ≡ s.out))))
-joiner-join-only j packet gather out =
-    let s : Stepped = joinStep j packet gather out in
-    by_both (by_value (joinedAs s.answer)) (by_three s.joiner s.gather s.out)
+    (r.0 ≡ joined_as s.answer) × ((r.1.0 ≡ s.joiner) × ((r.1.1.0 ≡ s.gather) × (r.1.1.1 ≡ s.out))))
+joiner_join_only j packet gather out =
+    let s : Stepped = join_step j packet gather out in
+    by_both (by_value (joined_as s.answer)) (by_three s.joiner s.gather s.out)
 
-pub joiner-close-only : (j : Joiner) (number : ℕ) → Determined (λ (r : RtpClosed). r ≡ closedAs (closeStep j number))
-joiner-close-only j number = by_value (closedAs (closeStep j number))
+pub joiner_close_only : (j : Joiner) (number : ℕ) → Determined (λ (r : RtpClosed). r ≡ closed_as (close_step j number))
+joiner_close_only j number = by_value (closed_as (close_step j number))
 
 -- ---- the sizes
 
-pub sizes-only : Determined (λ (r : RtpSizes). r ≡ sizes)
-sizes-only = by_value sizes
+pub sizes_only : Determined (λ (r : RtpSizes). r ≡ sizes)
+sizes_only = by_value sizes

@@ -10,28 +10,28 @@ use Rattle.gateway.specs.declared.rtp_parts.RtpPacketFront.{RtpPacketFront}
 use Rattle.gateway.specs.Refused.{number_in}
 
 -- "A refusal returns its number"; 0 where the call answers
-abbrev pub refusalIn : {A : Type 0} → Said A → ℕ
-refusalIn (says x) = 0
-refusalIn (refused r) = r.number
+abbrev pub refusal_in : {A : Type 0} → Said A → ℕ
+refusal_in (says x) = 0
+refusal_in (refused r) = r.number
 
 -- a number of bytes
-abbrev pub bytesAs : Said ℕ → RtpBytes
-bytesAs x = record { number = refusalIn x; bytes = number_in (λ n. n) x }
+abbrev pub bytes_as : Said ℕ → RtpBytes
+bytes_as x = record { number = refusal_in x; bytes = number_in (λ n. n) x }
 
 -- the payload's place, beside the front
-abbrev pub headerFrontAs : FrontHeard → RtpHeaderFront
-headerFrontAs h = record { number = refusalIn h.answer; at = number_in (λ n. n) h.answer; front = h.front }
+abbrev pub header_front_as : FrontHeard → RtpHeaderFront
+header_front_as h = record { number = refusal_in h.answer; at = number_in (λ n. n) h.answer; front = h.front }
 
 -- the payload's place and length, beside the front
-abbrev pub packetFrontAs : packet.FrontHeard → RtpPacketFront
-packetFrontAs h =
+abbrev pub packet_front_as : packet.FrontHeard → RtpPacketFront
+packet_front_as h =
     record {
-      number = refusalIn h.answer;
+      number = refusal_in h.answer;
       at = number_in (λ (p : Payload). p.place) h.answer;
       len = number_in (λ (p : Payload). p.len) h.answer;
       front = h.front;
     }
 
 -- how a caller reads it: number 0: the values beside it; else the refusal, which carries nothing
-abbrev pub saidWith : {A : Type 0} → ℕ → A → Said A
-saidWith n x = cond (eqb n 0) (says x) (refused (record { number = n; carried = [] }))
+abbrev pub said_with : {A : Type 0} → ℕ → A → Said A
+said_with n x = cond (eqb n 0) (says x) (refused (record { number = n; carried = [] }))

@@ -64,30 +64,30 @@ fixed = struct (u8 ∷ flag ∷ flag ∷ flag ∷ u8 ∷ u16 ∷ u32 ∷ u32 ∷
 abbrev pub front : Laid
 front = struct (fixed ∷ word ∷ word ∷ word ∷ u16 ∷ [])
 
-abbrev pub parameterSet : Laid
-parameterSet = struct (array 1024 u8 ∷ word ∷ [])
+abbrev pub parameter_set : Laid
+parameter_set = struct (array 1024 u8 ∷ word ∷ [])
 
-abbrev pub h264Payloader : Laid
-h264Payloader = struct (parameterSet ∷ parameterSet ∷ [])
+abbrev pub h264_payloader : Laid
+h264_payloader = struct (parameter_set ∷ parameter_set ∷ [])
 
-abbrev pub lentPayloader : Laid
-lentPayloader = struct (word ∷ word ∷ [])
+abbrev pub lent_payloader : Laid
+lent_payloader = struct (word ∷ word ∷ [])
 
 -- the counts, beside the sender
-abbrev pub h264Sent : Laid → Laid
-h264Sent sender = struct (refused ∷ word ∷ word ∷ word ∷ word ∷ sender ∷ [])
+abbrev pub h264_sent : Laid → Laid
+h264_sent sender = struct (refused ∷ word ∷ word ∷ word ∷ word ∷ sender ∷ [])
 
-abbrev pub h264Packet : Laid
-h264Packet = struct (flag ∷ word ∷ [])
+abbrev pub h264_packet : Laid
+h264_packet = struct (flag ∷ word ∷ [])
 
 abbrev pub body : Laid
 body = struct (u8 ∷ word ∷ word ∷ [])
 
-abbrev pub vp8Payloader : Laid
-vp8Payloader = struct (flag ∷ u16 ∷ [])
+abbrev pub vp8_payloader : Laid
+vp8_payloader = struct (flag ∷ u16 ∷ [])
 
-abbrev pub vp8Packet : Laid
-vp8Packet = struct (u8 ∷ u8 ∷ u8 ∷ u8 ∷ u8 ∷ u8 ∷ u8 ∷ u8 ∷ u16 ∷ u8 ∷ u8 ∷ u8 ∷ u8 ∷ [])
+abbrev pub vp8_packet : Laid
+vp8_packet = struct (u8 ∷ u8 ∷ u8 ∷ u8 ∷ u8 ∷ u8 ∷ u8 ∷ u8 ∷ u16 ∷ u8 ∷ u8 ∷ u8 ∷ u8 ∷ [])
 
 abbrev pub joiner : Laid
 joiner = struct (u32 ∷ u16 ∷ u32 ∷ flag ∷ word ∷ u32 ∷ flag ∷ flag ∷ [])
@@ -110,18 +110,18 @@ sizes =
       ids = (struct (refused ∷ word ∷ array 32 u8 ∷ [])).size;
       packet_front = (struct (word ∷ word ∷ word ∷ front ∷ [])).size;
       packet_read = (struct (refused ∷ word ∷ word ∷ header ∷ [])).size;
-      parameter_set = parameterSet.size;
-      h264_payloader = h264Payloader.size;
-      h264_sent = (h264Sent h264Payloader).size;
-      h264_lent_payloader = lentPayloader.size;
-      h264_lent_sent = (h264Sent lentPayloader).size;
-      h264_packet = h264Packet.size;
+      parameter_set = parameter_set.size;
+      h264_payloader = h264_payloader.size;
+      h264_sent = (h264_sent h264_payloader).size;
+      h264_lent_payloader = lent_payloader.size;
+      h264_lent_sent = (h264_sent lent_payloader).size;
+      h264_packet = h264_packet.size;
       body = body.size;
-      h264_read = (struct (refused ∷ word ∷ body ∷ h264Packet ∷ [])).size;
-      vp8_payloader = vp8Payloader.size;
-      vp8_sent = (struct (refused ∷ word ∷ word ∷ vp8Payloader ∷ [])).size;
-      vp8_packet = vp8Packet.size;
-      vp8_read = (struct (refused ∷ word ∷ vp8Packet ∷ [])).size;
+      h264_read = (struct (refused ∷ word ∷ body ∷ h264_packet ∷ [])).size;
+      vp8_payloader = vp8_payloader.size;
+      vp8_sent = (struct (refused ∷ word ∷ word ∷ vp8_payloader ∷ [])).size;
+      vp8_packet = vp8_packet.size;
+      vp8_read = (struct (refused ∷ word ∷ vp8_packet ∷ [])).size;
       joiner = joiner.size;
       joined = (struct (refused ∷ flag ∷ u16 ∷ u16 ∷ word ∷ [])).size;
       closed = (struct (refused ∷ u16 ∷ u16 ∷ joiner ∷ [])).size;

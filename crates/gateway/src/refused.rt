@@ -1,8 +1,8 @@
 // A refusal in a record that C and Rust can read.
 ghost use Rattle.std.specs.Prelude.{◌≡◌};
-ghost use Rattle.error.specs.Refusal.{carriedBy, refusalOf};
+ghost use Rattle.error.specs.Refusal.{carried_by, refusal_of};
 ghost use Rattle.error.specs.Said.{says, refused};
-ghost use Rattle.gateway.specs.Refused.{carriedAs, refusedAs, notRefused, testAs};
+ghost use Rattle.gateway.specs.Refused.{carried_as, refused_as, not_refused, test_as};
 
 use error::Error;
 
@@ -16,7 +16,7 @@ pub struct Refused {
 }
 
 fn carried(e: Error) -> [usize; 2]
-    ensures { result ≡ carriedAs (carriedBy e) }
+    ensures { result ≡ carried_as (carried_by e) }
 {
     match e {
         Error::ErrHeaderSizeInsufficient => [0, 0],
@@ -48,7 +48,7 @@ fn carried(e: Error) -> [usize; 2]
 }
 
 pub(crate) fn refusal(e: Error) -> Refused
-    ensures { result ≡ refusedAs (refusalOf e) }
+    ensures { result ≡ refused_as (refusal_of e) }
 {
     Refused {
         number: e.number(),
@@ -57,7 +57,7 @@ pub(crate) fn refusal(e: Error) -> Refused
 }
 
 pub(crate) fn answered() -> Refused
-    ensures { result ≡ notRefused }
+    ensures { result ≡ not_refused }
 {
     Refused {
         number: 0,
@@ -75,7 +75,7 @@ pub struct RtpTest {
 }
 
 pub(crate) fn tested(holds: bool) -> RtpTest
-    ensures { result ≡ testAs (says holds) }
+    ensures { result ≡ test_as (says holds) }
 {
     RtpTest {
         refused: answered(),
@@ -84,7 +84,7 @@ pub(crate) fn tested(holds: bool) -> RtpTest
 }
 
 pub(crate) fn untested(e: Error) -> RtpTest
-    ensures { result ≡ testAs (refused (refusalOf e)) }
+    ensures { result ≡ test_as (refused (refusal_of e)) }
 {
     RtpTest {
         refused: refusal(e),

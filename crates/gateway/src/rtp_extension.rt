@@ -1,8 +1,8 @@
 // The header's extension elements: set, deleted, got, listed.
 ghost use Rattle.std.specs.Prelude.{◌≡◌};
-ghost use Rattle.header.specs.Extension.{setExtension, delExtension, getExtension, getExtensionIds};
-ghost use Rattle.header.specs.Said.{heardChange, changeHeard, saidGot, heardIds, idsHeard};
-ghost use Rattle.gateway.specs.HeaderAnswers.{headerChangedAs, elementAs, idsAs};
+ghost use Rattle.header.specs.Extension.{set_extension, del_extension, get_extension, get_extension_ids};
+ghost use Rattle.header.specs.Said.{heard_change, change_heard, said_got, heard_ids, ids_heard};
+ghost use Rattle.gateway.specs.HeaderAnswers.{header_changed_as, element_as, ids_as};
 
 use crate::refused::{Refused, answered, refusal};
 use header::{Change, Changed, Got, Header, IdCount, Ids};
@@ -40,7 +40,7 @@ pub struct RtpIds {
 }
 
 fn changed(answer: Changed) -> RtpHeaderChanged
-    ensures { result ≡ headerChangedAs (heardChange answer) }
+    ensures { result ≡ header_changed_as (heard_change answer) }
 {
     let change = answer.change;
     let header = answer.header;
@@ -57,7 +57,7 @@ fn changed(answer: Changed) -> RtpHeaderChanged
 }
 
 pub(crate) fn element(answer: Got) -> RtpElement
-    ensures { result ≡ elementAs (saidGot answer) }
+    ensures { result ≡ element_as (said_got answer) }
 {
     match answer {
         Got::Data { at, len } => RtpElement {
@@ -82,7 +82,7 @@ pub(crate) fn element(answer: Got) -> RtpElement
 }
 
 pub(crate) fn listed(answer: Ids) -> RtpIds
-    ensures { result ≡ idsAs (heardIds answer) }
+    ensures { result ≡ ids_as (heard_ids answer) }
 {
     let n = answer.count;
     let ids = answer.ids;
@@ -106,28 +106,28 @@ pub extern "C" fn rtp_header_set_extension(
     id: u8,
     payload: &[u8],
 ) -> RtpHeaderChanged
-    ensures { result ≡ headerChangedAs (changeHeard header (setExtension header id payload.now)) }
+    ensures { result ≡ header_changed_as (change_heard header (set_extension header id payload.now)) }
 {
     changed(header.set_extension(id, payload))
 }
 
 #[unsafe(no_mangle)]
 pub extern "C" fn rtp_header_del_extension(header: Header, id: u8) -> RtpHeaderChanged
-    ensures { result ≡ headerChangedAs (changeHeard header (delExtension header id)) }
+    ensures { result ≡ header_changed_as (change_heard header (del_extension header id)) }
 {
     changed(header.del_extension(id))
 }
 
 #[unsafe(no_mangle)]
 pub extern "C" fn rtp_header_get_extension(header: Header, id: u8) -> RtpElement
-    ensures { result ≡ elementAs (getExtension header id) }
+    ensures { result ≡ element_as (get_extension header id) }
 {
     element(header.get_extension(id))
 }
 
 #[unsafe(no_mangle)]
 pub extern "C" fn rtp_header_get_extension_ids(header: Header) -> RtpIds
-    ensures { result ≡ idsAs (idsHeard (getExtensionIds header)) }
+    ensures { result ≡ ids_as (ids_heard (get_extension_ids header)) }
 {
     listed(header.get_extension_ids())
 }

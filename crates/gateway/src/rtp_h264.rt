@@ -1,11 +1,11 @@
 // H.264: frames sent, payloads read, the partition tests.
 ghost use Rattle.std.specs.Prelude.{◌≡◌, [], ℕ, ◌≤◌, length};
-ghost use Rattle.h264_put.specs.Groups.{nothingSaved};
-ghost use Rattle.h264.specs.Payload.{layOut, said, left, leftLent, payloadOf, lent_of};
-ghost use Rattle.h264_packet.specs.Depacketize.{depacketized, in-packet, Lies, headTest};
-ghost use Rattle.h264_packet.specs.Said.{saidShown, heard, depacketizedHeard, saidHead};
-ghost use Rattle.gateway.specs.Refused.{testAs};
-ghost use Rattle.gateway.specs.H264Answers.{countedAs, h264SentAs, lent, h264LentSentAs, bodyNowhere, bodyAs, h264ReadAs};
+ghost use Rattle.h264_put.specs.Groups.{nothing_saved};
+ghost use Rattle.h264.specs.Payload.{lay_out, said, left, left_lent, payload_of, lent_of};
+ghost use Rattle.h264_packet.specs.Depacketize.{depacketized, in_packet, Lies, head_test};
+ghost use Rattle.h264_packet.specs.Said.{said_shown, heard, depacketized_heard, said_head};
+ghost use Rattle.gateway.specs.Refused.{test_as};
+ghost use Rattle.gateway.specs.H264Answers.{counted_as, h264_sent_as, lent, h264_lent_sent_as, body_nowhere, body_as, h264_read_as};
 
 use crate::refused::{Refused, RtpTest, answered, refusal, tested, untested};
 use h264::{H264Payloader, LentPayloader, LentSent, Payloads, Sent};
@@ -83,7 +83,7 @@ pub struct RtpH264Read {
 }
 
 fn counts(answer: Payloads) -> Counted
-    ensures { result ≡ countedAs (said answer) }
+    ensures { result ≡ counted_as (said answer) }
 {
     match answer {
         Payloads::Written {
@@ -109,7 +109,7 @@ fn counts(answer: Payloads) -> Counted
 }
 
 fn h264_sent(answer: Sent) -> RtpH264Sent
-    ensures { result ≡ h264SentAs (left answer [] []) }
+    ensures { result ≡ h264_sent_as (left answer [] []) }
 {
     let payloads = answer.answer;
     let counted = counts(payloads);
@@ -126,7 +126,7 @@ fn h264_sent(answer: Sent) -> RtpH264Sent
 }
 
 fn h264_lent_sent(answer: LentSent) -> RtpH264LentSent
-    ensures { result ≡ h264LentSentAs (leftLent answer [] [] [] []) }
+    ensures { result ≡ h264_lent_sent_as (left_lent answer [] [] [] []) }
 {
     let payloads = answer.answer;
     let counted = counts(payloads);
@@ -143,7 +143,7 @@ fn h264_lent_sent(answer: LentSent) -> RtpH264LentSent
 }
 
 fn nowhere() -> RtpBody
-    ensures { result ≡ bodyNowhere }
+    ensures { result ≡ body_nowhere }
 {
     RtpBody {
         lies_in: 0,
@@ -154,8 +154,8 @@ fn nowhere() -> RtpBody
 
 // Where `h264_packet::body` shows it, in a payload of this length and any gather buffer that holds it.
 fn body(shown: Shown, payload: usize) -> RtpBody
-    requires { saidShown shown ≡ in-packet → 1 ≤ payload }
-    ensures { (gather : ℕ) → Lies (saidShown shown) payload gather → result ≡ bodyAs (saidShown shown) payload gather }
+    requires { said_shown shown ≡ in_packet → 1 ≤ payload }
+    ensures { (gather : ℕ) → Lies (said_shown shown) payload gather → result ≡ body_as (said_shown shown) payload gather }
 {
     match shown {
         Shown::Nowhere => nowhere(),
@@ -173,8 +173,8 @@ fn body(shown: Shown, payload: usize) -> RtpBody
 }
 
 fn h264_read(answer: Depacketized, payload: usize) -> RtpH264Read
-    requires { saidShown answer.shown ≡ in-packet → 1 ≤ payload }
-    ensures { (gather : ℕ) → Lies (saidShown answer.shown) payload gather → result ≡ h264ReadAs (heard answer [] []) payload gather }
+    requires { said_shown answer.shown ≡ in_packet → 1 ≤ payload }
+    ensures { (gather : ℕ) → Lies (said_shown answer.shown) payload gather → result ≡ h264_read_as (heard answer [] []) payload gather }
 {
     let read = answer.answer;
     let shown = answer.shown;
@@ -196,7 +196,7 @@ fn h264_read(answer: Depacketized, payload: usize) -> RtpH264Read
 }
 
 fn head_test(answer: Head) -> RtpTest
-    ensures { result ≡ testAs (saidHead answer) }
+    ensures { result ≡ test_as (said_head answer) }
 {
     match answer {
         Head::Is(holds) => tested(holds),
@@ -207,7 +207,7 @@ fn head_test(answer: Head) -> RtpTest
 // A sender with nothing saved.
 #[unsafe(no_mangle)]
 pub extern "C" fn rtp_h264_payloader_new() -> H264Payloader
-    ensures { result ≡ layOut nothingSaved }
+    ensures { result ≡ lay_out nothing_saved }
 {
     H264Payloader::new()
 }
@@ -222,9 +222,9 @@ pub extern "C" fn rtp_h264_payload(
     out: &mut [u8],
     ends: &mut [usize],
 ) -> RtpH264Sent
-    ensures value { result ≡ h264SentAs (payloadOf sender mtu frame.now out.old ends.old) }
-    ensures out_after { out.new ≡ (payloadOf sender mtu frame.now out.old ends.old).out }
-    ensures ends_after { ends.new ≡ (payloadOf sender mtu frame.now out.old ends.old).ends }
+    ensures value { result ≡ h264_sent_as (payload_of sender mtu frame.now out.old ends.old) }
+    ensures out_after { out.new ≡ (payload_of sender mtu frame.now out.old ends.old).out }
+    ensures ends_after { ends.new ≡ (payload_of sender mtu frame.now out.old ends.old).ends }
 {
     h264_sent(sender.payload(mtu, frame, out, ends))
 }
@@ -240,7 +240,7 @@ pub extern "C" fn rtp_h264_lent_payload(
     out: &mut [u8],
     ends: &mut [usize],
 ) -> RtpH264LentSent
-    ensures value { result ≡ h264LentSentAs (lent_of (lent sender sps.old pps.old) mtu frame.now out.old ends.old) }
+    ensures value { result ≡ h264_lent_sent_as (lent_of (lent sender sps.old pps.old) mtu frame.now out.old ends.old) }
     ensures sps_after { sps.new ≡ (lent_of (lent sender sps.old pps.old) mtu frame.now out.old ends.old).sender.sps }
     ensures pps_after { pps.new ≡ (lent_of (lent sender sps.old pps.old) mtu frame.now out.old ends.old).sender.pps }
     ensures out_after { out.new ≡ (lent_of (lent sender sps.old pps.old) mtu frame.now out.old ends.old).out }
@@ -257,16 +257,16 @@ pub extern "C" fn rtp_h264_depacketize(
     gather: &mut [u8],
     out: &mut [u8],
 ) -> RtpH264Read
-    ensures value { result ≡ h264ReadAs (depacketizedHeard packet payload.now (depacketized packet.is_avc packet.gathered payload.now gather.old out.old)) (length payload.now) (length gather.old) }
-    ensures gather_after { gather.new ≡ (depacketizedHeard packet payload.now (depacketized packet.is_avc packet.gathered payload.now gather.old out.old)).gather }
-    ensures out_after { out.new ≡ (depacketizedHeard packet payload.now (depacketized packet.is_avc packet.gathered payload.now gather.old out.old)).out }
+    ensures value { result ≡ h264_read_as (depacketized_heard packet payload.now (depacketized packet.is_avc packet.gathered payload.now gather.old out.old)) (length payload.now) (length gather.old) }
+    ensures gather_after { gather.new ≡ (depacketized_heard packet payload.now (depacketized packet.is_avc packet.gathered payload.now gather.old out.old)).gather }
+    ensures out_after { out.new ≡ (depacketized_heard packet payload.now (depacketized packet.is_avc packet.gathered payload.now gather.old out.old)).out }
 {
     h264_read(packet.depacketize(payload, gather, out), payload.len())
 }
 
 #[unsafe(no_mangle)]
 pub extern "C" fn rtp_h264_is_partition_head(payload: &[u8]) -> RtpTest
-    ensures { result ≡ testAs (headTest payload.now) }
+    ensures { result ≡ test_as (head_test payload.now) }
 {
     head_test(h264_packet::is_partition_head(payload))
 }

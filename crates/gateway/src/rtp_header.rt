@@ -1,12 +1,12 @@
 // The header: read, sized, written.
 ghost use Rattle.std.specs.Prelude.{◌≡◌, length};
 ghost use Rattle.header.specs.Fields.{blank};
-ghost use Rattle.header.specs.Read.{readHeader};
-ghost use Rattle.header.specs.Size.{sizeAsked, lengthAsked};
-ghost use Rattle.header.specs.Write.{writeHeader};
-ghost use Rattle.header_write.specs.Said.{saidLength};
-ghost use Rattle.header.specs.Said.{heard, readingHeard, written};
-ghost use Rattle.gateway.specs.HeaderAnswers.{headerReadAs, lengthAs};
+ghost use Rattle.header.specs.Read.{read_header};
+ghost use Rattle.header.specs.Size.{size_asked, length_asked};
+ghost use Rattle.header.specs.Write.{write_header};
+ghost use Rattle.header_write.specs.Said.{said_length};
+ghost use Rattle.header.specs.Said.{heard, reading_heard, written};
+ghost use Rattle.gateway.specs.HeaderAnswers.{header_read_as, length_as};
 
 use crate::refused::{Refused, answered, refusal};
 use header::{Header, HeaderRead, Length, Unmarshalled};
@@ -32,7 +32,7 @@ pub struct RtpLength {
 }
 
 fn header_read(answer: Unmarshalled) -> RtpHeaderRead
-    ensures { result ≡ headerReadAs (heard answer) }
+    ensures { result ≡ header_read_as (heard answer) }
 {
     let read = answer.read;
     let header = answer.header;
@@ -51,7 +51,7 @@ fn header_read(answer: Unmarshalled) -> RtpHeaderRead
 }
 
 pub(crate) fn measured(answer: Length) -> RtpLength
-    ensures { result ≡ lengthAs (saidLength answer) }
+    ensures { result ≡ length_as (said_length answer) }
 {
     match answer {
         Length::Bytes(bytes) => RtpLength {
@@ -75,29 +75,29 @@ pub extern "C" fn rtp_header_default() -> Header
 
 #[unsafe(no_mangle)]
 pub extern "C" fn rtp_header_unmarshal(packet: &[u8]) -> RtpHeaderRead
-    ensures { result ≡ headerReadAs (readingHeard (readHeader packet.now)) }
+    ensures { result ≡ header_read_as (reading_heard (read_header packet.now)) }
 {
     header_read(Header::unmarshal(packet))
 }
 
 #[unsafe(no_mangle)]
 pub extern "C" fn rtp_header_marshal_size(header: Header) -> RtpLength
-    ensures { result ≡ lengthAs (sizeAsked header) }
+    ensures { result ≡ length_as (size_asked header) }
 {
     measured(header.marshal_size())
 }
 
 #[unsafe(no_mangle)]
 pub extern "C" fn rtp_header_marshal_to(header: Header, buf: &mut [u8]) -> RtpLength
-    ensures value { result ≡ lengthAs (written buf.old (writeHeader header (length buf.old))).answer }
-    ensures buf_after { buf.new ≡ (written buf.old (writeHeader header (length buf.old))).buffer }
+    ensures value { result ≡ length_as (written buf.old (write_header header (length buf.old))).answer }
+    ensures buf_after { buf.new ≡ (written buf.old (write_header header (length buf.old))).buffer }
 {
     measured(header.marshal_to(buf))
 }
 
 #[unsafe(no_mangle)]
 pub extern "C" fn rtp_header_get_extension_payload_len(header: Header) -> RtpLength
-    ensures { result ≡ lengthAs (lengthAsked header) }
+    ensures { result ≡ length_as (length_asked header) }
 {
     measured(header.get_extension_payload_len())
 }

@@ -1,8 +1,8 @@
 // The joiner: opened, brought up to date by each packet, closed.
 ghost use Rattle.std.specs.Prelude.{◌≡◌};
-ghost use Rattle.joiner.specs.Join.{opened, joinStep, closeStep};
-ghost use Rattle.joiner.specs.Said.{saidJoined, closingHeard};
-ghost use Rattle.gateway.specs.JoinerAnswers.{joinedAs, closedAs};
+ghost use Rattle.joiner.specs.Join.{opened, join_step, close_step};
+ghost use Rattle.joiner.specs.Said.{said_joined, closing_heard};
+ghost use Rattle.gateway.specs.JoinerAnswers.{joined_as, closed_as};
 
 use crate::refused::{Refused, answered, refusal};
 use joiner::{Closed, Closing, Joined, Joiner};
@@ -36,7 +36,7 @@ pub struct RtpClosed {
 }
 
 fn joined(answer: Joined) -> RtpJoined
-    ensures { result ≡ joinedAs (saidJoined answer) }
+    ensures { result ≡ joined_as (said_joined answer) }
 {
     match answer {
         Joined::Accepted {
@@ -68,7 +68,7 @@ fn joined(answer: Joined) -> RtpJoined
 }
 
 fn closed(closing: Closing) -> RtpClosed
-    ensures { result ≡ closedAs (closingHeard closing) }
+    ensures { result ≡ closed_as (closing_heard closing) }
 {
     let answer = closing.answer;
     let joiner = closing.joiner;
@@ -103,10 +103,10 @@ pub extern "C" fn rtp_joiner_join(
     gather: &mut [u8],
     out: &mut [u8],
 ) -> RtpJoined
-    ensures { (result ≡ joinedAs (joinStep j.old packet.now gather.old out.old).answer)
-        × (j.new ≡ (joinStep j.old packet.now gather.old out.old).joiner)
-        × (gather.new ≡ (joinStep j.old packet.now gather.old out.old).gather)
-        × (out.new ≡ (joinStep j.old packet.now gather.old out.old).out) }
+    ensures { (result ≡ joined_as (join_step j.old packet.now gather.old out.old).answer)
+        × (j.new ≡ (join_step j.old packet.now gather.old out.old).joiner)
+        × (gather.new ≡ (join_step j.old packet.now gather.old out.old).gather)
+        × (out.new ≡ (join_step j.old packet.now gather.old out.old).out) }
 {
     joined(joiner::join_in_place(j, packet, gather, out))
 }
@@ -114,7 +114,7 @@ pub extern "C" fn rtp_joiner_join(
 // Closes it with the number after the last sent.
 #[unsafe(no_mangle)]
 pub extern "C" fn rtp_joiner_close(joiner: Joiner, number: u16) -> RtpClosed
-    ensures { result ≡ closedAs (closeStep joiner number) }
+    ensures { result ≡ closed_as (close_step joiner number) }
 {
     closed(joiner.close(number))
 }

@@ -1,11 +1,11 @@
 // The packet with its padding: read, sized, written.
 ghost use Rattle.std.specs.Prelude.{◌≡◌, length};
 ghost use Rattle.header.specs.Said.{written};
-ghost use Rattle.packet.specs.Read.{readPacket};
-ghost use Rattle.packet.specs.Write.{packetSizeAsked, writePacket};
-ghost use Rattle.packet.specs.Said.{heard, readingHeard};
-ghost use Rattle.gateway.specs.HeaderAnswers.{lengthAs};
-ghost use Rattle.gateway.specs.PacketAnswers.{packetReadAs};
+ghost use Rattle.packet.specs.Read.{read_packet};
+ghost use Rattle.packet.specs.Write.{packet_size_asked, write_packet};
+ghost use Rattle.packet.specs.Said.{heard, reading_heard};
+ghost use Rattle.gateway.specs.HeaderAnswers.{length_as};
+ghost use Rattle.gateway.specs.PacketAnswers.{packet_read_as};
 
 use crate::refused::{Refused, answered, refusal};
 use crate::rtp_header::{RtpLength, measured};
@@ -26,7 +26,7 @@ pub struct RtpPacketRead {
 }
 
 fn packet_read(answer: Unmarshalled) -> RtpPacketRead
-    ensures { result ≡ packetReadAs (heard answer) }
+    ensures { result ≡ packet_read_as (heard answer) }
 {
     let read = answer.read;
     let header = answer.header;
@@ -48,22 +48,22 @@ fn packet_read(answer: Unmarshalled) -> RtpPacketRead
 
 #[unsafe(no_mangle)]
 pub extern "C" fn rtp_packet_unmarshal(packet: &[u8]) -> RtpPacketRead
-    ensures { result ≡ packetReadAs (readingHeard (readPacket packet.now)) }
+    ensures { result ≡ packet_read_as (reading_heard (read_packet packet.now)) }
 {
     packet_read(packet::unmarshal(packet))
 }
 
 #[unsafe(no_mangle)]
 pub extern "C" fn rtp_packet_marshal_size(header: Header, payload: &[u8]) -> RtpLength
-    ensures { result ≡ lengthAs (packetSizeAsked header payload.now) }
+    ensures { result ≡ length_as (packet_size_asked header payload.now) }
 {
     measured(packet::marshal_size(header, payload))
 }
 
 #[unsafe(no_mangle)]
 pub extern "C" fn rtp_packet_marshal_to(header: Header, payload: &[u8], buf: &mut [u8]) -> RtpLength
-    ensures value { result ≡ lengthAs (written buf.old (writePacket header payload.now (length buf.old))).answer }
-    ensures buf_after { buf.new ≡ (written buf.old (writePacket header payload.now (length buf.old))).buffer }
+    ensures value { result ≡ length_as (written buf.old (write_packet header payload.now (length buf.old))).answer }
+    ensures buf_after { buf.new ≡ (written buf.old (write_packet header payload.now (length buf.old))).buffer }
 {
     measured(packet::marshal_to(header, payload, buf))
 }

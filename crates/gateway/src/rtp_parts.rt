@@ -1,18 +1,18 @@
 // Headers and packets in parts: what is small of a header's record by value, its arrays lent, so that no record is copied.
 ghost use Rattle.std.specs.Prelude.{◌≡◌, length};
-ghost use Rattle.header.specs.Read.{readHeader};
-ghost use Rattle.header.specs.Size.{sizeAsked, lengthAsked};
-ghost use Rattle.header.specs.Write.{writeHeader};
-ghost use Rattle.header.specs.Extension.{getExtension, getExtensionIds};
-ghost use Rattle.header.specs.Said.{written, idsHeard, readingHeard as headerHeard};
-ghost use Rattle.header.specs.Parts.{together, bare, heardFront as heardHeader, frontHeard as headerFront, lentRead as headerLent};
-ghost use Rattle.header_write.specs.Said.{saidLength};
-ghost use Rattle.packet.specs.Read.{readPacket};
-ghost use Rattle.packet.specs.Write.{packetSizeAsked, writePacket};
-ghost use Rattle.packet.specs.Said.{readingHeard as packetHeard};
-ghost use Rattle.packet.specs.Fronts.{heardFront as heardPacket, frontHeard as packetFront, lentRead as packetLent};
-ghost use Rattle.gateway.specs.HeaderAnswers.{elementAs, idsAs};
-ghost use Rattle.gateway.specs.PartsAnswers.{bytesAs, headerFrontAs, packetFrontAs};
+ghost use Rattle.header.specs.Read.{read_header};
+ghost use Rattle.header.specs.Size.{size_asked, length_asked};
+ghost use Rattle.header.specs.Write.{write_header};
+ghost use Rattle.header.specs.Extension.{get_extension, get_extension_ids};
+ghost use Rattle.header.specs.Said.{written, ids_heard, reading_heard as headerHeard};
+ghost use Rattle.header.specs.Parts.{together, bare, heard_front as heardHeader, front_heard as headerFront, lent_read as headerLent};
+ghost use Rattle.header_write.specs.Said.{said_length};
+ghost use Rattle.packet.specs.Read.{read_packet};
+ghost use Rattle.packet.specs.Write.{packet_size_asked, write_packet};
+ghost use Rattle.packet.specs.Said.{reading_heard as packetHeard};
+ghost use Rattle.packet.specs.Fronts.{heard_front as heardPacket, front_heard as packetFront, lent_read as packetLent};
+ghost use Rattle.gateway.specs.HeaderAnswers.{element_as, ids_as};
+ghost use Rattle.gateway.specs.PartsAnswers.{bytes_as, header_front_as, packet_front_as};
 
 use crate::rtp_extension::{RtpElement, RtpIds, element, listed};
 use header::{Fixed, Front, HeaderRead, Length};
@@ -55,7 +55,7 @@ pub struct RtpPacketFront {
 }
 
 fn counted(answer: Length) -> RtpBytes
-    ensures { result ≡ bytesAs (saidLength answer) }
+    ensures { result ≡ bytes_as (said_length answer) }
 {
     match answer {
         Length::Bytes(bytes) => RtpBytes { number: 0, bytes },
@@ -67,7 +67,7 @@ fn counted(answer: Length) -> RtpBytes
 }
 
 fn header_front(answer: header::FrontRead) -> RtpHeaderFront
-    ensures { result ≡ headerFrontAs (heardHeader answer) }
+    ensures { result ≡ header_front_as (heardHeader answer) }
 {
     let read = answer.read;
     let front = answer.front;
@@ -86,7 +86,7 @@ fn header_front(answer: header::FrontRead) -> RtpHeaderFront
 }
 
 fn packet_front(answer: packet::FrontRead) -> RtpPacketFront
-    ensures { result ≡ packetFrontAs (heardPacket answer) }
+    ensures { result ≡ packet_front_as (heardPacket answer) }
 {
     let read = answer.read;
     let front = answer.front;
@@ -120,8 +120,8 @@ pub extern "C" fn rtp_header_marshal_parts<'a>(
     padding: usize,
     buf: &mut [u8],
 ) -> RtpBytes
-    ensures value { result ≡ bytesAs (written buf.old (writeHeader (together fixed csrc_count csrc.now profile (record { count = count; ids = ids.now; lens = lens.now; bytes = bytes.now }) padding) (length buf.old))).answer }
-    ensures buf_after { buf.new ≡ (written buf.old (writeHeader (together fixed csrc_count csrc.now profile (record { count = count; ids = ids.now; lens = lens.now; bytes = bytes.now }) padding) (length buf.old))).buffer }
+    ensures value { result ≡ bytes_as (written buf.old (write_header (together fixed csrc_count csrc.now profile (record { count = count; ids = ids.now; lens = lens.now; bytes = bytes.now }) padding) (length buf.old))).answer }
+    ensures buf_after { buf.new ≡ (written buf.old (write_header (together fixed csrc_count csrc.now profile (record { count = count; ids = ids.now; lens = lens.now; bytes = bytes.now }) padding) (length buf.old))).buffer }
 {
     counted(header::marshal_parts(
         fixed, csrc_count, csrc, profile, count, ids, lens, bytes, padding, buf,
@@ -136,8 +136,8 @@ pub extern "C" fn rtp_header_marshal_bare(
     padding: usize,
     buf: &mut [u8],
 ) -> RtpBytes
-    ensures value { result ≡ bytesAs (written buf.old (writeHeader (bare fixed profile padding) (length buf.old))).answer }
-    ensures buf_after { buf.new ≡ (written buf.old (writeHeader (bare fixed profile padding) (length buf.old))).buffer }
+    ensures value { result ≡ bytes_as (written buf.old (write_header (bare fixed profile padding) (length buf.old))).answer }
+    ensures buf_after { buf.new ≡ (written buf.old (write_header (bare fixed profile padding) (length buf.old))).buffer }
 {
     counted(header::marshal_bare(fixed, profile, padding, buf))
 }
@@ -157,8 +157,8 @@ pub extern "C" fn rtp_packet_marshal_parts<'a>(
     payload: &[u8],
     buf: &mut [u8],
 ) -> RtpBytes
-    ensures value { result ≡ bytesAs (written buf.old (writePacket (together fixed csrc_count csrc.now profile (record { count = count; ids = ids.now; lens = lens.now; bytes = bytes.now }) padding) payload.now (length buf.old))).answer }
-    ensures buf_after { buf.new ≡ (written buf.old (writePacket (together fixed csrc_count csrc.now profile (record { count = count; ids = ids.now; lens = lens.now; bytes = bytes.now }) padding) payload.now (length buf.old))).buffer }
+    ensures value { result ≡ bytes_as (written buf.old (write_packet (together fixed csrc_count csrc.now profile (record { count = count; ids = ids.now; lens = lens.now; bytes = bytes.now }) padding) payload.now (length buf.old))).answer }
+    ensures buf_after { buf.new ≡ (written buf.old (write_packet (together fixed csrc_count csrc.now profile (record { count = count; ids = ids.now; lens = lens.now; bytes = bytes.now }) padding) payload.now (length buf.old))).buffer }
 {
     counted(packet::marshal_parts(
         fixed, csrc_count, csrc, profile, count, ids, lens, bytes, padding, payload, buf,
@@ -174,8 +174,8 @@ pub extern "C" fn rtp_packet_marshal_bare(
     payload: &[u8],
     buf: &mut [u8],
 ) -> RtpBytes
-    ensures value { result ≡ bytesAs (written buf.old (writePacket (bare fixed profile padding) payload.now (length buf.old))).answer }
-    ensures buf_after { buf.new ≡ (written buf.old (writePacket (bare fixed profile padding) payload.now (length buf.old))).buffer }
+    ensures value { result ≡ bytes_as (written buf.old (write_packet (bare fixed profile padding) payload.now (length buf.old))).answer }
+    ensures buf_after { buf.new ≡ (written buf.old (write_packet (bare fixed profile padding) payload.now (length buf.old))).buffer }
 {
     counted(packet::marshal_bare(fixed, profile, padding, payload, buf))
 }
@@ -193,7 +193,7 @@ pub extern "C" fn rtp_header_marshal_size_parts<'a>(
     bytes: &'a [u8; 1024],
     padding: usize,
 ) -> RtpBytes
-    ensures { result ≡ bytesAs (sizeAsked (together fixed csrc_count csrc.now profile (record { count = count; ids = ids.now; lens = lens.now; bytes = bytes.now }) padding)) }
+    ensures { result ≡ bytes_as (size_asked (together fixed csrc_count csrc.now profile (record { count = count; ids = ids.now; lens = lens.now; bytes = bytes.now }) padding)) }
 {
     counted(header::marshal_size_parts(
         fixed, csrc_count, csrc, profile, count, ids, lens, bytes, padding,
@@ -213,7 +213,7 @@ pub extern "C" fn rtp_header_get_extension_payload_len_parts<'a>(
     bytes: &'a [u8; 1024],
     padding: usize,
 ) -> RtpBytes
-    ensures { result ≡ bytesAs (lengthAsked (together fixed csrc_count csrc.now profile (record { count = count; ids = ids.now; lens = lens.now; bytes = bytes.now }) padding)) }
+    ensures { result ≡ bytes_as (length_asked (together fixed csrc_count csrc.now profile (record { count = count; ids = ids.now; lens = lens.now; bytes = bytes.now }) padding)) }
 {
     counted(header::get_extension_payload_len_parts(
         fixed, csrc_count, csrc, profile, count, ids, lens, bytes, padding,
@@ -234,7 +234,7 @@ pub extern "C" fn rtp_header_get_extension_parts<'a>(
     padding: usize,
     id: u8,
 ) -> RtpElement
-    ensures { result ≡ elementAs (getExtension (together fixed csrc_count csrc.now profile (record { count = count; ids = ids.now; lens = lens.now; bytes = bytes.now }) padding) id) }
+    ensures { result ≡ element_as (get_extension (together fixed csrc_count csrc.now profile (record { count = count; ids = ids.now; lens = lens.now; bytes = bytes.now }) padding) id) }
 {
     element(header::get_extension_parts(
         fixed, csrc_count, csrc, profile, count, ids, lens, bytes, padding, id,
@@ -254,7 +254,7 @@ pub extern "C" fn rtp_header_get_extension_ids_parts<'a>(
     bytes: &'a [u8; 1024],
     padding: usize,
 ) -> RtpIds
-    ensures { result ≡ idsAs (idsHeard (getExtensionIds (together fixed csrc_count csrc.now profile (record { count = count; ids = ids.now; lens = lens.now; bytes = bytes.now }) padding))) }
+    ensures { result ≡ ids_as (ids_heard (get_extension_ids (together fixed csrc_count csrc.now profile (record { count = count; ids = ids.now; lens = lens.now; bytes = bytes.now }) padding))) }
 {
     listed(header::get_extension_ids_parts(
         fixed, csrc_count, csrc, profile, count, ids, lens, bytes, padding,
@@ -275,7 +275,7 @@ pub extern "C" fn rtp_packet_marshal_size_parts<'a>(
     padding: usize,
     payload: &[u8],
 ) -> RtpBytes
-    ensures { result ≡ bytesAs (packetSizeAsked (together fixed csrc_count csrc.now profile (record { count = count; ids = ids.now; lens = lens.now; bytes = bytes.now }) padding) payload.now) }
+    ensures { result ≡ bytes_as (packet_size_asked (together fixed csrc_count csrc.now profile (record { count = count; ids = ids.now; lens = lens.now; bytes = bytes.now }) padding) payload.now) }
 {
     counted(packet::marshal_size_parts(
         fixed, csrc_count, csrc, profile, count, ids, lens, bytes, padding, payload,
@@ -285,7 +285,7 @@ pub extern "C" fn rtp_packet_marshal_size_parts<'a>(
 // Reads a header without its arrays.
 #[unsafe(no_mangle)]
 pub extern "C" fn rtp_header_unmarshal_front(packet: &[u8]) -> RtpHeaderFront
-    ensures { result ≡ headerFrontAs (headerFront (headerHeard (readHeader packet.now))) }
+    ensures { result ≡ header_front_as (headerFront (headerHeard (read_header packet.now))) }
 {
     header_front(header::unmarshal_front(packet))
 }
@@ -299,9 +299,9 @@ pub extern "C" fn rtp_header_unmarshal_parts(
     lens: &mut [u16; 32],
     bytes: &mut [u8; 1024],
 ) -> RtpHeaderFront
-    ensures value { result ≡ headerFrontAs (headerFront (headerHeard (readHeader packet.now))) }
+    ensures value { result ≡ header_front_as (headerFront (headerHeard (read_header packet.now))) }
     ensures bytes_after { record { csrc = csrc.exit.now; ids = ids.new; lens = lens.new; bytes = bytes.new }
-        ≡ headerLent (record { csrc = csrc.entry.now; ids = ids.old; lens = lens.old; bytes = bytes.old }) (readHeader packet.now) }
+        ≡ headerLent (record { csrc = csrc.entry.now; ids = ids.old; lens = lens.old; bytes = bytes.old }) (read_header packet.now) }
 {
     header_front(header::unmarshal_parts(packet, csrc, ids, lens, bytes))
 }
@@ -309,7 +309,7 @@ pub extern "C" fn rtp_header_unmarshal_parts(
 // Reads a packet without its header's arrays.
 #[unsafe(no_mangle)]
 pub extern "C" fn rtp_packet_unmarshal_front(packet: &[u8]) -> RtpPacketFront
-    ensures { result ≡ packetFrontAs (packetFront (packetHeard (readPacket packet.now))) }
+    ensures { result ≡ packet_front_as (packetFront (packetHeard (read_packet packet.now))) }
 {
     packet_front(packet::unmarshal_front(packet))
 }
@@ -323,9 +323,9 @@ pub extern "C" fn rtp_packet_unmarshal_parts(
     lens: &mut [u16; 32],
     bytes: &mut [u8; 1024],
 ) -> RtpPacketFront
-    ensures value { result ≡ packetFrontAs (packetFront (packetHeard (readPacket packet.now))) }
+    ensures value { result ≡ packet_front_as (packetFront (packetHeard (read_packet packet.now))) }
     ensures bytes_after { record { csrc = csrc.exit.now; ids = ids.new; lens = lens.new; bytes = bytes.new }
-        ≡ packetLent (record { csrc = csrc.entry.now; ids = ids.old; lens = lens.old; bytes = bytes.old }) (readPacket packet.now) }
+        ≡ packetLent (record { csrc = csrc.entry.now; ids = ids.old; lens = lens.old; bytes = bytes.old }) (read_packet packet.now) }
 {
     packet_front(packet::unmarshal_parts(packet, csrc, ids, lens, bytes))
 }

@@ -4,9 +4,9 @@ ghost use Rattle.vp8_send.specs.Send.{payloaded};
 ghost use Rattle.vp8_send.specs.SendAnswer.{sending};
 ghost use Rattle.vp8_read.specs.Read.{depacketized};
 ghost use Rattle.vp8_read.specs.ReadAnswer.{reading};
-ghost use Rattle.vp8_read.specs.Partition.{partitionHead, saidHead};
-ghost use Rattle.gateway.specs.Refused.{testAs};
-ghost use Rattle.gateway.specs.Vp8Answers.{vp8SentAs, vp8ReadAs};
+ghost use Rattle.vp8_read.specs.Partition.{partition_head, said_head};
+ghost use Rattle.gateway.specs.Refused.{test_as};
+ghost use Rattle.gateway.specs.Vp8Answers.{vp8_sent_as, vp8_read_as};
 
 use crate::refused::{Refused, RtpTest, answered, refusal, tested, untested};
 use vp8::{
@@ -38,7 +38,7 @@ pub struct RtpVp8Read {
 }
 
 fn vp8_sent(answer: Vp8Payloaded) -> RtpVp8Sent
-    ensures { result ≡ vp8SentAs (sending answer [] []) }
+    ensures { result ≡ vp8_sent_as (sending answer [] []) }
 {
     let sent = answer.answer;
     let payloader = answer.payloader;
@@ -59,7 +59,7 @@ fn vp8_sent(answer: Vp8Payloaded) -> RtpVp8Sent
 }
 
 fn vp8_read(answer: Vp8Depacketized) -> RtpVp8Read
-    ensures { result ≡ vp8ReadAs (reading answer) }
+    ensures { result ≡ vp8_read_as (reading answer) }
 {
     let read = answer.read;
     let packet = answer.packet;
@@ -78,7 +78,7 @@ fn vp8_read(answer: Vp8Depacketized) -> RtpVp8Read
 }
 
 fn vp8_head(answer: Vp8PartitionHead) -> RtpTest
-    ensures { result ≡ testAs (saidHead answer) }
+    ensures { result ≡ test_as (said_head answer) }
 {
     match answer {
         Vp8PartitionHead::Head(holds) => tested(holds),
@@ -95,7 +95,7 @@ pub extern "C" fn rtp_vp8_payload(
     out: &mut [u8],
     ends: &mut [usize],
 ) -> RtpVp8Sent
-    ensures value { result ≡ vp8SentAs (payloaded payloader mtu frame.now out.old ends.old) }
+    ensures value { result ≡ vp8_sent_as (payloaded payloader mtu frame.now out.old ends.old) }
     ensures out_after { out.new ≡ (payloaded payloader mtu frame.now out.old ends.old).out }
     ensures ends_after { ends.new ≡ (payloaded payloader mtu frame.now out.old ends.old).ends }
 {
@@ -105,14 +105,14 @@ pub extern "C" fn rtp_vp8_payload(
 // Reads the descriptor in front of a payload. A field that it does not have keeps its value.
 #[unsafe(no_mangle)]
 pub extern "C" fn rtp_vp8_depacketize(packet: Vp8Packet, payload: &[u8]) -> RtpVp8Read
-    ensures { result ≡ vp8ReadAs (depacketized packet payload.now) }
+    ensures { result ≡ vp8_read_as (depacketized packet payload.now) }
 {
     vp8_read(packet.depacketize(payload))
 }
 
 #[unsafe(no_mangle)]
 pub extern "C" fn rtp_vp8_is_partition_head(payload: &[u8]) -> RtpTest
-    ensures { result ≡ testAs (partitionHead payload.now) }
+    ensures { result ≡ test_as (partition_head payload.now) }
 {
     vp8_head(vp8::is_partition_head(payload))
 }

@@ -11,231 +11,231 @@ use lib.ListN.{length}
 use borrow.Author.Tests.{le-leb, lt-leb}
 use Rattle.h264_put.specs.declared.fate.Fate.{Fate}
 use Rattle.h264_put.specs.declared.fate.Fate.TheVariants.{Empty, Dropped, Sps, Pps, Coded}
-use Rattle.h264_put.specs.Groups.{Saved, nothingSaved, bothSaved, Group, plain, fateOf, pairFor, fragmentsOf, unit_for, keepAll, groups_of}
-use Rattle.h264_put.proofs.Sizes.{pair-over, pair-sent}
-use Rattle.h264.specs.Conformance.{unitsIn, carries, carriedIn, isCoded, goesOut, thoseThat}
-use Rattle.h264.specs.Course.{isSps, isPps, latest, Course, quiet, due, unitsOf, Right, Coursed, waitingAfter, alone, groupsIn, some, setsOf, pairFits, sent, isDropped, cannotGo, earlier, earlierSets, replaced, pairsOver, leftOut, total, Same}
-use Rattle.h264.proofs.LeftOut.{unit-carries}
-use Rattle.h264.proofs.Courses.{waits-by-course, groups-by-course}
+use Rattle.h264_put.specs.Groups.{Saved, nothing_saved, both_saved, Group, plain, fate_of, pair_for, fragments_of, unit_for, keep_all, groups_of}
+use Rattle.h264_put.proofs.Sizes.{pair_over, pair_sent}
+use Rattle.h264.specs.Conformance.{units_in, carries, carried_in, is_coded, goes_out, those_that}
+use Rattle.h264.specs.Course.{is_sps, is_pps, latest, Course, quiet, due, units_of, Right, Coursed, waiting_after, alone, groups_in, some, sets_of, pair_fits, sent, is_dropped, cannot_go, earlier, earlier_sets, replaced, pairs_over, left_out, total, Same}
+use Rattle.h264.proofs.LeftOut.{unit_carries}
+use Rattle.h264.proofs.Courses.{waits_by_course, groups_by_course}
 
 -- ---- what goes out
 
-pub carried-append : (a b : List Group) → carriedIn (a ++ b) ≡ carriedIn a ++ carriedIn b
-carried-append [] b = refl
-carried-append (g ∷ a) b =
-    ap (λ (l : List (List ℕ)). carries g ++ l) (carried-append a b) ∙ sym (append_assoc (carries g) (carriedIn a) (carriedIn b))
+pub carried_append : (a b : List Group) → carried_in (a ++ b) ≡ carried_in a ++ carried_in b
+carried_append [] b = refl
+carried_append (g ∷ a) b =
+    ap (λ (l : List (List ℕ)). carries g ++ l) (carried_append a b) ∙ sym (append_assoc (carries g) (carried_in a) (carried_in b))
 
 -- among a unit's own groups there is no pair
-pub unit-carried : (mtu : ℕ) (u : List ℕ) → carriedIn (unit_for mtu u) ≡ unitsIn (unit_for mtu u)
+pub unit_carried : (mtu : ℕ) (u : List ℕ) → carried_in (unit_for mtu u) ≡ units_in (unit_for mtu u)
 unfolding unit_for
-unit-carried mtu u = go (leb (length u) mtu) (ltb mtu 3) u
+unit_carried mtu u = go (leb (length u) mtu) (ltb mtu 3) u
   where
     go : (a b : Bool) (w : List ℕ) →
-        carriedIn (cond a (plain u ∷ []) (cond b [] (fragmentsOf (mtu - 2) w))) ≡ unitsIn (cond a (plain u ∷ []) (cond b [] (fragmentsOf (mtu - 2) w)))
+        carried_in (cond a (plain u ∷ []) (cond b [] (fragments_of (mtu - 2) w))) ≡ units_in (cond a (plain u ∷ []) (cond b [] (fragments_of (mtu - 2) w)))
     go true b w = refl
     go false true w = refl
     go false false [] = refl
     go false false (x ∷ s) = refl
 
-those-alone : (mtu : ℕ) (us : List (List ℕ)) → carriedIn (alone mtu (thoseThat (goesOut mtu) us)) ≡ thoseThat (goesOut mtu) us
-those-alone mtu [] = refl
-those-alone mtu (u ∷ us) = go (goesOut mtu u) refl (those-alone mtu us)
+those_alone : (mtu : ℕ) (us : List (List ℕ)) → carried_in (alone mtu (those_that (goes_out mtu) us)) ≡ those_that (goes_out mtu) us
+those_alone mtu [] = refl
+those_alone mtu (u ∷ us) = go (goes_out mtu u) refl (those_alone mtu us)
   where
     others : List (List ℕ)
-    others = thoseThat (goesOut mtu) us
+    others = those_that (goes_out mtu) us
 
-    go : (t : Bool) → goesOut mtu u ≡ t → carriedIn (alone mtu others) ≡ others →
-        carriedIn (alone mtu (cond t (u ∷ others) others)) ≡ cond t (u ∷ others) others
+    go : (t : Bool) → goes_out mtu u ≡ t → carried_in (alone mtu others) ≡ others →
+        carried_in (alone mtu (cond t (u ∷ others) others)) ≡ cond t (u ∷ others) others
     go false e rest = rest
     go true e rest =
-        carried-append (unit_for mtu u) (alone mtu others)
+        carried_append (unit_for mtu u) (alone mtu others)
         ∙ ap₂ (λ (a b : List (List ℕ)). a ++ b)
-        (unit-carried mtu u ∙ unit-carries mtu u
-        ∙ ap (λ (t : Bool). cond t (u ∷ []) []) ((and-eq-true_iff (isCoded (fateOf u)) (leb (length u) mtu || leb 3 mtu)).0 e).1)
+        (unit_carried mtu u ∙ unit_carries mtu u
+        ∙ ap (λ (t : Bool). cond t (u ∷ []) []) ((and-eq-true_iff (is_coded (fate_of u)) (leb (length u) mtu || leb 3 mtu)).0 e).1)
         rest
 
-some-there : (s : List ℕ) → ltb 0 (length s) ≡ true → some s ≡ s ∷ []
-some-there [] e = absurd (true≢false (sym e))
-some-there (b ∷ s) e = refl
+some_there : (s : List ℕ) → ltb 0 (length s) ≡ true → some s ≡ s ∷ []
+some_there [] e = absurd (true≢false (sym e))
+some_there (b ∷ s) e = refl
 
-pub both-there : (w : Saved) → bothSaved w ≡ true → setsOf w ≡ w.sps ∷ w.pps ∷ []
-both-there w e =
+pub both_there : (w : Saved) → both_saved w ≡ true → sets_of w ≡ w.sps ∷ w.pps ∷ []
+both_there w e =
     let two = (and-eq-true_iff (ltb 0 (length w.sps)) (ltb 0 (length w.pps))).0 e in
-    ap₂ (λ (a b : List (List ℕ)). a ++ b) (some-there w.sps two.0) (some-there w.pps two.1)
+    ap₂ (λ (a b : List (List ℕ)). a ++ b) (some_there w.sps two.0) (some_there w.pps two.1)
 
-pair-carried : (mtu : ℕ) (w : Saved) → bothSaved w ≡ true → carriedIn (pairFor mtu w) ≡ cond (pairFits mtu w) (setsOf w) []
-pair-carried mtu w e = go (dec_le (5 + length w.sps + length w.pps) mtu)
+pair_carried : (mtu : ℕ) (w : Saved) → both_saved w ≡ true → carried_in (pair_for mtu w) ≡ cond (pair_fits mtu w) (sets_of w) []
+pair_carried mtu w e = go (dec_le (5 + length w.sps + length w.pps) mtu)
   where
-    go : Dec (5 + length w.sps + length w.pps ≤ mtu) → carriedIn (pairFor mtu w) ≡ cond (pairFits mtu w) (setsOf w) []
+    go : Dec (5 + length w.sps + length w.pps ≤ mtu) → carried_in (pair_for mtu w) ≡ cond (pair_fits mtu w) (sets_of w) []
     go (yes h) =
-        ap carriedIn (pair-sent mtu w e h)
-        ∙ sym (both-there w e)
-        ∙ sym (ap (λ (t : Bool). cond t (setsOf w) []) (le-leb (5 + length w.sps + length w.pps) mtu h))
+        ap carried_in (pair_sent mtu w e h)
+        ∙ sym (both_there w e)
+        ∙ sym (ap (λ (t : Bool). cond t (sets_of w) []) (le-leb (5 + length w.sps + length w.pps) mtu h))
     go (no h) =
-        ap carriedIn (pair-over mtu w e (omega arith))
-        ∙ sym (ap (λ (t : Bool). cond t (setsOf w) []) (lt-leb (5 + length w.sps + length w.pps) mtu (omega arith)))
+        ap carried_in (pair_over mtu w e (omega arith))
+        ∙ sym (ap (λ (t : Bool). cond t (sets_of w) []) (lt-leb (5 + length w.sps + length w.pps) mtu (omega arith)))
 
-groups-carry : (mtu : ℕ) (v : Saved) (c : Course) → Right v c → carriedIn (groupsIn mtu v c) ≡ sent mtu v c
-groups-carry mtu v (quiet us) r = those-alone mtu us
-groups-carry mtu v (due before unit c) r =
+groups_carry : (mtu : ℕ) (v : Saved) (c : Course) → Right v c → carried_in (groups_in mtu v c) ≡ sent mtu v c
+groups_carry mtu v (quiet us) r = those_alone mtu us
+groups_carry mtu v (due before unit c) r =
     let w : Saved = latest v before in
-    let rest : List Group = groupsIn mtu nothingSaved c in
-    let one : carriedIn (unit_for mtu unit) ≡ thoseThat (goesOut mtu) (unit ∷ []) =
-    unit-carried mtu unit ∙ unit-carries mtu unit
-    ∙ sym (ap (λ (k : Fate). cond (isCoded k && (leb (length unit) mtu || leb 3 mtu)) (unit ∷ []) []) r.1) in
-    carried-append (alone mtu (thoseThat (goesOut mtu) before)) (pairFor mtu w ++ (unit_for mtu unit ++ rest))
-    ∙ ap₂ (λ (a b : List (List ℕ)). a ++ b) (those-alone mtu before)
-    (carried-append (pairFor mtu w) (unit_for mtu unit ++ rest)
-    ∙ ap₂ (λ (a b : List (List ℕ)). a ++ b) (pair-carried mtu w r.2)
-    (carried-append (unit_for mtu unit) rest
-    ∙ ap₂ (λ (a b : List (List ℕ)). a ++ b) one (groups-carry mtu nothingSaved c r.3)))
+    let rest : List Group = groups_in mtu nothing_saved c in
+    let one : carried_in (unit_for mtu unit) ≡ those_that (goes_out mtu) (unit ∷ []) =
+    unit_carried mtu unit ∙ unit_carries mtu unit
+    ∙ sym (ap (λ (k : Fate). cond (is_coded k && (leb (length unit) mtu || leb 3 mtu)) (unit ∷ []) []) r.1) in
+    carried_append (alone mtu (those_that (goes_out mtu) before)) (pair_for mtu w ++ (unit_for mtu unit ++ rest))
+    ∙ ap₂ (λ (a b : List (List ℕ)). a ++ b) (those_alone mtu before)
+    (carried_append (pair_for mtu w) (unit_for mtu unit ++ rest)
+    ∙ ap₂ (λ (a b : List (List ℕ)). a ++ b) (pair_carried mtu w r.2)
+    (carried_append (unit_for mtu unit) rest
+    ∙ ap₂ (λ (a b : List (List ℕ)). a ++ b) one (groups_carry mtu nothing_saved c r.3)))
 
-pub sent-by-course : (mtu : ℕ) (v : Saved) (us : List (List ℕ)) (r : Coursed v us) → carriedIn (groups_of mtu v us) ≡ sent mtu v r.course
-sent-by-course mtu v us r = ap carriedIn (groups-by-course v us r mtu) ∙ groups-carry mtu v r.course r.right
+pub sent_by_course : (mtu : ℕ) (v : Saved) (us : List (List ℕ)) (r : Coursed v us) → carried_in (groups_of mtu v us) ≡ sent mtu v r.course
+sent_by_course mtu v us r = ap carried_in (groups_by_course v us r mtu) ∙ groups_carry mtu v r.course r.right
 
 -- ---- each unit once
 
 module _ (weight : List ℕ → ℕ) where
-  total-append : (a b : List (List ℕ)) → total weight (a ++ b) ≡ total weight a + total weight b
-  total-append [] b = omega arith
-  total-append (u ∷ a) b = let rest = total-append a b in omega arith
+  total_append : (a b : List (List ℕ)) → total weight (a ++ b) ≡ total weight a + total weight b
+  total_append [] b = omega arith
+  total_append (u ∷ a) b = let rest = total_append a b in omega arith
 
-  total-those : (test : List ℕ → Bool) (u : List ℕ) (us : List (List ℕ)) →
-      total weight (thoseThat test (u ∷ us)) ≡ total weight (cond (test u) (u ∷ []) []) + total weight (thoseThat test us)
-  total-those test u us = go (test u)
+  total_those : (test : List ℕ → Bool) (u : List ℕ) (us : List (List ℕ)) →
+      total weight (those_that test (u ∷ us)) ≡ total weight (cond (test u) (u ∷ []) []) + total weight (those_that test us)
+  total_those test u us = go (test u)
     where
-      go : (t : Bool) → total weight (cond t (u ∷ thoseThat test us) (thoseThat test us)) ≡ total weight (cond t (u ∷ []) []) + total weight (thoseThat test us)
+      go : (t : Bool) → total weight (cond t (u ∷ those_that test us) (those_that test us)) ≡ total weight (cond t (u ∷ []) []) + total weight (those_that test us)
       go true = omega arith
       go false = omega arith
 
-  total-sets : (v : Saved) → total weight (setsOf v) ≡ total weight (some v.sps) + total weight (some v.pps)
-  total-sets v = total-append (some v.sps) (some v.pps)
+  total_sets : (v : Saved) → total weight (sets_of v) ≡ total weight (some v.sps) + total weight (some v.pps)
+  total_sets v = total_append (some v.sps) (some v.pps)
 
-  there : (u : List ℕ) → (fateOf u ≡ Empty → ⊥) → total weight (some u) ≡ weight u
+  there : (u : List ℕ) → (fate_of u ≡ Empty → ⊥) → total weight (some u) ≡ weight u
   there [] n = absurd (n refl)
   there (b ∷ s) n = omega arith
 
   -- one unit, by its fate
-  one-balanced : (v : Saved) (u : List ℕ) (k : Fate) (fits : Bool) → fateOf u ≡ k →
-      total weight (setsOf v) + weight u ≡
-      total weight (cond (isCoded k && fits) (u ∷ []) [])
-      + (total weight (cond (isDropped k) (u ∷ []) [])
-      + (total weight (cond (isCoded k && not fits) (u ∷ []) [])
-      + (total weight (cond (isSps k) (some v.sps) [])
-      + (total weight (cond (isPps k) (some v.pps) [])
-      + total weight (setsOf (record { sps = cond (isSps k) u v.sps; pps = cond (isPps k) u v.pps }))))))
-  one-balanced v u Empty fits e = omega arith
-  one-balanced v u Dropped fits e = omega arith
-  one-balanced v u Sps fits e =
-      let z : fateOf u ≡ Empty → ⊥ = λ q. let z : ◌≡◌ {A = ℕ} 0 1 = cc in omega arith in
-      omega (arith, there u z, total-sets v, total-sets (record { sps = u; pps = v.pps }))
-  one-balanced v u Pps fits e =
-      let z : fateOf u ≡ Empty → ⊥ = λ q. let z : ◌≡◌ {A = ℕ} 0 1 = cc in omega arith in
-      omega (arith, there u z, total-sets v, total-sets (record { sps = v.sps; pps = u }))
-  one-balanced v u Coded true e = omega arith
-  one-balanced v u Coded false e = omega arith
+  one_balanced : (v : Saved) (u : List ℕ) (k : Fate) (fits : Bool) → fate_of u ≡ k →
+      total weight (sets_of v) + weight u ≡
+      total weight (cond (is_coded k && fits) (u ∷ []) [])
+      + (total weight (cond (is_dropped k) (u ∷ []) [])
+      + (total weight (cond (is_coded k && not fits) (u ∷ []) [])
+      + (total weight (cond (is_sps k) (some v.sps) [])
+      + (total weight (cond (is_pps k) (some v.pps) [])
+      + total weight (sets_of (record { sps = cond (is_sps k) u v.sps; pps = cond (is_pps k) u v.pps }))))))
+  one_balanced v u Empty fits e = omega arith
+  one_balanced v u Dropped fits e = omega arith
+  one_balanced v u Sps fits e =
+      let z : fate_of u ≡ Empty → ⊥ = λ q. let z : ◌≡◌ {A = ℕ} 0 1 = cc in omega arith in
+      omega (arith, there u z, total_sets v, total_sets (record { sps = u; pps = v.pps }))
+  one_balanced v u Pps fits e =
+      let z : fate_of u ≡ Empty → ⊥ = λ q. let z : ◌≡◌ {A = ℕ} 0 1 = cc in omega arith in
+      omega (arith, there u z, total_sets v, total_sets (record { sps = v.sps; pps = u }))
+  one_balanced v u Coded true e = omega arith
+  one_balanced v u Coded false e = omega arith
 
   balanced : (mtu : ℕ) (v : Saved) (us : List (List ℕ)) →
-      total weight (setsOf v) + total weight us ≡
-      total weight (thoseThat (goesOut mtu) us)
-      + (total weight (thoseThat (λ (u : List ℕ). isDropped (fateOf u)) us)
-      + (total weight (thoseThat (cannotGo mtu) us) + (total weight (earlierSets v us) + total weight (setsOf (latest v us)))))
+      total weight (sets_of v) + total weight us ≡
+      total weight (those_that (goes_out mtu) us)
+      + (total weight (those_that (λ (u : List ℕ). is_dropped (fate_of u)) us)
+      + (total weight (those_that (cannot_go mtu) us) + (total weight (earlier_sets v us) + total weight (sets_of (latest v us)))))
   balanced mtu v [] = omega arith
   balanced mtu v (u ∷ us) =
       let rest = balanced mtu (latest v (u ∷ [])) us in
-      let sps : List ℕ = cond (isSps (fateOf u)) u v.sps in
-      let pps : List ℕ = cond (isPps (fateOf u)) u v.pps in
+      let sps : List ℕ = cond (is_sps (fate_of u)) u v.sps in
+      let pps : List ℕ = cond (is_pps (fate_of u)) u v.pps in
       omega (
         arith,
-        one-balanced v u (fateOf u) (leb (length u) mtu || leb 3 mtu) refl,
-        total-those (goesOut mtu) u us,
-        total-those (λ (u : List ℕ). isDropped (fateOf u)) u us,
-        total-those (cannotGo mtu) u us,
-        total-append (earlier isSps v.sps (u ∷ us)) (earlier isPps v.pps (u ∷ us)),
-        total-append (earlier isSps sps us) (earlier isPps pps us),
-        total-append (cond (isSps (fateOf u)) (some v.sps) []) (earlier isSps sps us),
-        total-append (cond (isPps (fateOf u)) (some v.pps) []) (earlier isPps pps us),
+        one_balanced v u (fate_of u) (leb (length u) mtu || leb 3 mtu) refl,
+        total_those (goes_out mtu) u us,
+        total_those (λ (u : List ℕ). is_dropped (fate_of u)) u us,
+        total_those (cannot_go mtu) u us,
+        total_append (earlier is_sps v.sps (u ∷ us)) (earlier is_pps v.pps (u ∷ us)),
+        total_append (earlier is_sps sps us) (earlier is_pps pps us),
+        total_append (cond (is_sps (fate_of u)) (some v.sps) []) (earlier is_sps sps us),
+        total_append (cond (is_pps (fate_of u)) (some v.pps) []) (earlier is_pps pps us),
       )
 
-  total-those-append : (test : List ℕ → Bool) (a b : List (List ℕ)) →
-      total weight (thoseThat test (a ++ b)) ≡ total weight (thoseThat test a) + total weight (thoseThat test b)
-  total-those-append test [] b = omega arith
-  total-those-append test (u ∷ a) b =
-      let rest = total-those-append test a b in omega (arith, total-those test u (a ++ b), total-those test u a)
+  total_those_append : (test : List ℕ → Bool) (a b : List (List ℕ)) →
+      total weight (those_that test (a ++ b)) ≡ total weight (those_that test a) + total weight (those_that test b)
+  total_those_append test [] b = omega arith
+  total_those_append test (u ∷ a) b =
+      let rest = total_those_append test a b in omega (arith, total_those test u (a ++ b), total_those test u a)
 
   -- a coded unit goes out or cannot
-  coded-balanced : (mtu : ℕ) (u : List ℕ) → fateOf u ≡ Coded →
-      weight u ≡ total weight (thoseThat (goesOut mtu) (u ∷ []))
-      + (total weight (thoseThat (λ (u : List ℕ). isDropped (fateOf u)) (u ∷ [])) + total weight (thoseThat (cannotGo mtu) (u ∷ [])))
-  coded-balanced mtu u e = subst Balanced (sym e) (go (leb (length u) mtu || leb 3 mtu))
+  coded_balanced : (mtu : ℕ) (u : List ℕ) → fate_of u ≡ Coded →
+      weight u ≡ total weight (those_that (goes_out mtu) (u ∷ []))
+      + (total weight (those_that (λ (u : List ℕ). is_dropped (fate_of u)) (u ∷ [])) + total weight (those_that (cannot_go mtu) (u ∷ [])))
+  coded_balanced mtu u e = subst Balanced (sym e) (go (leb (length u) mtu || leb 3 mtu))
     where
       Balanced : Fate → Type 0
       Balanced k =
-          weight u ≡ total weight (cond (isCoded k && (leb (length u) mtu || leb 3 mtu)) (u ∷ []) [])
-          + (total weight (cond (isDropped k) (u ∷ []) []) + total weight (cond (isCoded k && not (leb (length u) mtu || leb 3 mtu)) (u ∷ []) []))
+          weight u ≡ total weight (cond (is_coded k && (leb (length u) mtu || leb 3 mtu)) (u ∷ []) [])
+          + (total weight (cond (is_dropped k) (u ∷ []) []) + total weight (cond (is_coded k && not (leb (length u) mtu || leb 3 mtu)) (u ∷ []) []))
 
       go : (fits : Bool) → weight u ≡ total weight (cond fits (u ∷ []) []) + (0 + total weight (cond (not fits) (u ∷ []) []))
       go true = omega arith
       go false = omega arith
 
   -- a pair goes out or is forgotten
-  pair-balanced : (fits : Bool) (sets : List (List ℕ)) → total weight sets ≡ total weight (cond fits sets []) + total weight (cond fits [] sets)
-  pair-balanced true sets = omega arith
-  pair-balanced false sets = omega arith
+  pair_balanced : (fits : Bool) (sets : List (List ℕ)) → total weight sets ≡ total weight (cond fits sets []) + total weight (cond fits [] sets)
+  pair_balanced true sets = omega arith
+  pair_balanced false sets = omega arith
 
-  course-balanced : (mtu : ℕ) (v : Saved) (c : Course) → Right v c →
-      total weight (setsOf v) + total weight (unitsOf c) ≡
+  course_balanced : (mtu : ℕ) (v : Saved) (c : Course) → Right v c →
+      total weight (sets_of v) + total weight (units_of c) ≡
       total weight (sent mtu v c)
-      + (total weight (thoseThat (λ (u : List ℕ). isDropped (fateOf u)) (unitsOf c))
-      + (total weight (thoseThat (cannotGo mtu) (unitsOf c))
-      + (total weight (replaced v c) + (total weight (pairsOver mtu v c) + total weight (setsOf (waitingAfter v c))))))
-  course-balanced mtu v (quiet us) r = omega (arith, balanced mtu v us)
-  course-balanced mtu v (due before unit c) r =
+      + (total weight (those_that (λ (u : List ℕ). is_dropped (fate_of u)) (units_of c))
+      + (total weight (those_that (cannot_go mtu) (units_of c))
+      + (total weight (replaced v c) + (total weight (pairs_over mtu v c) + total weight (sets_of (waiting_after v c))))))
+  course_balanced mtu v (quiet us) r = omega (arith, balanced mtu v us)
+  course_balanced mtu v (due before unit c) r =
       let w : Saved = latest v before in
-      let rest = course-balanced mtu nothingSaved c r.3 in
-      let goes : List (List ℕ) = thoseThat (goesOut mtu) (unit ∷ []) in
-      let pair : List (List ℕ) = cond (pairFits mtu w) (setsOf w) [] in
-      let test : List ℕ → Bool = λ (u : List ℕ). isDropped (fateOf u) in
+      let rest = course_balanced mtu nothing_saved c r.3 in
+      let goes : List (List ℕ) = those_that (goes_out mtu) (unit ∷ []) in
+      let pair : List (List ℕ) = cond (pair_fits mtu w) (sets_of w) [] in
+      let test : List ℕ → Bool = λ (u : List ℕ). is_dropped (fate_of u) in
       omega (
         arith,
         balanced mtu v before,
-        pair-balanced (pairFits mtu w) (setsOf w),
-        coded-balanced mtu unit r.1,
-        total-append before (unit ∷ unitsOf c),
-        total-append (thoseThat (goesOut mtu) before) (pair ++ (goes ++ sent mtu nothingSaved c)),
-        total-append pair (goes ++ sent mtu nothingSaved c),
-        total-append goes (sent mtu nothingSaved c),
-        total-those-append test before (unit ∷ unitsOf c),
-        total-those-append test (unit ∷ []) (unitsOf c),
-        total-those-append (cannotGo mtu) before (unit ∷ unitsOf c),
-        total-those-append (cannotGo mtu) (unit ∷ []) (unitsOf c),
-        total-append (earlierSets v before) (replaced nothingSaved c),
-        total-append (cond (pairFits mtu w) [] (setsOf w)) (pairsOver mtu nothingSaved c),
+        pair_balanced (pair_fits mtu w) (sets_of w),
+        coded_balanced mtu unit r.1,
+        total_append before (unit ∷ units_of c),
+        total_append (those_that (goes_out mtu) before) (pair ++ (goes ++ sent mtu nothing_saved c)),
+        total_append pair (goes ++ sent mtu nothing_saved c),
+        total_append goes (sent mtu nothing_saved c),
+        total_those_append test before (unit ∷ units_of c),
+        total_those_append test (unit ∷ []) (units_of c),
+        total_those_append (cannot_go mtu) before (unit ∷ units_of c),
+        total_those_append (cannot_go mtu) (unit ∷ []) (units_of c),
+        total_append (earlier_sets v before) (replaced nothing_saved c),
+        total_append (cond (pair_fits mtu w) [] (sets_of w)) (pairs_over mtu nothing_saved c),
       )
 
 -- all that waited or came: sent, left out, or waiting still
 pub accounted : (mtu : ℕ) (v : Saved) (us : List (List ℕ)) (r : Coursed v us) →
-    Same (setsOf v ++ us) (sent mtu v r.course ++ (leftOut mtu v r.course ++ setsOf (waitingAfter v r.course)))
+    Same (sets_of v ++ us) (sent mtu v r.course ++ (left_out mtu v r.course ++ sets_of (waiting_after v r.course)))
 accounted mtu v us r weight =
     let c : Course = r.course in
-    let dropped : List (List ℕ) = thoseThat (λ (u : List ℕ). isDropped (fateOf u)) (unitsOf c) in
-    let over : List (List ℕ) = thoseThat (cannotGo mtu) (unitsOf c) in
-    ap (λ (l : List (List ℕ)). total weight (setsOf v ++ l)) r.whole
+    let dropped : List (List ℕ) = those_that (λ (u : List ℕ). is_dropped (fate_of u)) (units_of c) in
+    let over : List (List ℕ) = those_that (cannot_go mtu) (units_of c) in
+    ap (λ (l : List (List ℕ)). total weight (sets_of v ++ l)) r.whole
     ∙ omega (
       arith,
-      course-balanced weight mtu v c r.right,
-      total-append weight (setsOf v) (unitsOf c),
-      total-append weight (sent mtu v c) (leftOut mtu v c ++ setsOf (waitingAfter v c)),
-      total-append weight (leftOut mtu v c) (setsOf (waitingAfter v c)),
-      total-append weight dropped (over ++ (replaced v c ++ pairsOver mtu v c)),
-      total-append weight over (replaced v c ++ pairsOver mtu v c),
-      total-append weight (replaced v c) (pairsOver mtu v c),
+      course_balanced weight mtu v c r.right,
+      total_append weight (sets_of v) (units_of c),
+      total_append weight (sent mtu v c) (left_out mtu v c ++ sets_of (waiting_after v c)),
+      total_append weight (left_out mtu v c) (sets_of (waiting_after v c)),
+      total_append weight dropped (over ++ (replaced v c ++ pairs_over mtu v c)),
+      total_append weight over (replaced v c ++ pairs_over mtu v c),
+      total_append weight (replaced v c) (pairs_over mtu v c),
     )
 
 -- the same of our sender's groups and of what it keeps
-pub each-once : (mtu : ℕ) (v : Saved) (us : List (List ℕ)) (r : Coursed v us) →
-    Same (setsOf v ++ us) (carriedIn (groups_of mtu v us) ++ (leftOut mtu v r.course ++ setsOf (keepAll v us)))
-each-once mtu v us r weight =
+pub each_once : (mtu : ℕ) (v : Saved) (us : List (List ℕ)) (r : Coursed v us) →
+    Same (sets_of v ++ us) (carried_in (groups_of mtu v us) ++ (left_out mtu v r.course ++ sets_of (keep_all v us)))
+each_once mtu v us r weight =
     accounted mtu v us r weight
-    ∙ sym (ap₂ (λ (l : List (List ℕ)) (w : Saved). total weight (l ++ (leftOut mtu v r.course ++ setsOf w)))
-    (sent-by-course mtu v us r) (waits-by-course v us r))
+    ∙ sym (ap₂ (λ (l : List (List ℕ)) (w : Saved). total weight (l ++ (left_out mtu v r.course ++ sets_of w)))
+    (sent_by_course mtu v us r) (waits_by_course v us r))

@@ -9,67 +9,67 @@ use native.Mathlib.Omega.{arith}
 use lib.Dec.{eqb, leb}
 use lib.ListN.{length, length-append}
 use borrow.Author.Tests.{le-leb, lt-leb}
-use Rattle.annexb.specs.Units.{units, unitsAt}
+use Rattle.annexb.specs.Units.{units, units_at}
 use Rattle.h264_put.specs.declared.fate.Fate.{Fate}
 use Rattle.h264_put.specs.declared.fate.Fate.TheVariants.{Empty, Dropped, Sps, Pps, Coded}
 use Rattle.h264_put.specs.declared.outcome.UnitOutcome.TheVariants as of-unit
 use Rattle.h264_put.specs.declared.outcome.PairOutcome.{PairOutcome}
 use Rattle.h264_put.specs.declared.outcome.Outcome.{Outcome}
 use Rattle.h264_put.specs.declared.outcome.Drops.{Drops}
-use Rattle.h264_put.specs.Groups.{Saved, nothingSaved, bothSaved, fateOf, keep, keepAll, groups_of}
-use Rattle.h264_put.specs.Outcomes.{pairOutcome, outcomeBy, outcomeFor, outcomesOf, unitDropped, pairDropped, one, howMany, dropsIn, together}
-use Rattle.h264_put.proofs.Outcomes.{not-due, due-over, due-sent}
-use Rattle.h264.specs.Conformance.{unitsIn, carriedIn, isCoded, goesOut, thoseThat}
-use Rattle.h264.specs.Course.{latest, NoPair, Course, quiet, due, unitsOf, Right, Coursed, setsOf, pairFits, isDropped, cannotGo, replaced, pairsOver, leftOut, total, Same}
-use Rattle.h264.specs.Frames.{dropsFrom, unitsOfFrames}
-use Rattle.h264.proofs.LeftOut.{left_out}
-use Rattle.h264.proofs.Courses.{kept-one, kept-none, latest-kept}
-use Rattle.h264.proofs.Accounts.{both-there, each-once}
-use Rattle.h264.proofs.Telling.{by-room}
+use Rattle.h264_put.specs.Groups.{Saved, nothing_saved, both_saved, fate_of, keep, keep_all, groups_of}
+use Rattle.h264_put.specs.Outcomes.{pair_outcome, outcome_by, outcome_for, outcomes_of, unit_dropped, pair_dropped, one, how_many, drops_in, together}
+use Rattle.h264_put.proofs.Outcomes.{not_due, due_over, due_sent}
+use Rattle.h264.specs.Conformance.{units_in, carried_in, is_coded, goes_out, those_that}
+use Rattle.h264.specs.Course.{latest, NoPair, Course, quiet, due, units_of, Right, Coursed, sets_of, pair_fits, is_dropped, cannot_go, replaced, pairs_over, left_out, total, Same}
+use Rattle.h264.specs.Frames.{drops_from, units_of_frames}
+use Rattle.h264.proofs.LeftOut.{left_out_lem}
+use Rattle.h264.proofs.Courses.{kept_one, kept_none, latest_kept}
+use Rattle.h264.proofs.Accounts.{both_there, each_once}
+use Rattle.h264.proofs.Telling.{by_room}
 
 -- ---- units
 
 -- a unit is dropped for the mtu where it is to be sent and cannot go
-unit-over : (mtu : ℕ) (v : Saved) (u : List ℕ) → unitDropped (outcomeFor mtu v u).unit ≡ cannotGo mtu u
-unfolding outcomeFor
-unit-over mtu v u = go (fateOf u)
+unit_over : (mtu : ℕ) (v : Saved) (u : List ℕ) → unit_dropped (outcome_for mtu v u).unit ≡ cannot_go mtu u
+unfolding outcome_for
+unit_over mtu v u = go (fate_of u)
   where
-    dropped-or-not : (t : Bool) → unitDropped (cond t of-unit.Sent of-unit.DroppedForMtu) ≡ not t
-    dropped-or-not true = refl
-    dropped-or-not false = refl
+    dropped_or_not : (t : Bool) → unit_dropped (cond t of-unit.Sent of-unit.DroppedForMtu) ≡ not t
+    dropped_or_not true = refl
+    dropped_or_not false = refl
 
-    go : (k : Fate) → unitDropped (outcomeBy k mtu v u).unit ≡ (isCoded k && not (leb (length u) mtu || leb 3 mtu))
+    go : (k : Fate) → unit_dropped (outcome_by k mtu v u).unit ≡ (is_coded k && not (leb (length u) mtu || leb 3 mtu))
     go Empty = refl
     go Dropped = refl
     go Sps = refl
     go Pps = refl
-    go Coded = ap unitDropped (by-room mtu u) ∙ dropped-or-not (leb (length u) mtu || leb 3 mtu)
+    go Coded = ap unit_dropped (by_room mtu u) ∙ dropped_or_not (leb (length u) mtu || leb 3 mtu)
 
-pub units-counted : (mtu : ℕ) (v : Saved) (us : List (List ℕ)) → (dropsIn (outcomesOf mtu v us)).units ≡ length (thoseThat (cannotGo mtu) us)
-unfolding dropsIn
-units-counted mtu v [] = refl
-units-counted mtu v (u ∷ us) =
-    ap₂ (λ (b : Bool) (n : ℕ). one b + n) (unit-over mtu v u) (units-counted mtu (keep v u) us) ∙ go (cannotGo mtu u)
+pub units_counted : (mtu : ℕ) (v : Saved) (us : List (List ℕ)) → (drops_in (outcomes_of mtu v us)).units ≡ length (those_that (cannot_go mtu) us)
+unfolding drops_in
+units_counted mtu v [] = refl
+units_counted mtu v (u ∷ us) =
+    ap₂ (λ (b : Bool) (n : ℕ). one b + n) (unit_over mtu v u) (units_counted mtu (keep v u) us) ∙ go (cannot_go mtu u)
   where
     others : List (List ℕ)
-    others = thoseThat (cannotGo mtu) us
+    others = those_that (cannot_go mtu) us
 
     go : (t : Bool) → one t + length others ≡ length (cond t (u ∷ others) others)
     go true = omega arith
     go false = omega arith
 
 -- a unit that is to be sent goes out or is counted
-pub units-add-up : (mtu : ℕ) (v : Saved) (us : List (List ℕ)) →
-    length (unitsIn (groups_of mtu v us)) + (dropsIn (outcomesOf mtu v us)).units ≡ length (thoseThat (λ (u : List ℕ). isCoded (fateOf u)) us)
-units-add-up mtu v us = ap₂ (λ (a b : ℕ). a + b) (ap length (left_out mtu v us)) (units-counted mtu v us) ∙ all us
+pub units_add_up : (mtu : ℕ) (v : Saved) (us : List (List ℕ)) →
+    length (units_in (groups_of mtu v us)) + (drops_in (outcomes_of mtu v us)).units ≡ length (those_that (λ (u : List ℕ). is_coded (fate_of u)) us)
+units_add_up mtu v us = ap₂ (λ (a b : ℕ). a + b) (ap length (left_out_lem mtu v us)) (units_counted mtu v us) ∙ all us
   where
     coded : List ℕ → Bool
-    coded u = isCoded (fateOf u)
+    coded u = is_coded (fate_of u)
 
-    those : (test : List ℕ → Bool) (u : List ℕ) (ws : List (List ℕ)) → length (thoseThat test (u ∷ ws)) ≡ one (test u) + length (thoseThat test ws)
+    those : (test : List ℕ → Bool) (u : List ℕ) (ws : List (List ℕ)) → length (those_that test (u ∷ ws)) ≡ one (test u) + length (those_that test ws)
     those test u ws = go (test u)
       where
-        go : (t : Bool) → length (cond t (u ∷ thoseThat test ws) (thoseThat test ws)) ≡ one t + length (thoseThat test ws)
+        go : (t : Bool) → length (cond t (u ∷ those_that test ws) (those_that test ws)) ≡ one t + length (those_that test ws)
         go true = omega arith
         go false = omega arith
 
@@ -78,21 +78,21 @@ units-add-up mtu v us = ap₂ (λ (a b : ℕ). a + b) (ap length (left_out mtu v
     either true false = refl
     either false fits = refl
 
-    all : (ws : List (List ℕ)) → length (thoseThat (goesOut mtu) ws) + length (thoseThat (cannotGo mtu) ws) ≡ length (thoseThat coded ws)
+    all : (ws : List (List ℕ)) → length (those_that (goes_out mtu) ws) + length (those_that (cannot_go mtu) ws) ≡ length (those_that coded ws)
     all [] = refl
     all (u ∷ ws) =
         omega (
           arith,
           all ws,
-          those (goesOut mtu) u ws,
-          those (cannotGo mtu) u ws,
+          those (goes_out mtu) u ws,
+          those (cannot_go mtu) u ws,
           those coded u ws,
-          either (isCoded (fateOf u)) (leb (length u) mtu || leb 3 mtu),
+          either (is_coded (fate_of u)) (leb (length u) mtu || leb 3 mtu),
         )
 
 -- from mtu 3 on a unit can be cut
-pub no-unit-from-three : (mtu : ℕ) (v : Saved) (us : List (List ℕ)) → 3 ≤ mtu → (dropsIn (outcomesOf mtu v us)).units ≡ 0
-no-unit-from-three mtu v us h = units-counted mtu v us ∙ go us
+pub no_unit_from_three : (mtu : ℕ) (v : Saved) (us : List (List ℕ)) → 3 ≤ mtu → (drops_in (outcomes_of mtu v us)).units ≡ 0
+no_unit_from_three mtu v us h = units_counted mtu v us ∙ go us
   where
     fits : (k a : Bool) → (k && not (a || leb 3 mtu)) ≡ false
     fits k a = ap (λ (b : Bool). k && not (a || b)) (le-leb 3 mtu h) ∙ cut k a
@@ -102,101 +102,101 @@ no-unit-from-three mtu v us h = units-counted mtu v us ∙ go us
         cut true false = refl
         cut false a = refl
 
-    go : (ws : List (List ℕ)) → length (thoseThat (cannotGo mtu) ws) ≡ 0
+    go : (ws : List (List ℕ)) → length (those_that (cannot_go mtu) ws) ≡ 0
     go [] = refl
     go (u ∷ ws) =
-        ap (λ (t : Bool). length (cond t (u ∷ thoseThat (cannotGo mtu) ws) (thoseThat (cannotGo mtu) ws))) (fits (isCoded (fateOf u)) (leb (length u) mtu))
+        ap (λ (t : Bool). length (cond t (u ∷ those_that (cannot_go mtu) ws) (those_that (cannot_go mtu) ws))) (fits (is_coded (fate_of u)) (leb (length u) mtu))
         ∙ go ws
 
 -- ---- one list behind the other
 
-outcomes-append : (mtu : ℕ) (v : Saved) (a b : List (List ℕ)) → outcomesOf mtu v (a ++ b) ≡ outcomesOf mtu v a ++ outcomesOf mtu (keepAll v a) b
-outcomes-append mtu v [] b = refl
-outcomes-append mtu v (u ∷ a) b = ap (λ (os : List Outcome). outcomeFor mtu v u ∷ os) (outcomes-append mtu (keep v u) a b)
+outcomes_append : (mtu : ℕ) (v : Saved) (a b : List (List ℕ)) → outcomes_of mtu v (a ++ b) ≡ outcomes_of mtu v a ++ outcomes_of mtu (keep_all v a) b
+outcomes_append mtu v [] b = refl
+outcomes_append mtu v (u ∷ a) b = ap (λ (os : List Outcome). outcome_for mtu v u ∷ os) (outcomes_append mtu (keep v u) a b)
 
-many-append : (test : Outcome → Bool) (a b : List Outcome) → howMany test (a ++ b) ≡ howMany test a + howMany test b
-many-append test [] b = omega arith
-many-append test (o ∷ a) b = let rest = many-append test a b in omega arith
+many_append : (test : Outcome → Bool) (a b : List Outcome) → how_many test (a ++ b) ≡ how_many test a + how_many test b
+many_append test [] b = omega arith
+many_append test (o ∷ a) b = let rest = many_append test a b in omega arith
 
-drops-append : (a b : List Outcome) → dropsIn (a ++ b) ≡ together (dropsIn a) (dropsIn b)
-unfolding dropsIn
-drops-append a b =
-    ap₂ (λ (u p : ℕ). record { units = u; pairs = p }) (many-append (λ (o : Outcome). unitDropped o.unit) a b)
-    (many-append (λ (o : Outcome). pairDropped o.pair) a b)
+drops_append : (a b : List Outcome) → drops_in (a ++ b) ≡ together (drops_in a) (drops_in b)
+unfolding drops_in
+drops_append a b =
+    ap₂ (λ (u p : ℕ). record { units = u; pairs = p }) (many_append (λ (o : Outcome). unit_dropped o.unit) a b)
+    (many_append (λ (o : Outcome). pair_dropped o.pair) a b)
 
 -- the counts of frames, added up, are those of all their units
-pub frames-add-up : (mtu : ℕ) (v : Saved) (frames : List (List ℕ)) → dropsFrom mtu v frames ≡ dropsIn (outcomesOf mtu v (unitsOfFrames mtu frames))
-unfolding dropsIn
-frames-add-up mtu v [] = refl
-frames-add-up mtu v (frame ∷ frames) =
-    let us : List (List ℕ) = unitsAt mtu frame in
-    ap (together (dropsIn (outcomesOf mtu v us))) (frames-add-up mtu (keepAll v us) frames)
-    ∙ sym (drops-append (outcomesOf mtu v us) (outcomesOf mtu (keepAll v us) (unitsOfFrames mtu frames)))
-    ∙ sym (ap dropsIn (outcomes-append mtu v us (unitsOfFrames mtu frames)))
+pub frames_add_up : (mtu : ℕ) (v : Saved) (frames : List (List ℕ)) → drops_from mtu v frames ≡ drops_in (outcomes_of mtu v (units_of_frames mtu frames))
+unfolding drops_in
+frames_add_up mtu v [] = refl
+frames_add_up mtu v (frame ∷ frames) =
+    let us : List (List ℕ) = units_at mtu frame in
+    ap (together (drops_in (outcomes_of mtu v us))) (frames_add_up mtu (keep_all v us) frames)
+    ∙ sym (drops_append (outcomes_of mtu v us) (outcomes_of mtu (keep_all v us) (units_of_frames mtu frames)))
+    ∙ sym (ap drops_in (outcomes_append mtu v us (units_of_frames mtu frames)))
 
 -- ---- pairs
 
 -- while no pair is due none is dropped
-quiet_at : (mtu : ℕ) (v : Saved) (u : List ℕ) → (fateOf u ≡ Coded → bothSaved v ≡ false) → pairDropped (outcomeFor mtu v u).pair ≡ false
-unfolding outcomeFor
-quiet_at mtu v u h = go (fateOf u) h
+quiet_at : (mtu : ℕ) (v : Saved) (u : List ℕ) → (fate_of u ≡ Coded → both_saved v ≡ false) → pair_dropped (outcome_for mtu v u).pair ≡ false
+unfolding outcome_for
+quiet_at mtu v u h = go (fate_of u) h
   where
-    go : (k : Fate) → (k ≡ Coded → bothSaved v ≡ false) → pairDropped (outcomeBy k mtu v u).pair ≡ false
+    go : (k : Fate) → (k ≡ Coded → both_saved v ≡ false) → pair_dropped (outcome_by k mtu v u).pair ≡ false
     go Empty h = refl
     go Dropped h = refl
     go Sps h = refl
     go Pps h = refl
-    go Coded h = sym (ap pairDropped (not-due mtu v (h refl)))
+    go Coded h = sym (ap pair_dropped (not_due mtu v (h refl)))
 
-quiet_all : (mtu : ℕ) (v : Saved) (us : List (List ℕ)) → NoPair v us → (dropsIn (outcomesOf mtu v us)).pairs ≡ 0
-unfolding dropsIn
+quiet_all : (mtu : ℕ) (v : Saved) (us : List (List ℕ)) → NoPair v us → (drops_in (outcomes_of mtu v us)).pairs ≡ 0
+unfolding drops_in
 quiet_all mtu v [] n = refl
 quiet_all mtu v (u ∷ us) n =
     let rest = quiet_all mtu (latest v (u ∷ [])) us n.1 in
-    ap₂ (λ (b : Bool) (w : Saved). one b + (dropsIn (outcomesOf mtu w us)).pairs) (quiet_at mtu v u n.0) (kept-one v u n.0) ∙ omega arith
+    ap₂ (λ (b : Bool) (w : Saved). one b + (drops_in (outcomes_of mtu w us)).pairs) (quiet_at mtu v u n.0) (kept_one v u n.0) ∙ omega arith
 
 -- a pair that is due
-due-at : (mtu : ℕ) (w : Saved) (u : List ℕ) → fateOf u ≡ Coded → bothSaved w ≡ true →
-    2 * one (pairDropped (outcomeFor mtu w u).pair) ≡ length (cond (pairFits mtu w) [] (setsOf w))
-unfolding outcomeFor
-due-at mtu w u k e =
-    ap (λ (x : Fate). 2 * one (pairDropped (outcomeBy x mtu w u).pair)) k ∙ go (dec_le (5 + length w.sps + length w.pps) mtu)
+due_at : (mtu : ℕ) (w : Saved) (u : List ℕ) → fate_of u ≡ Coded → both_saved w ≡ true →
+    2 * one (pair_dropped (outcome_for mtu w u).pair) ≡ length (cond (pair_fits mtu w) [] (sets_of w))
+unfolding outcome_for
+due_at mtu w u k e =
+    ap (λ (x : Fate). 2 * one (pair_dropped (outcome_by x mtu w u).pair)) k ∙ go (dec_le (5 + length w.sps + length w.pps) mtu)
   where
-    go : Dec (5 + length w.sps + length w.pps ≤ mtu) → 2 * one (pairDropped (pairOutcome mtu w)) ≡ length (cond (pairFits mtu w) [] (setsOf w))
+    go : Dec (5 + length w.sps + length w.pps ≤ mtu) → 2 * one (pair_dropped (pair_outcome mtu w)) ≡ length (cond (pair_fits mtu w) [] (sets_of w))
     go (yes h) =
-        sym (ap (λ (x : PairOutcome). 2 * one (pairDropped x)) (due-sent mtu w e h))
-        ∙ sym (ap (λ (t : Bool). length (cond t [] (setsOf w))) (le-leb (5 + length w.sps + length w.pps) mtu h))
+        sym (ap (λ (x : PairOutcome). 2 * one (pair_dropped x)) (due_sent mtu w e h))
+        ∙ sym (ap (λ (t : Bool). length (cond t [] (sets_of w))) (le-leb (5 + length w.sps + length w.pps) mtu h))
     go (no h) =
-        sym (ap (λ (x : PairOutcome). 2 * one (pairDropped x)) (due-over mtu w e (omega arith)))
-        ∙ sym (ap length (both-there w e))
-        ∙ sym (ap (λ (t : Bool). length (cond t [] (setsOf w))) (lt-leb (5 + length w.sps + length w.pps) mtu (omega arith)))
+        sym (ap (λ (x : PairOutcome). 2 * one (pair_dropped x)) (due_over mtu w e (omega arith)))
+        ∙ sym (ap length (both_there w e))
+        ∙ sym (ap (λ (t : Bool). length (cond t [] (sets_of w))) (lt-leb (5 + length w.sps + length w.pps) mtu (omega arith)))
 
-by-course : (mtu : ℕ) (v : Saved) (c : Course) → Right v c → 2 * (dropsIn (outcomesOf mtu v (unitsOf c))).pairs ≡ length (pairsOver mtu v c)
-unfolding dropsIn
-by-course mtu v (quiet us) r = let none = quiet_all mtu v us r in omega arith
-by-course mtu v (due before u c) r =
+by_course : (mtu : ℕ) (v : Saved) (c : Course) → Right v c → 2 * (drops_in (outcomes_of mtu v (units_of c))).pairs ≡ length (pairs_over mtu v c)
+unfolding drops_in
+by_course mtu v (quiet us) r = let none = quiet_all mtu v us r in omega arith
+by_course mtu v (due before u c) r =
     let w : Saved = latest v before in
-    let over : List (List ℕ) = cond (pairFits mtu w) [] (setsOf w) in
-    let later : ℕ = (dropsIn (outcomesOf mtu nothingSaved (unitsOf c))).pairs in
-    let split = ap (λ (os : List Outcome). (dropsIn os).pairs) (outcomes-append mtu v before (u ∷ unitsOf c))
-    ∙ many-append (λ (o : Outcome). pairDropped o.pair) (outcomesOf mtu v before) (outcomesOf mtu (keepAll v before) (u ∷ unitsOf c)) in
-    let then = ap (λ (x : Saved). (dropsIn (outcomesOf mtu x (u ∷ unitsOf c))).pairs) (latest-kept v before r.0)
-    ∙ ap (λ (x : Saved). one (pairDropped (outcomeFor mtu w u).pair) + (dropsIn (outcomesOf mtu x (unitsOf c))).pairs)
-    (kept-none w u r.1 r.2) in
+    let over : List (List ℕ) = cond (pair_fits mtu w) [] (sets_of w) in
+    let later : ℕ = (drops_in (outcomes_of mtu nothing_saved (units_of c))).pairs in
+    let split = ap (λ (os : List Outcome). (drops_in os).pairs) (outcomes_append mtu v before (u ∷ units_of c))
+    ∙ many_append (λ (o : Outcome). pair_dropped o.pair) (outcomes_of mtu v before) (outcomes_of mtu (keep_all v before) (u ∷ units_of c)) in
+    let then = ap (λ (x : Saved). (drops_in (outcomes_of mtu x (u ∷ units_of c))).pairs) (latest_kept v before r.0)
+    ∙ ap (λ (x : Saved). one (pair_dropped (outcome_for mtu w u).pair) + (drops_in (outcomes_of mtu x (units_of c))).pairs)
+    (kept_none w u r.1 r.2) in
     omega (
       arith,
       split,
       then,
       quiet_all mtu v before r.0,
-      due-at mtu w u r.1 r.2,
-      by-course mtu nothingSaved c r.3,
-      length-append over (pairsOver mtu nothingSaved c),
+      due_at mtu w u r.1 r.2,
+      by_course mtu nothing_saved c r.3,
+      length-append over (pairs_over mtu nothing_saved c),
     )
 
 -- two sets for each pair
-pub pairs-counted : (mtu : ℕ) (v : Saved) (us : List (List ℕ)) (r : Coursed v us) →
-    2 * (dropsIn (outcomesOf mtu v us)).pairs ≡ length (pairsOver mtu v r.course)
-pairs-counted mtu v us r = ap (λ (ws : List (List ℕ)). 2 * (dropsIn (outcomesOf mtu v ws)).pairs) r.whole ∙ by-course mtu v r.course r.right
+pub pairs_counted : (mtu : ℕ) (v : Saved) (us : List (List ℕ)) (r : Coursed v us) →
+    2 * (drops_in (outcomes_of mtu v us)).pairs ≡ length (pairs_over mtu v r.course)
+pairs_counted mtu v us r = ap (λ (ws : List (List ℕ)). 2 * (drops_in (outcomes_of mtu v ws)).pairs) r.whole ∙ by_course mtu v r.course r.right
 
 -- ---- none
 
@@ -205,33 +205,33 @@ no_length [] e = refl
 no_length (u ∷ us) e = absurd (omega arith)
 
 -- with both counts 0 nothing is left out but empty units, types 9 and 12, sets that were replaced, and sets that still wait
-pub none_dropped : (mtu : ℕ) (v : Saved) (us : List (List ℕ)) (r : Coursed v us) → dropsIn (outcomesOf mtu v us) ≡ record { units = 0; pairs = 0 } →
-    Same (setsOf v ++ us)
-    (carriedIn (groups_of mtu v us)
-    ++ ((thoseThat (λ (u : List ℕ). isDropped (fateOf u)) us ++ replaced v r.course) ++ setsOf (keepAll v us)))
+pub none_dropped : (mtu : ℕ) (v : Saved) (us : List (List ℕ)) (r : Coursed v us) → drops_in (outcomes_of mtu v us) ≡ record { units = 0; pairs = 0 } →
+    Same (sets_of v ++ us)
+    (carried_in (groups_of mtu v us)
+    ++ ((those_that (λ (u : List ℕ). is_dropped (fate_of u)) us ++ replaced v r.course) ++ sets_of (keep_all v us)))
 none_dropped mtu v us r e weight =
-    each-once mtu v us r weight
-    ∙ ap (λ (l : List (List ℕ)). total weight (carriedIn (groups_of mtu v us) ++ (l ++ setsOf (keepAll v us)))) left
+    each_once mtu v us r weight
+    ∙ ap (λ (l : List (List ℕ)). total weight (carried_in (groups_of mtu v us) ++ (l ++ sets_of (keep_all v us)))) left
   where
     dropped : List (List ℕ) → List (List ℕ)
-    dropped ws = thoseThat (λ (u : List ℕ). isDropped (fateOf u)) ws
+    dropped ws = those_that (λ (u : List ℕ). is_dropped (fate_of u)) ws
 
-    units-none : thoseThat (cannotGo mtu) (unitsOf r.course) ≡ []
-    units-none = ap (thoseThat (cannotGo mtu)) (sym r.whole) ∙ no_length _ (sym (units-counted mtu v us) ∙ ap (λ (d : Drops). d.units) e)
+    units_none : those_that (cannot_go mtu) (units_of r.course) ≡ []
+    units_none = ap (those_that (cannot_go mtu)) (sym r.whole) ∙ no_length _ (sym (units_counted mtu v us) ∙ ap (λ (d : Drops). d.units) e)
 
-    pairs-none : pairsOver mtu v r.course ≡ []
-    pairs-none = no_length _ (sym (pairs-counted mtu v us r) ∙ ap (λ (d : Drops). 2 * d.pairs) e)
+    pairs_none : pairs_over mtu v r.course ≡ []
+    pairs_none = no_length _ (sym (pairs_counted mtu v us r) ∙ ap (λ (d : Drops). 2 * d.pairs) e)
 
-    left : leftOut mtu v r.course ≡ dropped us ++ replaced v r.course
+    left : left_out mtu v r.course ≡ dropped us ++ replaced v r.course
     left =
-        ap₂ (λ (a b : List (List ℕ)). dropped (unitsOf r.course) ++ (a ++ (replaced v r.course ++ b))) units-none pairs-none
+        ap₂ (λ (a b : List (List ℕ)). dropped (units_of r.course) ++ (a ++ (replaced v r.course ++ b))) units_none pairs_none
         ∙ ap₂ (λ (ws l : List (List ℕ)). dropped ws ++ l) (sym r.whole) (append-nil (replaced v r.course))
 
 -- "at mtu 0 both are 0", and of an empty frame
-pub none_at_zero : (v : Saved) (frame : List ℕ) → dropsIn (outcomesOf 0 v (unitsAt 0 frame)) ≡ record { units = 0; pairs = 0 }
-unfolding dropsIn unitsAt
-none_at_zero v frame = ap (λ (b : Bool). dropsIn (outcomesOf 0 v (cond b [] (units frame)))) (or-true (eqb (length frame) 0))
+pub none_at_zero : (v : Saved) (frame : List ℕ) → drops_in (outcomes_of 0 v (units_at 0 frame)) ≡ record { units = 0; pairs = 0 }
+unfolding drops_in units_at
+none_at_zero v frame = ap (λ (b : Bool). drops_in (outcomes_of 0 v (cond b [] (units frame)))) (or-true (eqb (length frame) 0))
 
-pub none-of-empty : (mtu : ℕ) (v : Saved) → dropsIn (outcomesOf mtu v (unitsAt mtu [])) ≡ record { units = 0; pairs = 0 }
-unfolding dropsIn unitsAt
-none-of-empty mtu v = refl
+pub none_of_empty : (mtu : ℕ) (v : Saved) → drops_in (outcomes_of mtu v (units_at mtu [])) ≡ record { units = 0; pairs = 0 }
+unfolding drops_in units_at
+none_of_empty mtu v = refl

@@ -5,8 +5,8 @@ use mathlib.Core.Bool.{Bool, true, false, cond}
 use Prim.Native.Nat.{ℕ}
 use Rattle.error.specs.Said.{Said, says, refused, refuse}
 use Rattle.error.specs.Only.{Determined}
-use Rattle.error.proofs.Inverse.{errorOf, errorOf-refusalOf}
-use Rattle.error.proofs.Only.{by_value, by-view}
+use Rattle.error.proofs.Inverse.{error_of, error_of_refusal_of}
+use Rattle.error.proofs.Only.{by_value, by_view}
 use Rattle.annexb.specs.declared.Found.{Found}
 use Rattle.annexb.specs.declared.Search.{Search}
 use Rattle.annexb.specs.declared.Search.TheVariants as search-variants
@@ -16,22 +16,22 @@ use Rattle.h264.specs.declared.send.Payloads.TheVariants.{Written, Refused}
 use Rattle.h264.specs.declared.send.Sent.{Sent}
 use Rattle.h264.specs.declared.lent.LentPayloader.{LentPayloader}
 use Rattle.h264.specs.declared.lent.LentSent.{LentSent}
-use Rattle.annexb.specs.Search.{next_code, saidSearch, beyond, nextInd}
-use Rattle.annexb.specs.Units.{unitsAt}
-use Rattle.h264_put.specs.Groups.{Saved, nothingSaved, keepAll, groups_of, packetsOf}
+use Rattle.annexb.specs.Search.{next_code, said_search, beyond, next_ind}
+use Rattle.annexb.specs.Units.{units_at}
+use Rattle.h264_put.specs.Groups.{Saved, nothing_saved, keep_all, groups_of, packets_of}
 use Rattle.h264_put.specs.declared.outcome.Drops.{Drops}
-use Rattle.h264_put.specs.Outcomes.{outcomesOf, dropsIn}
-use Rattle.h264_put.specs.Step.{overLimit}
-use Rattle.h264.specs.Payload.{layOut, savedIn, Lent, savedLent, lendOut, outsideBy, outside, tooSmall, Counts, said, LeftIn, Left, left, leftLent, refusedWith, sentAs, leftBy, call_of, payloadOf, lent_of}
+use Rattle.h264_put.specs.Outcomes.{outcomes_of, drops_in}
+use Rattle.h264_put.specs.Step.{over_limit}
+use Rattle.h264.specs.Payload.{lay_out, saved_in, Lent, saved_lent, lend_out, outside_by, outside, too_small, Counts, said, LeftIn, Left, left, left_lent, refused_with, sent_as, left_by, call_of, payload_of, lent_of}
 
 -- an answer's values, back from what it says
 abbrev unsaid : Said Counts → Payloads
 unsaid (says c) = Written c.packets c.bytes c.units_dropped c.pairs_dropped
-unsaid (refused r) = Refused (errorOf r)
+unsaid (refused r) = Refused (error_of r)
 
-unsaid-said : (a : Payloads) → unsaid (said a) ≡ a
-unsaid-said (Written packets bytes units pairs) = refl
-unsaid-said (Refused e) = ap Refused (errorOf-refusalOf e)
+unsaid_said : (a : Payloads) → unsaid (said a) ≡ a
+unsaid_said (Written packets bytes units pairs) = refl
+unsaid_said (Refused e) = ap Refused (error_of_refusal_of e)
 
 -- what a call hands back: its result, and the two buffers
 abbrev pub Handed : Type 0
@@ -43,36 +43,36 @@ view x = left x.0 x.1 x.2
 abbrev back : Left → Handed
 back l = (record { sender = l.sender; answer = unsaid l.answer }, l.out, l.ends)
 
-back-view : (x : Handed) → back (view x) ≡ x
-back-view x i = (record { sender = x.0.sender; answer = unsaid-said x.0.answer i }, x.1, x.2)
+back_view : (x : Handed) → back (view x) ≡ x
+back_view x i = (record { sender = x.0.sender; answer = unsaid_said x.0.answer i }, x.1, x.2)
 
 -- each of the four outcomes is one that a call can hand back
 module _ {S : Type 0} (state : S) (out ends : List ℕ) where
-  unsaid-again : LeftIn S → LeftIn S
-  unsaid-again x = record { sender = x.sender; answer = said (unsaid x.answer); out = x.out; ends = x.ends }
+  unsaid_again : LeftIn S → LeftIn S
+  unsaid_again x = record { sender = x.sender; answer = said (unsaid x.answer); out = x.out; ends = x.ends }
 
   sayable : (new : S) (ps : List (List ℕ)) (d : Drops) (o l t : Bool) →
-      let r : LeftIn S = leftBy o l t (refusedWith 8 state out ends) (refusedWith 7 state out ends) (refusedWith 5 state out ends) (sentAs new ps d out ends) in
-      unsaid-again r ≡ r
-  unfolding unsaid-again
+      let r : LeftIn S = left_by o l t (refused_with 8 state out ends) (refused_with 7 state out ends) (refused_with 5 state out ends) (sent_as new ps d out ends) in
+      unsaid_again r ≡ r
+  unfolding unsaid_again
   sayable new ps d true l t = refl
   sayable new ps d false true t = refl
   sayable new ps d false false true = refl
   sayable new ps d false false false = refl
 
-  call-sayable : (o : Bool) (laid : Saved → S) (v : Saved) (mtu : ℕ) (frame : List ℕ) →
-      unsaid-again (call_of o state laid v mtu frame out ends) ≡ call_of o state laid v mtu frame out ends
-  call-sayable o laid v mtu frame =
-      let us : List (List ℕ) = unitsAt mtu frame in
-      let ps : List (List ℕ) = packetsOf (groups_of mtu v us) in
-      sayable (laid (keepAll v us)) ps (dropsIn (outcomesOf mtu v us)) o (overLimit us) (tooSmall ps out ends)
+  call_sayable : (o : Bool) (laid : Saved → S) (v : Saved) (mtu : ℕ) (frame : List ℕ) →
+      unsaid_again (call_of o state laid v mtu frame out ends) ≡ call_of o state laid v mtu frame out ends
+  call_sayable o laid v mtu frame =
+      let us : List (List ℕ) = units_at mtu frame in
+      let ps : List (List ℕ) = packets_of (groups_of mtu v us) in
+      sayable (laid (keep_all v us)) ps (drops_in (outcomes_of mtu v us)) o (over_limit us) (too_small ps out ends)
 
-pub payload-only : (h : H264Payloader) (mtu : ℕ) (frame out ends : List ℕ) →
-    Determined (λ (x : Handed). left x.0 x.1 x.2 ≡ payloadOf h mtu frame out ends)
-unfolding payloadOf unsaid-again
-payload-only h mtu frame out ends =
-    by-view view back back-view (back (payloadOf h mtu frame out ends)) (payloadOf h mtu frame out ends)
-    (call-sayable h out ends (outside h mtu frame) layOut (savedIn h) mtu frame)
+pub payload_only : (h : H264Payloader) (mtu : ℕ) (frame out ends : List ℕ) →
+    Determined (λ (x : Handed). left x.0 x.1 x.2 ≡ payload_of h mtu frame out ends)
+unfolding payload_of unsaid_again
+payload_only h mtu frame out ends =
+    by_view view back back_view (back (payload_of h mtu frame out ends)) (payload_of h mtu frame out ends)
+    (call_sayable h out ends (outside h mtu frame) lay_out (saved_in h) mtu frame)
 
 -- ---- with lent buffers
 
@@ -80,46 +80,46 @@ payload-only h mtu frame out ends =
 abbrev pub HandedLent : Type 0
 HandedLent = LentSent × List ℕ × List ℕ × List ℕ × List ℕ
 
-abbrev viewLent : HandedLent → LeftIn Lent
-viewLent x = leftLent x.0 x.1 x.2 x.3 x.4
+abbrev view_lent : HandedLent → LeftIn Lent
+view_lent x = left_lent x.0 x.1 x.2 x.3 x.4
 
-abbrev backLent : LeftIn Lent → HandedLent
-backLent l = (record { sender = l.sender.sender; answer = unsaid l.answer }, l.sender.sps, l.sender.pps, l.out, l.ends)
+abbrev back_lent : LeftIn Lent → HandedLent
+back_lent l = (record { sender = l.sender.sender; answer = unsaid l.answer }, l.sender.sps, l.sender.pps, l.out, l.ends)
 
-back-view-lent : (x : HandedLent) → backLent (viewLent x) ≡ x
-back-view-lent x i = (record { sender = x.0.sender; answer = unsaid-said x.0.answer i }, x.1, x.2, x.3, x.4)
+back_view_lent : (x : HandedLent) → back_lent (view_lent x) ≡ x
+back_view_lent x i = (record { sender = x.0.sender; answer = unsaid_said x.0.answer i }, x.1, x.2, x.3, x.4)
 
-pub lent-only : (l : Lent) (mtu : ℕ) (frame out ends : List ℕ) →
-    Determined (λ (x : HandedLent). leftLent x.0 x.1 x.2 x.3 x.4 ≡ lent_of l mtu frame out ends)
-unfolding lent_of unsaid-again
-lent-only l mtu frame out ends =
-    by-view viewLent backLent back-view-lent (backLent (lent_of l mtu frame out ends)) (lent_of l mtu frame out ends)
-    (call-sayable l out ends (outsideBy l.sender.sps_len l.sender.pps_len mtu frame) (lendOut l) (savedLent l) mtu frame)
+pub lent_only : (l : Lent) (mtu : ℕ) (frame out ends : List ℕ) →
+    Determined (λ (x : HandedLent). left_lent x.0 x.1 x.2 x.3 x.4 ≡ lent_of l mtu frame out ends)
+unfolding lent_of unsaid_again
+lent_only l mtu frame out ends =
+    by_view view_lent back_lent back_view_lent (back_lent (lent_of l mtu frame out ends)) (lent_of l mtu frame out ends)
+    (call_sayable l out ends (outside_by l.sender.sps_len l.sender.pps_len mtu frame) (lend_out l) (saved_lent l) mtu frame)
 
-pub lent-new-only : Determined (λ (r : LentPayloader). r ≡ record { sps_len = 0; pps_len = 0 })
-lent-new-only = by_value (record { sps_len = 0; pps_len = 0 })
+pub lent_new_only : Determined (λ (r : LentPayloader). r ≡ record { sps_len = 0; pps_len = 0 })
+lent_new_only = by_value (record { sps_len = 0; pps_len = 0 })
 
-pub new-only : Determined (λ (r : H264Payloader). r ≡ layOut nothingSaved)
-new-only = by_value (layOut nothingSaved)
+pub new_only : Determined (λ (r : H264Payloader). r ≡ lay_out nothing_saved)
+new_only = by_value (lay_out nothing_saved)
 
 -- ---- the search
 
-abbrev unsaidSearch : Said Found → Search
-unsaidSearch (says found) = search-variants.Yields found
-unsaidSearch (refused r) = search-variants.Refused (errorOf r)
+abbrev unsaid_search : Said Found → Search
+unsaid_search (says found) = search-variants.Yields found
+unsaid_search (refused r) = search-variants.Refused (error_of r)
 
-unsaid-search : (a : Search) → unsaidSearch (saidSearch a) ≡ a
-unsaid-search (search-variants.Yields found) = refl
-unsaid-search (search-variants.Refused e) = ap search-variants.Refused (errorOf-refusalOf e)
+unsaid_search_lem : (a : Search) → unsaid_search (said_search a) ≡ a
+unsaid_search_lem (search-variants.Yields found) = refl
+unsaid_search_lem (search-variants.Refused e) = ap search-variants.Refused (error_of_refusal_of e)
 
-sayable-search : (b : Bool) (found : Found) →
+sayable_search : (b : Bool) (found : Found) →
     let r : Said Found = cond b (refuse 8) (says found) in
-    saidSearch (unsaidSearch r) ≡ r
-sayable-search true found = refl
-sayable-search false found = refl
+    said_search (unsaid_search r) ≡ r
+sayable_search true found = refl
+sayable_search false found = refl
 
-pub next-ind-only : (frame : List ℕ) (start : ℕ) → Determined (λ (r : Search). saidSearch r ≡ nextInd frame start)
-unfolding nextInd
-next-ind-only frame start =
-    by-view saidSearch unsaidSearch unsaid-search (unsaidSearch (nextInd frame start)) (nextInd frame start)
-    (sayable-search (beyond frame start) (next_code frame start))
+pub next_ind_only : (frame : List ℕ) (start : ℕ) → Determined (λ (r : Search). said_search r ≡ next_ind frame start)
+unfolding next_ind
+next_ind_only frame start =
+    by_view said_search unsaid_search unsaid_search_lem (unsaid_search (next_ind frame start)) (next_ind frame start)
+    (sayable_search (beyond frame start) (next_code frame start))

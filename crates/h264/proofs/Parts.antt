@@ -49,14 +49,14 @@ module _ (size b : ℕ) (s : List ℕ) (pos : 0 < size) (h : size < length s) wh
       let left : length (drop size s) ≡ length s - size = length-drop size s in
       filled (length s) size (drop size s) pos (omega arith) (omega arith)
 
-  pub unit-rebuilt : rebuilt b (take size s) (parts (length s) size (drop size s)).middle (parts (length s) size (drop size s)).last ≡ b ∷ s
-  unit-rebuilt = ap (λ (l : List ℕ). b ∷ (take size s ++ l)) others.whole ∙ ap (λ (l : List ℕ). b ∷ l) (take-append-drop size s)
+  pub unit_rebuilt : rebuilt b (take size s) (parts (length s) size (drop size s)).middle (parts (length s) size (drop size s)).last ≡ b ∷ s
+  unit_rebuilt = ap (λ (l : List ℕ). b ∷ (take size s ++ l)) others.whole ∙ ap (λ (l : List ℕ). b ∷ l) (take-append-drop size s)
 
-  pub unit-divided-well : Divided size (take size s) (parts (length s) size (drop size s)).middle (parts (length s) size (drop size s)).last
-  unit-divided-well =
+  pub unit_divided_well : Divided size (take size s) (parts (length s) size (drop size s)).middle (parts (length s) size (drop size s)).last
+  unit_divided_well =
       record {
-        first-full = length-take-le size s (omega arith);
-        middle-full = others.full;
+        first_full = length-take-le size s (omega arith);
+        middle_full = others.full;
         last_some = others.some;
         last_within = others.within;
       }

@@ -9,13 +9,13 @@ use borrow.Author.Rules.{rules}
 use Rattle.error.specs.Said.{Said, says, refused, refuse}
 use Rattle.wire.specs.Net.{be16}
 use Rattle.wire.specs.Packets.{whole, cut}
-use Rattle.wire.specs.Part.{splice, padTo}
+use Rattle.wire.specs.Part.{splice, pad_to}
 use Rattle.rfc6184.specs.Sending as rfc
-use Rattle.rfc6184.specs.Sending.{Each, Sending, octet, octetsOf, payloadsOf, Lawful}
-use Rattle.annexb.specs.Units.{units, unitsAt}
-use Rattle.h264_put.specs.Groups.{nothingSaved, keep, stapA, pairFor, unit_for, groupsFor, fragment}
+use Rattle.rfc6184.specs.Sending.{Each, Sending, octet, octets_of, payloads_of, Lawful}
+use Rattle.annexb.specs.Units.{units, units_at}
+use Rattle.h264_put.specs.Groups.{nothing_saved, keep, stap_a, pair_for, unit_for, groups_for, fragment}
 use Rattle.h264.specs.declared.send.H264Payloader.{H264Payloader}
-use Rattle.h264.specs.Payload.{layOut, Counts, Left, payloadOf}
+use Rattle.h264.specs.Payload.{lay_out, Counts, Left, payload_of}
 use Rattle.h264.specs.Conformance.{nal, part}
 
 -- units, each behind a start code
@@ -24,16 +24,16 @@ behind [] = []
 behind (u ∷ us) = 0 ∷ 0 ∷ 1 ∷ (u ++ behind us)
 
 -- what a call says: the packets, or the refusal
-abbrev saidIn : Said Counts → List ℕ → List ℕ → Said (List (List ℕ))
-saidIn (says n) out ends = says (cut out 0 (take n.packets ends))
-saidIn (refused why) out ends = refused why
+abbrev said_in : Said Counts → List ℕ → List ℕ → Said (List (List ℕ))
+said_in (says n) out ends = says (cut out 0 (take n.packets ends))
+said_in (refused why) out ends = refused why
 
 -- frames one after the other, where there is room for 16 bytes and 4 packets
 abbrev calls : ℕ → H264Payloader → List (List ℕ) → List (Said (List (List ℕ)))
 calls mtu h [] = []
 calls mtu h (frame ∷ frames) =
-    let l : Left = payloadOf h mtu frame (replicate 16 0) (replicate 4 0) in
-    saidIn l.answer l.out l.ends ∷ calls mtu l.sender frames
+    let l : Left = payload_of h mtu frame (replicate 16 0) (replicate 4 0) in
+    said_in l.answer l.out l.ends ∷ calls mtu l.sender frames
 
 -- an mtu, frames, and what is said of each by a sender that was fresh before the first
 abbrev Row : Type 0
@@ -110,29 +110,29 @@ table =
     ∷ (3, behind ((0x41 ∷ 0 ∷ 0 ∷ []) ∷ []) ∷ [], says ((0x41 ∷ 0 ∷ 0 ∷ []) ∷ []) ∷ [])
     ∷ []
 
-pub sender-rows : map (λ (row : Row). calls row.0 (layOut nothingSaved) row.1) table ≡ map (λ (row : Row). row.2) table
-unfolding table payloadOf units unitsAt keep stapA pairFor unit_for groupsFor fragment whole splice padTo be16
-sender-rows = refl
+pub sender_rows : map (λ (row : Row). calls row.0 (lay_out nothing_saved) row.1) table ≡ map (λ (row : Row). row.2) table
+unfolding table payload_of units units_at keep stap_a pair_for unit_for groups_for fragment whole splice pad_to be16
+sender_rows = refl
 
 -- ---- what the RFC has in 1, 2 and 3
 
 -- a lawful sending of the same units, and its payloads
 abbrev Has : Sending × List (List ℕ) → Type 0
-Has row = Lawful row.0 × (payloadsOf row.0 ≡ row.1)
+Has row = Lawful row.0 × (payloads_of row.0 ≡ row.1)
 
-pub rfcTable : List (Sending × List (List ℕ))
-rfcTable =
-    (rfc.stapA 0 1 (nal (0x27 ∷ []) ∷ nal (0x28 ∷ []) ∷ []), (0x38 ∷ 0 ∷ 1 ∷ 0x27 ∷ 0 ∷ 1 ∷ 0x28 ∷ []) ∷ [])
-    ∷ (rfc.stapA 1 3 (nal (0xE7 ∷ []) ∷ nal (0x68 ∷ []) ∷ []), (0xF8 ∷ 0 ∷ 1 ∷ 0xE7 ∷ 0 ∷ 1 ∷ 0x68 ∷ []) ∷ [])
+pub rfc_table : List (Sending × List (List ℕ))
+rfc_table =
+    (rfc.stap_a 0 1 (nal (0x27 ∷ []) ∷ nal (0x28 ∷ []) ∷ []), (0x38 ∷ 0 ∷ 1 ∷ 0x27 ∷ 0 ∷ 1 ∷ 0x28 ∷ []) ∷ [])
+    ∷ (rfc.stap_a 1 3 (nal (0xE7 ∷ []) ∷ nal (0x68 ∷ []) ∷ []), (0xF8 ∷ 0 ∷ 1 ∷ 0xE7 ∷ 0 ∷ 1 ∷ 0x68 ∷ []) ∷ [])
     ∷ (
-      rfc.fuA (record { f = 1; nri = 3; type = 5; first = part (0x11 ∷ []); middle = part (0x22 ∷ []) ∷ []; last = part (0x33 ∷ []) }),
+      rfc.fu_a (record { f = 1; nri = 3; type = 5; first = part (0x11 ∷ []); middle = part (0x22 ∷ []) ∷ []; last = part (0x33 ∷ []) }),
       (0xFC ∷ 0x85 ∷ 0x11 ∷ []) ∷ (0xFC ∷ 0x05 ∷ 0x22 ∷ []) ∷ (0xFC ∷ 0x45 ∷ 0x33 ∷ []) ∷ [],
     )
     ∷ []
 
-pub rfc-rows : Each Has rfcTable
-unfolding rfcTable octet octetsOf rfc.fragment be16
-rfc-rows = (
+pub rfc_rows : Each Has rfc_table
+unfolding rfc_table octet octets_of rfc.fragment be16
+rfc_rows = (
   (
     record {
       formed = (search rules, omega arith, (search rules, (search rules, tt)));

@@ -6,14 +6,14 @@ use lib.ListN.{replicate}
 use Rattle.error.specs.Said.{Said, says, refuse}
 use Rattle.wire.specs.Net.{be16}
 use Rattle.wire.specs.Packets.{whole}
-use Rattle.wire.specs.Part.{splice, padTo}
-use Rattle.annexb.specs.Units.{units, unitsAt}
+use Rattle.wire.specs.Part.{splice, pad_to}
+use Rattle.annexb.specs.Units.{units, units_at}
 use Rattle.h264_put.specs.declared.outcome.UnitOutcome.TheVariants as of-unit
 use Rattle.h264_put.specs.declared.outcome.PairOutcome.TheVariants as of_pair
 use Rattle.h264_put.specs.declared.outcome.Outcome.{Outcome}
-use Rattle.h264_put.specs.Groups.{nothingSaved, keep, stapA, pairFor, unit_for, groupsFor, fragment}
-use Rattle.h264_put.specs.Outcomes.{unitOutcome, pairOutcome, withoutPair, outcomeFor, outcomesOf, dropsIn}
-use Rattle.h264.specs.Payload.{layOut, Counts, payloadOf}
+use Rattle.h264_put.specs.Groups.{nothing_saved, keep, stap_a, pair_for, unit_for, groups_for, fragment}
+use Rattle.h264_put.specs.Outcomes.{unit_outcome, pair_outcome, without_pair, outcome_for, outcomes_of, drops_in}
+use Rattle.h264.specs.Payload.{lay_out, Counts, payload_of}
 
 -- an mtu, a frame, what became of its units in order, and the answer: packets, bytes, units and pairs dropped for the mtu
 abbrev Row : Type 0
@@ -24,45 +24,45 @@ counts packets bytes units pairs = says (record { packets = packets; bytes = byt
 
 -- the unit with the pair at it
 abbrev with : Outcome → List Outcome
-with o = withoutPair of-unit.Saved ∷ withoutPair of-unit.Saved ∷ o ∷ []
+with o = without_pair of-unit.Saved ∷ without_pair of-unit.Saved ∷ o ∷ []
 
 -- 67AA, 68BB, 650102
-abbrev pairThenUnit : List ℕ
-pairThenUnit = 0 ∷ 0 ∷ 1 ∷ 0x67 ∷ 0xAA ∷ 0 ∷ 0 ∷ 1 ∷ 0x68 ∷ 0xBB ∷ 0 ∷ 0 ∷ 1 ∷ 0x65 ∷ 1 ∷ 2 ∷ []
+abbrev pair_then_unit : List ℕ
+pair_then_unit = 0 ∷ 0 ∷ 1 ∷ 0x67 ∷ 0xAA ∷ 0 ∷ 0 ∷ 1 ∷ 0x68 ∷ 0xBB ∷ 0 ∷ 0 ∷ 1 ∷ 0x65 ∷ 1 ∷ 2 ∷ []
 
 pub table : List Row
 table =
     -- the pair fits
-    (9, pairThenUnit, with (record { unit = of-unit.Sent; pair = of_pair.Sent }), counts 2 12 0 0)
+    (9, pair_then_unit, with (record { unit = of-unit.Sent; pair = of_pair.Sent }), counts 2 12 0 0)
     -- one pair dropped, the unit sent
-    ∷ (8, pairThenUnit, with (record { unit = of-unit.Sent; pair = of_pair.DroppedForMtu }), counts 1 3 0 1)
+    ∷ (8, pair_then_unit, with (record { unit = of-unit.Sent; pair = of_pair.DroppedForMtu }), counts 1 3 0 1)
     -- pair and unit dropped
-    ∷ (2, pairThenUnit, with (record { unit = of-unit.DroppedForMtu; pair = of_pair.DroppedForMtu }), counts 0 0 1 1)
+    ∷ (2, pair_then_unit, with (record { unit = of-unit.DroppedForMtu; pair = of_pair.DroppedForMtu }), counts 0 0 1 1)
     -- in fragments
-    ∷ (4, 0x65 ∷ 1 ∷ 2 ∷ 3 ∷ 4 ∷ 5 ∷ [], withoutPair of-unit.Sent ∷ [], counts 3 11 0 0)
+    ∷ (4, 0x65 ∷ 1 ∷ 2 ∷ 3 ∷ 4 ∷ 5 ∷ [], without_pair of-unit.Sent ∷ [], counts 3 11 0 0)
     -- at mtu 0, and of an empty frame, nothing is asked
-    ∷ (0, pairThenUnit, [], counts 0 0 0 0)
+    ∷ (0, pair_then_unit, [], counts 0 0 0 0)
     ∷ (2, [], [], counts 0 0 0 0)
     -- types 9 and 12 and an empty unit, whatever the mtu
     ∷ (
       1,
       0 ∷ 0 ∷ 1 ∷ 0x09 ∷ 0x10 ∷ 0 ∷ 0 ∷ 1 ∷ 0 ∷ 0 ∷ 1 ∷ 0x0C ∷ 0x80 ∷ [],
-      withoutPair of-unit.DroppedByType ∷ withoutPair of-unit.Empty ∷ withoutPair of-unit.DroppedByType ∷ [],
+      without_pair of-unit.DroppedByType ∷ without_pair of-unit.Empty ∷ without_pair of-unit.DroppedByType ∷ [],
       counts 0 0 0 0,
     )
     -- a refused frame has no counts
-    ∷ (2, 0 ∷ 0 ∷ 1 ∷ 0x65 ∷ 1 ∷ 2 ∷ 0 ∷ 0 ∷ 1 ∷ (0x67 ∷ replicate 1024 0xAA), withoutPair of-unit.DroppedForMtu ∷ withoutPair of-unit.Saved ∷ [], refuse 7)
+    ∷ (2, 0 ∷ 0 ∷ 1 ∷ 0x65 ∷ 1 ∷ 2 ∷ 0 ∷ 0 ∷ 1 ∷ (0x67 ∷ replicate 1024 0xAA), without_pair of-unit.DroppedForMtu ∷ without_pair of-unit.Saved ∷ [], refuse 7)
     ∷ []
 
 abbrev asked : Row → List Outcome × Said Counts
 asked row = (
-  outcomesOf row.0 nothingSaved (unitsAt row.0 row.1),
-  (payloadOf (layOut nothingSaved) row.0 row.1 (replicate 16 0) (replicate 4 0)).answer,
+  outcomes_of row.0 nothing_saved (units_at row.0 row.1),
+  (payload_of (lay_out nothing_saved) row.0 row.1 (replicate 16 0) (replicate 4 0)).answer,
 )
 
 abbrev told : Row → List Outcome × Said Counts
 told row = (row.2, row.3)
 
-pub drop-rows : map asked table ≡ map told table
-unfolding table payloadOf units unitsAt keep stapA pairFor unit_for groupsFor fragment unitOutcome pairOutcome outcomeFor dropsIn whole splice padTo be16
-drop-rows = refl
+pub drop_rows : map asked table ≡ map told table
+unfolding table payload_of units units_at keep stap_a pair_for unit_for groups_for fragment unit_outcome pair_outcome outcome_for drops_in whole splice pad_to be16
+drop_rows = refl

@@ -2,31 +2,31 @@
 use Rattle.std.specs.Prelude.{List, [], ◌∷◌, ◌++◌, ℕ}
 use Rattle.h264_put.specs.declared.fate.Fate.{Fate}
 use Rattle.h264_put.specs.declared.fate.Fate.TheVariants.{Empty, Dropped, Sps, Pps, Coded}
-use Rattle.annexb.specs.Units.{unitsAt}
+use Rattle.annexb.specs.Units.{units_at}
 use Rattle.h264_put.specs.declared.outcome.Drops.{Drops}
-use Rattle.h264_put.specs.Groups.{Saved, nothingSaved, Group, keepAll, groups_of}
-use Rattle.h264_put.specs.Outcomes.{outcomesOf, dropsIn, together}
+use Rattle.h264_put.specs.Groups.{Saved, nothing_saved, Group, keep_all, groups_of}
+use Rattle.h264_put.specs.Outcomes.{outcomes_of, drops_in, together}
 
 -- the groups sent for frames in order, where v is saved
-abbrev pub groupsFrom : ℕ → Saved → List (List ℕ) → List Group
-groupsFrom mtu v [] = []
-groupsFrom mtu v (frame ∷ frames) =
-    groups_of mtu v (unitsAt mtu frame) ++ groupsFrom mtu (keepAll v (unitsAt mtu frame)) frames
+abbrev pub groups_from : ℕ → Saved → List (List ℕ) → List Group
+groups_from mtu v [] = []
+groups_from mtu v (frame ∷ frames) =
+    groups_of mtu v (units_at mtu frame) ++ groups_from mtu (keep_all v (units_at mtu frame)) frames
 
 -- "a fresh sender"
-abbrev pub groupsSent : ℕ → List (List ℕ) → List Group
-groupsSent mtu frames = groupsFrom mtu nothingSaved frames
+abbrev pub groups_sent : ℕ → List (List ℕ) → List Group
+groups_sent mtu frames = groups_from mtu nothing_saved frames
 
 -- what is dropped for the mtu, the counts of the frames added up
-abbrev pub dropsFrom : ℕ → Saved → List (List ℕ) → Drops
-dropsFrom mtu v [] = record { units = 0; pairs = 0 }
-dropsFrom mtu v (frame ∷ frames) =
-    together (dropsIn (outcomesOf mtu v (unitsAt mtu frame))) (dropsFrom mtu (keepAll v (unitsAt mtu frame)) frames)
+abbrev pub drops_from : ℕ → Saved → List (List ℕ) → Drops
+drops_from mtu v [] = record { units = 0; pairs = 0 }
+drops_from mtu v (frame ∷ frames) =
+    together (drops_in (outcomes_of mtu v (units_at mtu frame))) (drops_from mtu (keep_all v (units_at mtu frame)) frames)
 
 -- the units of frames, one frame behind the other
-abbrev pub unitsOfFrames : ℕ → List (List ℕ) → List (List ℕ)
-unitsOfFrames mtu [] = []
-unitsOfFrames mtu (frame ∷ frames) = unitsAt mtu frame ++ unitsOfFrames mtu frames
+abbrev pub units_of_frames : ℕ → List (List ℕ) → List (List ℕ)
+units_of_frames mtu [] = []
+units_of_frames mtu (frame ∷ frames) = units_at mtu frame ++ units_of_frames mtu frames
 
 -- P of a unit "unless type 7, 8, 9 or 12"
 abbrev pub WhereCoded : (List ℕ → Type 0) → Fate → List ℕ → Type 0

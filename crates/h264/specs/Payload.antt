@@ -2,8 +2,8 @@
 -- Assumes nothing.
 use Rattle.std.specs.Prelude.{List, Bool, true, false, ◌||◌, ℕ, ltb, length, take}
 use Rattle.error.specs.Said.{Said, says, refused, refuse}
-use Rattle.error.specs.Refusal.{refusalOf}
-use Rattle.wire.specs.Part.{splice, padTo}
+use Rattle.error.specs.Refusal.{refusal_of}
+use Rattle.wire.specs.Part.{splice, pad_to}
 use Rattle.wire.specs.Packets.{Sink, whole, joined}
 use Rattle.h264.specs.declared.lent.LentPayloader.{LentPayloader}
 use Rattle.h264.specs.declared.lent.LentSent.{LentSent}
@@ -12,29 +12,29 @@ use Rattle.h264.specs.declared.send.H264Payloader.{H264Payloader}
 use Rattle.h264.specs.declared.send.Sent.{Sent}
 use Rattle.h264.specs.declared.send.Payloads.{Payloads}
 use Rattle.h264.specs.declared.send.Payloads.TheVariants.{Written, Refused}
-use Rattle.annexb.specs.Units.{unitsAt}
+use Rattle.annexb.specs.Units.{units_at}
 use Rattle.h264_put.specs.declared.outcome.Drops.{Drops}
-use Rattle.h264_put.specs.Groups.{Saved, keepAll, groups_of, packetsOf}
-use Rattle.h264_put.specs.Outcomes.{outcomesOf, dropsIn}
-use Rattle.h264_put.specs.Step.{emptySink, overLimit}
+use Rattle.h264_put.specs.Groups.{Saved, keep_all, groups_of, packets_of}
+use Rattle.h264_put.specs.Outcomes.{outcomes_of, drops_in}
+use Rattle.h264_put.specs.Step.{empty_sink, over_limit}
 
 -- ---- the record
 
 -- a set of at most 1,024 bytes in its array, zeros behind it
-abbrev pub setOut : List ℕ → ParameterSet
-setOut s = record { bytes = padTo 1024 s; len = length s }
+abbrev pub set_out : List ℕ → ParameterSet
+set_out s = record { bytes = pad_to 1024 s; len = length s }
 
 -- what is saved, as a record
-abbrev pub layOut : Saved → H264Payloader
-layOut v = record { sps = setOut v.sps; pps = setOut v.pps }
+abbrev pub lay_out : Saved → H264Payloader
+lay_out v = record { sps = set_out v.sps; pps = set_out v.pps }
 
 -- what is saved where the first n bytes of one buffer and the first m of the other are the sets
-abbrev pub heldIn : List ℕ → ℕ → List ℕ → ℕ → Saved
-heldIn sps n pps m = record { sps = take n sps; pps = take m pps }
+abbrev pub held_in : List ℕ → ℕ → List ℕ → ℕ → Saved
+held_in sps n pps m = record { sps = take n sps; pps = take m pps }
 
 -- what a record says is saved
-abbrev pub savedIn : H264Payloader → Saved
-savedIn h = heldIn h.sps.bytes h.sps.len h.pps.bytes h.pps.len
+abbrev pub saved_in : H264Payloader → Saved
+saved_in h = held_in h.sps.bytes h.sps.len h.pps.bytes h.pps.len
 
 -- ---- the same in lent buffers
 
@@ -44,12 +44,12 @@ pub record Lent : Type 0 where
   pub sps : List ℕ
   pub pps : List ℕ
 
-abbrev pub savedLent : Lent → Saved
-savedLent l = heldIn l.sps l.sender.sps_len l.pps l.sender.pps_len
+abbrev pub saved_lent : Lent → Saved
+saved_lent l = held_in l.sps l.sender.sps_len l.pps l.sender.pps_len
 
 -- what is saved, in front of the buffers: "an answer changes only the bytes it writes"
-abbrev pub lendOut : Lent → Saved → Lent
-lendOut l v =
+abbrev pub lend_out : Lent → Saved → Lent
+lend_out l v =
     record {
       sender = record { sps_len = length v.sps; pps_len = length v.pps };
       sps = splice l.sps 0 v.sps;
@@ -59,15 +59,15 @@ lendOut l v =
 -- ---- the refusals, in their order
 
 -- 8: "frames up to 16,777,216; mtu 0 to 65,535 (payload bytes only)", "counts and lengths in a record that lie within its arrays"
-abbrev pub outsideBy : (sps pps mtu : ℕ) → List ℕ → Bool
-outsideBy sps pps mtu frame = ltb 1024 sps || (ltb 1024 pps || (ltb 65535 mtu || ltb 16777216 (length frame)))
+abbrev pub outside_by : (sps pps mtu : ℕ) → List ℕ → Bool
+outside_by sps pps mtu frame = ltb 1024 sps || (ltb 1024 pps || (ltb 65535 mtu || ltb 16777216 (length frame)))
 
 abbrev pub outside : H264Payloader → ℕ → List ℕ → Bool
-outside h mtu frame = outsideBy h.sps.len h.pps.len mtu frame
+outside h mtu frame = outside_by h.sps.len h.pps.len mtu frame
 
 -- 5: "output buffer, or table of packet ends, too small"
-abbrev pub tooSmall : List (List ℕ) → List ℕ → List ℕ → Bool
-tooSmall packets out ends = ltb (length out) (length (joined packets)) || ltb (length ends) (length packets)
+abbrev pub too_small : List (List ℕ) → List ℕ → List ℕ → Bool
+too_small packets out ends = ltb (length out) (length (joined packets)) || ltb (length ends) (length packets)
 
 -- ---- the call
 
@@ -81,7 +81,7 @@ pub record Counts : Type 0 where
 -- what an answer says: the counts, or the paper's number
 abbrev pub said : Payloads → Said Counts
 said (Written packets bytes units pairs) = says (record { packets = packets; bytes = bytes; units_dropped = units; pairs_dropped = pairs })
-said (Refused e) = refused (refusalOf e)
+said (Refused e) = refused (refusal_of e)
 
 -- what a call leaves: the state, what it says, output and table
 pub record LeftIn (S : Type 0) : Type 0 where
@@ -94,23 +94,23 @@ abbrev pub Left : Type 0
 Left = LeftIn H264Payloader
 
 -- an answer, beside the state and the buffers at exit
-abbrev pub leftWith : {S : Type 0} → S → Payloads → List ℕ → List ℕ → LeftIn S
-leftWith state answer out ends = record { sender = state; answer = said answer; out = out; ends = ends }
+abbrev pub left_with : {S : Type 0} → S → Payloads → List ℕ → List ℕ → LeftIn S
+left_with state answer out ends = record { sender = state; answer = said answer; out = out; ends = ends }
 
 abbrev pub left : Sent → List ℕ → List ℕ → Left
-left r out ends = leftWith r.sender r.answer out ends
+left r out ends = left_with r.sender r.answer out ends
 
-abbrev pub leftLent : LentSent → (sps pps out ends : List ℕ) → LeftIn Lent
-leftLent r sps pps out ends = leftWith (record { sender = r.sender; sps = sps; pps = pps }) r.answer out ends
+abbrev pub left_lent : LentSent → (sps pps out ends : List ℕ) → LeftIn Lent
+left_lent r sps pps out ends = left_with (record { sender = r.sender; sps = sps; pps = pps }) r.answer out ends
 
 -- "A refusal returns its number, no record, length 0, and changes no buffer and no state"
-abbrev pub refusedWith : {S : Type 0} → ℕ → S → List ℕ → List ℕ → LeftIn S
-refusedWith number state out ends = record { sender = state; answer = refuse number; out = out; ends = ends }
+abbrev pub refused_with : {S : Type 0} → ℕ → S → List ℕ → List ℕ → LeftIn S
+refused_with number state out ends = record { sender = state; answer = refuse number; out = out; ends = ends }
 
 -- the packets from the front of the output on, their ends from the front of the table on, and what was dropped for the mtu
-abbrev pub sentAs : {S : Type 0} → S → List (List ℕ) → Drops → List ℕ → List ℕ → LeftIn S
-sentAs state packets drops out ends =
-    let sink : Sink = whole (emptySink out ends) packets in
+abbrev pub sent_as : {S : Type 0} → S → List (List ℕ) → Drops → List ℕ → List ℕ → LeftIn S
+sent_as state packets drops out ends =
+    let sink : Sink = whole (empty_sink out ends) packets in
     record {
       sender = state;
       answer = says (record { packets = sink.n; bytes = sink.at; units_dropped = drops.units; pairs_dropped = drops.pairs });
@@ -119,29 +119,29 @@ sentAs state packets drops out ends =
     }
 
 -- the tests' outcomes decide: outside the domain, over the limit, too small
-abbrev pub leftBy : {A : Type 0} → (outside overLimit tooSmall : Bool) → A → A → A → A → A
-leftBy true o t e8 e7 e5 answer = e8
-leftBy false true t e8 e7 e5 answer = e7
-leftBy false false true e8 e7 e5 answer = e5
-leftBy false false false e8 e7 e5 answer = answer
+abbrev pub left_by : {A : Type 0} → (outside over_limit too_small : Bool) → A → A → A → A → A
+left_by true o t e8 e7 e5 answer = e8
+left_by false true t e8 e7 e5 answer = e7
+left_by false false true e8 e7 e5 answer = e5
+left_by false false false e8 e7 e5 answer = answer
 
 -- "8 first .. H.264 sending: 7, then 5.": where v is saved in a state, and `laid` says what state then has what is saved
 abbrev pub call_of : {S : Type 0} → (outside : Bool) → S → (Saved → S) → Saved → ℕ → List ℕ → List ℕ → List ℕ → LeftIn S
 call_of outside state laid v mtu frame out ends =
-    let us : List (List ℕ) = unitsAt mtu frame in
-    let packets : List (List ℕ) = packetsOf (groups_of mtu v us) in
-    leftBy outside (overLimit us) (tooSmall packets out ends)
-    (refusedWith 8 state out ends) (refusedWith 7 state out ends) (refusedWith 5 state out ends)
-    (sentAs (laid (keepAll v us)) packets (dropsIn (outcomesOf mtu v us)) out ends)
+    let us : List (List ℕ) = units_at mtu frame in
+    let packets : List (List ℕ) = packets_of (groups_of mtu v us) in
+    left_by outside (over_limit us) (too_small packets out ends)
+    (refused_with 8 state out ends) (refused_with 7 state out ends) (refused_with 5 state out ends)
+    (sent_as (laid (keep_all v us)) packets (drops_in (outcomes_of mtu v us)) out ends)
 
 -- with the sets in the record
-unfoldable pub payloadOf : H264Payloader → ℕ → List ℕ → List ℕ → List ℕ → Left
-payloadOf h mtu frame out ends = call_of (outside h mtu frame) h layOut (savedIn h) mtu frame out ends
+unfoldable pub payload_of : H264Payloader → ℕ → List ℕ → List ℕ → List ℕ → Left
+payload_of h mtu frame out ends = call_of (outside h mtu frame) h lay_out (saved_in h) mtu frame out ends
 
 -- with the sets in lent buffers
 unfoldable pub lent_of : Lent → ℕ → List ℕ → List ℕ → List ℕ → LeftIn Lent
-lent_of l mtu frame out ends = call_of (outsideBy l.sender.sps_len l.sender.pps_len mtu frame) l (lendOut l) (savedLent l) mtu frame out ends
+lent_of l mtu frame out ends = call_of (outside_by l.sender.sps_len l.sender.pps_len mtu frame) l (lend_out l) (saved_lent l) mtu frame out ends
 
 -- with nothing said of where the sets are
-unfoldable pub sendingOf : (outside : Bool) → Saved → ℕ → List ℕ → List ℕ → List ℕ → LeftIn Saved
-sendingOf outside v mtu frame out ends = call_of outside v (λ (kept : Saved). kept) v mtu frame out ends
+unfoldable pub sending_of : (outside : Bool) → Saved → ℕ → List ℕ → List ℕ → List ℕ → LeftIn Saved
+sending_of outside v mtu frame out ends = call_of outside v (λ (kept : Saved). kept) v mtu frame out ends

@@ -1,9 +1,9 @@
 // What both senders do with a frame: judge it, measure it, send it. The sets that wait then are said by where they lie.
 ghost use Rattle.std.specs.Prelude.{◌≡◌, ◌||◌, ◌≤◌, ltb, length};
-ghost use Rattle.annexb.specs.Units.{noUnits};
-ghost use Rattle.h264_walk.specs.Waiting.{saved_at, Waits, nothingWaits};
-ghost use Rattle.h264.specs.Payload.{heldIn, outsideBy, said, leftWith, sendingOf};
-ghost use Rattle.h264.specs.Step.{stateBy, NoneBeside};
+ghost use Rattle.annexb.specs.Units.{no_units};
+ghost use Rattle.h264_walk.specs.Waiting.{saved_at, Waits, nothing_waits};
+ghost use Rattle.h264.specs.Payload.{held_in, outside_by, said, left_with, sending_of};
+ghost use Rattle.h264.specs.Step.{state_by, NoneBeside};
 
 use crate::send::Payloads;
 use annexb::first_unit;
@@ -34,9 +34,9 @@ pub(crate) fn deliver<'a>(
     requires { (1024 ≤ length sps.now) × (1024 ≤ length pps.now) }
     ensures waits { Waits sps.now pps.now frame.now result.waiting }
     ensures none_beside { NoneBeside (said result.answer) result.waiting }
-    ensures ends_after { leftWith (stateBy (said result.answer) (heldIn sps.now sps_len pps.now pps_len)
+    ensures ends_after { left_with (state_by (said result.answer) (held_in sps.now sps_len pps.now pps_len)
         (saved_at sps.now pps.now frame.now result.waiting)) result.answer out.new ends.new ≡
-        sendingOf (outsideBy sps_len pps_len mtu frame.now) (heldIn sps.now sps_len pps.now pps_len) mtu
+        sending_of (outside_by sps_len pps_len mtu frame.now) (held_in sps.now sps_len pps.now pps_len) mtu
         frame.now out.old ends.old }
 {
     if is_outside(sps_len, pps_len, mtu, frame.len()) {
@@ -71,7 +71,7 @@ pub(crate) fn deliver<'a>(
 }
 
 fn refused(e: Error) -> Delivered
-    ensures { result ≡ record { waiting = nothingWaits; answer = Payloads.Refused e } }
+    ensures { result ≡ record { waiting = nothing_waits; answer = Payloads.Refused e } }
 {
     Delivered {
         waiting: Waiting {
@@ -112,7 +112,7 @@ fn is_outside(sps: usize, pps: usize, mtu: usize, frame: usize) -> bool
 
 // No unit of the frame counts.
 fn is_nothing(mtu: usize, frame: usize) -> bool
-    ensures { result ≡ noUnits mtu frame }
+    ensures { result ≡ no_units mtu frame }
 {
     if frame == 0 {
         return true;
@@ -132,7 +132,7 @@ fn is_too_small(m: Measure, out: usize, ends: usize) -> bool
 
 // Beside a refusal a length stays what it was.
 pub(crate) fn after(answer: Payloads, new: usize, old: usize) -> usize
-    ensures { result ≡ stateBy (said answer) old new }
+    ensures { result ≡ state_by (said answer) old new }
 {
     match answer {
         Payloads::Written {

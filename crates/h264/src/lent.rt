@@ -1,6 +1,6 @@
 // The sender whose parameter sets lie in two lent buffers, so that nothing of their size goes by value: for hosts that send a frame a call.
 ghost use Rattle.std.specs.Prelude.{◌≡◌};
-ghost use Rattle.h264.specs.Payload.{leftLent, lent_of};
+ghost use Rattle.h264.specs.Payload.{left_lent, lent_of};
 
 use crate::deliver_frame::{after, deliver};
 use crate::send::Payloads;
@@ -44,7 +44,7 @@ impl LentPayloader {
         out: &mut [u8],
         ends: &mut [usize],
     ) -> LentSent
-        ensures { leftLent result sps.new pps.new out.new ends.new ≡
+        ensures { left_lent result sps.new pps.new out.new ends.new ≡
             lent_of (record { sender = self; sps = sps.old; pps = pps.old }) mtu
             frame.now out.old ends.old }
     {

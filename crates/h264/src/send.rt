@@ -4,8 +4,8 @@
 // their ends into a table.
 ghost use Rattle.std.specs.Prelude.{◌≡◌, ◌-◌, ◌≤◌, replicate};
 ghost use Rattle.wire.specs.Part.{splice};
-ghost use Rattle.h264_put.specs.Groups.{nothingSaved};
-ghost use Rattle.h264.specs.Payload.{layOut, left, payloadOf};
+ghost use Rattle.h264_put.specs.Groups.{nothing_saved};
+ghost use Rattle.h264.specs.Payload.{lay_out, left, payload_of};
 
 use crate::deliver_frame::{after, deliver};
 use error::Error;
@@ -32,7 +32,7 @@ pub struct H264Payloader {
 impl H264Payloader {
     // A sender with nothing saved.
     pub fn new() -> H264Payloader
-        ensures { result ≡ layOut nothingSaved }
+        ensures { result ≡ lay_out nothing_saved }
     {
         H264Payloader {
             sps: ParameterSet {
@@ -49,7 +49,7 @@ impl H264Payloader {
     // The payloads of a frame, each of at most mtu bytes, and how much was dropped for that.
     pub fn payload(mut self, mtu: usize, frame: &[u8], out: &mut [u8], ends: &mut [usize]) -> Sent
         ensures { left result out.new ends.new ≡
-            payloadOf self mtu frame.now out.old ends.old }
+            payload_of self mtu frame.now out.old ends.old }
     {
         let sps_len = self.sps.len;
         let pps_len = self.pps.len;

@@ -1,8 +1,8 @@
 -- How much the packets of a frame take. Assumes nothing.
 use Rattle.std.specs.Prelude.{◌≡◌, List, [], ◌∷◌, false, ◌||◌, ℕ, ◌+◌, ◌*◌, ◌≤◌, length}
 use Rattle.wire.specs.Packets.{joined}
-use Rattle.h264_put.specs.Groups.{Saved, keep, groupsFor, packetsOf}
-use Rattle.h264_put.specs.Step.{tooLong}
+use Rattle.h264_put.specs.Groups.{Saved, keep, groups_for, packets_of}
+use Rattle.h264_put.specs.Step.{too_long}
 use Rattle.h264_measure.specs.declared.Size.{Size}
 use Rattle.h264_measure.specs.declared.Measure.{Measure}
 
@@ -12,8 +12,8 @@ size_of ps = record { packets = length ps; bytes = length (joined ps) }
 
 -- the saved sets have these lengths
 pub record Lengths (v : Saved) (sps pps : ℕ) : Type 0 where
-  pub of-sps : length v.sps ≡ sps
-  pub of-pps : length v.pps ≡ pps
+  pub of_sps : length v.sps ≡ sps
+  pub of_pps : length v.pps ≡ pps
 
 -- a measure so small that a unit more still fits a machine's number
 pub record Small (m : Measure) : Type 0 where
@@ -32,18 +32,18 @@ pub record Grown (m : Measure) (len : ℕ) (r : Measure) : Type 0 where
 -- m and what one unit takes, where v is saved
 unfoldable pub measured : Measure → ℕ → Saved → List ℕ → Measure
 measured m mtu v u =
-    let packets : List (List ℕ) = packetsOf (groupsFor mtu v u) in
+    let packets : List (List ℕ) = packets_of (groups_for mtu v u) in
     record {
       packets = m.packets + length packets;
       bytes = m.bytes + length (joined packets);
       sps = length (keep v u).sps;
       pps = length (keep v u).pps;
-      long = m.long || tooLong u;
+      long = m.long || too_long u;
     }
 
-abbrev pub measuredAll : Measure → ℕ → Saved → List (List ℕ) → Measure
-measuredAll m mtu v [] = m
-measuredAll m mtu v (u ∷ us) = measuredAll (measured m mtu v u) mtu (keep v u) us
+abbrev pub measured_all : Measure → ℕ → Saved → List (List ℕ) → Measure
+measured_all m mtu v [] = m
+measured_all m mtu v (u ∷ us) = measured_all (measured m mtu v u) mtu (keep v u) us
 
-abbrev pub nothingYet : ℕ → ℕ → Measure
-nothingYet sps pps = record { packets = 0; bytes = 0; sps = sps; pps = pps; long = false }
+abbrev pub nothing_yet : ℕ → ℕ → Measure
+nothing_yet sps pps = record { packets = 0; bytes = 0; sps = sps; pps = pps; long = false }

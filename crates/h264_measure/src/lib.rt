@@ -3,9 +3,9 @@
 // A refusal changes nothing, and a set that is too long may come behind units that can be sent: so all is measured before
 // a byte is written. Only proved code calls this crate, so its functions may ask that a frame is within the limits.
 ghost use Rattle.std.specs.Prelude.{◌≡◌, List, ℕ, ◌+◌, ◌*◌, ◌≤◌, ◌<◌, ◌||◌, ltb, length, drop};
-ghost use Rattle.h264_put.specs.Groups.{Saved, fateOf, unit_for, packetsOf};
+ghost use Rattle.h264_put.specs.Groups.{Saved, fate_of, unit_for, packets_of};
 ghost use Rattle.annexb.specs.Units.{units, pieces};
-ghost use Rattle.h264_measure.specs.Measured.{size_of, Lengths, Small, Grown, measured, measuredAll, nothingYet};
+ghost use Rattle.h264_measure.specs.Measured.{size_of, Lengths, Small, Grown, measured, measured_all, nothing_yet};
 
 use annexb::unit_at;
 use h264_put::{Fate, both, fate_of};
@@ -20,7 +20,7 @@ pub struct Size {
 fn unit_size(len: usize, mtu: usize) -> Size
     requires { (0 < len) × (len ≤ 16777216) }
     ensures { (result.packets ≤ len) × (result.bytes ≤ 3 * len) ×
-        ((u : List ℕ) → length u ≡ len → result ≡ size_of (packetsOf (unit_for mtu u))) }
+        ((u : List ℕ) → length u ≡ len → result ≡ size_of (packets_of (unit_for mtu u))) }
 {
     if len <= mtu {
         return Size {
@@ -58,7 +58,7 @@ impl Measure {
     fn coded(self, mtu: usize, len: usize) -> Measure
         requires { Small self × (mtu ≤ 65535) × (0 < len) × (len ≤ 16777216) }
         ensures { Grown self len result ×
-            ((v : Saved) (u : List ℕ) → Lengths v self.sps self.pps → length u ≡ len → fateOf u ≡ Fate.Coded → result ≡ measured self mtu v u) }
+            ((v : Saved) (u : List ℕ) → Lengths v self.sps self.pps → length u ≡ len → fate_of u ≡ Fate.Coded → result ≡ measured self mtu v u) }
     {
         let unit = unit_size(len, mtu);
         let packets = self.packets + unit.packets;
@@ -133,7 +133,7 @@ fn over(long: bool, len: usize) -> bool
 pub fn measure_frame(frame: &[u8], first: usize, mtu: usize, sps: usize, pps: usize) -> Measure
     requires frame_len_bound { (length frame.now ≤ 16777216) × (mtu ≤ 65535) × (sps ≤ 1024) × (pps ≤ 1024) }
     requires first_in_bounds { (first ≤ length frame.now) × (pieces (drop first frame.now) ≡ units frame.now) }
-    ensures { (v : Saved) → Lengths v sps pps → result ≡ measuredAll (nothingYet sps pps) mtu v (units frame.now) }
+    ensures { (v : Saved) → Lengths v sps pps → result ≡ measured_all (nothing_yet sps pps) mtu v (units frame.now) }
 {
     let mut start = first;
     let mut m = Measure {

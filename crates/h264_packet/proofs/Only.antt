@@ -9,16 +9,16 @@ use lib.ListN.{length, get_or}
 use Rattle.error.specs.Refusal.{Refusal}
 use Rattle.error.specs.Said.{Said, says, refused, refuse}
 use Rattle.error.specs.Only.{Determined}
-use Rattle.error.proofs.Inverse.{errorOf, errorOf-refusalOf}
-use Rattle.error.proofs.Only.{by_value, by-view, Sayable, known, tested}
+use Rattle.error.proofs.Inverse.{error_of, error_of_refusal_of}
+use Rattle.error.proofs.Only.{by_value, by_view, Sayable, known, tested}
 use Rattle.wire.specs.Turns.{run}
 use Rattle.wire.specs.Net.{bit}
 use Rattle.nal_read.specs.Kind.{Shape, short, unknown, plain, aggregate, fragment, shape}
 use Rattle.nal_read.specs.Unpack.{unpack}
 use Rattle.nal.specs.Fed.{Fed, Laid}
-use Rattle.nal.specs.Ran.{RanOn, layRun}
-use Rattle.nal_read.proofs.Sayable.{unpack-sayable}
-use Rattle.nal.proofs.Sayable.{handing-sayable, run-sayable}
+use Rattle.nal.specs.Ran.{RanOn, lay_run}
+use Rattle.nal_read.proofs.Sayable.{unpack_sayable}
+use Rattle.nal.proofs.Sayable.{handing_sayable, run_sayable}
 use Rattle.h264_packet.specs.declared.H264Packet.{H264Packet}
 use Rattle.h264_packet.specs.declared.Shown.{Shown}
 use Rattle.h264_packet.specs.declared.Shown.TheVariants as shown
@@ -28,50 +28,50 @@ use Rattle.h264_packet.specs.declared.Depacketized.{Depacketized}
 use Rattle.h264_packet.specs.declared.Head.{Head}
 use Rattle.h264_packet.specs.declared.Head.TheVariants as head
 use Rattle.h264_packet.specs.Run.{Run, gathered, run_of, recorded}
-use Rattle.h264_packet.specs.Depacketize.{read_by, readPayload, outside, depacketized, Showing, nowhere, in-packet, in-gather, shownOf, body_of, headTest}
-use Rattle.h264_packet.specs.Said.{saidShown, saidDepacketize, Heard, heard, readingHeard, depacketizedHeard, saidHead}
+use Rattle.h264_packet.specs.Depacketize.{read_by, read_payload, outside, depacketized, Showing, nowhere, in_packet, in_gather, shown_of, body_of, head_test}
+use Rattle.h264_packet.specs.Said.{said_shown, said_depacketize, Heard, heard, reading_heard, depacketized_heard, said_head}
 
 -- ---- the definitions say no other refusal
 
-shape-sayable : (s : Shape) (run : Run) (payload : List ℕ) → Sayable (read_by s run payload)
-shape-sayable short run payload = refl
-shape-sayable (unknown t) run payload = refl
-shape-sayable plain run payload = refl
-shape-sayable aggregate run payload =
-    handing-sayable run (gathered run) (unpack payload) (unpack-sayable payload)
-shape-sayable (fragment first last head) run payload = refl
+shape_sayable : (s : Shape) (run : Run) (payload : List ℕ) → Sayable (read_by s run payload)
+shape_sayable short run payload = refl
+shape_sayable (unknown t) run payload = refl
+shape_sayable plain run payload = refl
+shape_sayable aggregate run payload =
+    handing_sayable run (gathered run) (unpack payload) (unpack_sayable payload)
+shape_sayable (fragment first last head) run payload = refl
 
-read-sayable : (avc : Bool) (n : ℕ) (payload gather out : List ℕ) → Sayable (depacketized avc n payload gather out).answer
-unfolding depacketized readPayload
-read-sayable avc n payload gather out =
+read_sayable : (avc : Bool) (n : ℕ) (payload gather out : List ℕ) → Sayable (depacketized avc n payload gather out).answer
+unfolding depacketized read_payload
+read_sayable avc n payload gather out =
     let x : Said (Fed Run) = read_by (shape payload) (run_of n gather) payload in
-    tested (λ (l : Laid (RanOn ℕ)). l.answer) (record { answer = refuse 8; gather = gather; out = out }) (layRun recorded avc gather out x)
-    (outside n payload gather) refl (run-sayable recorded avc gather out x (shape-sayable (shape payload) (run_of n gather) payload))
+    tested (λ (l : Laid (RanOn ℕ)). l.answer) (record { answer = refuse 8; gather = gather; out = out }) (lay_run recorded avc gather out x)
+    (outside n payload gather) refl (run_sayable recorded avc gather out x (shape_sayable (shape payload) (run_of n gather) payload))
 
 -- ---- depacketize
 
 abbrev answer_of : Said ℕ → Depacketize
 answer_of (says n) = dep.Bytes n
-answer_of (refused r) = dep.Refused (errorOf r)
+answer_of (refused r) = dep.Refused (error_of r)
 
-answerOf-said : (a : Depacketize) → answer_of (saidDepacketize a) ≡ a
-answerOf-said (dep.Bytes n) = refl
-answerOf-said (dep.Refused e) = ap dep.Refused (errorOf-refusalOf e)
+answer_of_said : (a : Depacketize) → answer_of (said_depacketize a) ≡ a
+answer_of_said (dep.Bytes n) = refl
+answer_of_said (dep.Refused e) = ap dep.Refused (error_of_refusal_of e)
 
-abbrev shownBy : Showing → Shown
-shownBy nowhere = shown.Nowhere
-shownBy in-packet = shown.Packet
-shownBy (in-gather n) = shown.Gather n
+abbrev shown_by : Showing → Shown
+shown_by nowhere = shown.Nowhere
+shown_by in_packet = shown.Packet
+shown_by (in_gather n) = shown.Gather n
 
-shownBy-said : (s : Shown) → shownBy (saidShown s) ≡ s
-shownBy-said shown.Nowhere = refl
-shownBy-said shown.Packet = refl
-shownBy-said (shown.Gather n) = refl
+shown_by_said : (s : Shown) → shown_by (said_shown s) ≡ s
+shown_by_said shown.Nowhere = refl
+shown_by_said shown.Packet = refl
+shown_by_said (shown.Gather n) = refl
 
-said-shownBy : (s : Showing) → saidShown (shownBy s) ≡ s
-said-shownBy nowhere = refl
-said-shownBy in-packet = refl
-said-shownBy (in-gather n) = refl
+said_shown_by : (s : Showing) → said_shown (shown_by s) ≡ s
+said_shown_by nowhere = refl
+said_shown_by in_packet = refl
+said_shown_by (in_gather n) = refl
 
 -- what a call hands back: its result, the gather buffer and the output
 abbrev pub Handed : Type 0
@@ -81,52 +81,52 @@ abbrev view : Handed → Heard
 view x = heard x.0 x.1 x.2
 
 abbrev back : Heard → Handed
-back h = (record { packet = h.packet; answer = answer_of h.answer; shown = shownBy h.showing }, h.gather, h.out)
+back h = (record { packet = h.packet; answer = answer_of h.answer; shown = shown_by h.showing }, h.gather, h.out)
 
-back-view : (x : Handed) → back (view x) ≡ x
-back-view x i = (
-  record { packet = x.0.packet; answer = answerOf-said x.0.answer i; shown = shownBy-said x.0.shown i },
+back_view : (x : Handed) → back (view x) ≡ x
+back_view x i = (
+  record { packet = x.0.packet; answer = answer_of_said x.0.answer i; shown = shown_by_said x.0.shown i },
   x.1,
   x.2,
 )
 
-view-back : (p : H264Packet) (payload gather out : List ℕ) (x : Said (RanOn ℕ)) → Sayable x →
-    view (back (readingHeard p payload gather out x)) ≡ readingHeard p payload gather out x
-view-back p payload gather out (says r) e =
+view_back : (p : H264Packet) (payload gather out : List ℕ) (x : Said (RanOn ℕ)) → Sayable x →
+    view (back (reading_heard p payload gather out x)) ≡ reading_heard p payload gather out x
+view_back p payload gather out (says r) e =
     ap
     (λ (s : Showing). record { packet = record { is_avc = p.is_avc; gathered = r.run }; answer = says r.bytes; showing = s; gather = gather; out = out })
-    (said-shownBy (shownOf (shape payload) p.gathered (length payload)))
-view-back p payload gather out (refused r) e =
+    (said_shown_by (shown_of (shape payload) p.gathered (length payload)))
+view_back p payload gather out (refused r) e =
     ap (λ (k : Refusal). record { packet = p; answer = refused k; showing = nowhere; gather = gather; out = out })
     (known {A = RanOn ℕ} {r = r} e)
 
-pub depacketize-only : (p : H264Packet) (payload gather out : List ℕ) →
-    Determined (λ (x : Handed). heard x.0 x.1 x.2 ≡ depacketizedHeard p payload (depacketized p.is_avc p.gathered payload gather out))
-depacketize-only p payload gather out =
+pub depacketize_only : (p : H264Packet) (payload gather out : List ℕ) →
+    Determined (λ (x : Handed). heard x.0 x.1 x.2 ≡ depacketized_heard p payload (depacketized p.is_avc p.gathered payload gather out))
+depacketize_only p payload gather out =
     let l : Laid (RanOn ℕ) = depacketized p.is_avc p.gathered payload gather out in
-    by-view view back back-view (back (depacketizedHeard p payload l)) (depacketizedHeard p payload l)
-    (view-back p payload l.gather l.out l.answer (read-sayable p.is_avc p.gathered payload gather out))
+    by_view view back back_view (back (depacketized_heard p payload l)) (depacketized_heard p payload l)
+    (view_back p payload l.gather l.out l.answer (read_sayable p.is_avc p.gathered payload gather out))
 
 -- ---- the body, and the partition tests
 
-pub body-only : (s : Shown) (packet gather : List ℕ) → Determined (λ (r : List ℕ). r ≡ body_of (saidShown s) packet gather)
-body-only s packet gather = by_value (body_of (saidShown s) packet gather)
+pub body_only : (s : Shown) (packet gather : List ℕ) → Determined (λ (r : List ℕ). r ≡ body_of (said_shown s) packet gather)
+body_only s packet gather = by_value (body_of (said_shown s) packet gather)
 
-abbrev headBy : Said Bool → Head
-headBy (says b) = head.Is b
-headBy (refused r) = head.Refused (errorOf r)
+abbrev head_by : Said Bool → Head
+head_by (says b) = head.Is b
+head_by (refused r) = head.Refused (error_of r)
 
-headBy-said : (a : Head) → headBy (saidHead a) ≡ a
-headBy-said (head.Is b) = refl
-headBy-said (head.Refused e) = ap head.Refused (errorOf-refusalOf e)
+head_by_said : (a : Head) → head_by (said_head a) ≡ a
+head_by_said (head.Is b) = refl
+head_by_said (head.Refused e) = ap head.Refused (error_of_refusal_of e)
 
-said-headBy : (x : Said Bool) → Sayable x → saidHead (headBy x) ≡ x
-said-headBy (says b) e = refl
-said-headBy (refused r) e = e
+said_head_by : (x : Said Bool) → Sayable x → said_head (head_by x) ≡ x
+said_head_by (says b) e = refl
+said_head_by (refused r) e = e
 
-head-sayable : (s : List ℕ) → Sayable (headTest s)
-unfolding headTest
-head-sayable s =
+head_sayable : (s : List ℕ) → Sayable (head_test s)
+unfolding head_test
+head_sayable s =
     let t : ℕ = get_or s 0 0 % 32 in
     let start : Said Bool = says (bit (get_or s 1 0 / 128)) in
     let typed : Said Bool = cond (eqb t 28 || eqb t 29) start (says true) in
@@ -134,9 +134,9 @@ head-sayable s =
     (tested (λ (x : Said Bool). x) (says false) typed (ltb (length s) 2) refl
     (tested (λ (x : Said Bool). x) start (says true) (eqb t 28 || eqb t 29) refl refl))
 
-pub is-partition-head-only : (s : List ℕ) → Determined (λ (r : Head). saidHead r ≡ headTest s)
-is-partition-head-only s =
-    by-view saidHead headBy headBy-said (headBy (headTest s)) (headTest s) (said-headBy (headTest s) (head-sayable s))
+pub is_partition_head_only : (s : List ℕ) → Determined (λ (r : Head). said_head r ≡ head_test s)
+is_partition_head_only s =
+    by_view said_head head_by head_by_said (head_by (head_test s)) (head_test s) (said_head_by (head_test s) (head_sayable s))
 
-pub is-partition-tail-only : (marker : Bool) → Determined (λ (r : Bool). r ≡ marker)
-is-partition-tail-only marker = by_value marker
+pub is_partition_tail_only : (marker : Bool) → Determined (λ (r : Bool). r ≡ marker)
+is_partition_tail_only marker = by_value marker

@@ -7,7 +7,7 @@ use Rattle.wire.specs.Net.{bit}
 use Rattle.nal_read.specs.Kind.{Shape, short, unknown, plain, aggregate, fragment, shape}
 use Rattle.nal_read.specs.Unpack.{unpack}
 use Rattle.nal.specs.Fed.{Fed, Laid}
-use Rattle.nal.specs.Ran.{handing, RanOn, layRun}
+use Rattle.nal.specs.Ran.{handing, RanOn, lay_run}
 use Rattle.h264_packet.specs.Run.{Run, gathered, run_of, recorded, ongoing, finished}
 
 -- units that leave the run as it is
@@ -15,20 +15,20 @@ abbrev pub beside : Run → Said (List (List ℕ)) → Said (Fed Run)
 beside run units = handing run (gathered run) units
 
 -- a fragment's data behind what was gathered, "regardless of the start bit"
-abbrev pub gatheredOn : List ℕ → Bool → ℕ → Fed Run
-gatheredOn bytes false head = ongoing bytes
-gatheredOn bytes true head = finished head bytes
+abbrev pub gathered_on : List ℕ → Bool → ℕ → Fed Run
+gathered_on bytes false head = ongoing bytes
+gathered_on bytes true head = finished head bytes
 
 abbrev pub read_by : Shape → Run → List ℕ → Said (Fed Run)
 read_by short run payload = refuse 4
 read_by (unknown t) run payload = refused (record { number = 19; carried = t ∷ [] })
 read_by plain run payload = beside run (says (payload ∷ []))
 read_by aggregate run payload = beside run (unpack payload)
-read_by (fragment first last head) run payload = says (gatheredOn (gathered run ++ drop 2 payload) last head)
+read_by (fragment first last head) run payload = says (gathered_on (gathered run ++ drop 2 payload) last head)
 
 -- "H.264 reading: 4, 19, 17 or 18 at the first place"
-unfoldable pub readPayload : Run → List ℕ → Said (Fed Run)
-readPayload run payload = read_by (shape payload) run payload
+unfoldable pub read_payload : Run → List ℕ → Said (Fed Run)
+read_payload run payload = read_by (shape payload) run payload
 
 -- ---- the call
 
@@ -40,43 +40,43 @@ outside n payload gather = ltb 65535 (length payload) || (ltb (length gather) n 
 unfoldable pub depacketized : Bool → ℕ → List ℕ → List ℕ → List ℕ → Laid (RanOn ℕ)
 depacketized avc n payload gather out =
     cond (outside n payload gather) (record { answer = refuse 8; gather = gather; out = out })
-    (layRun recorded avc gather out (readPayload (run_of n gather) payload))
+    (lay_run recorded avc gather out (read_payload (run_of n gather) payload))
 
 -- ---- the body
 
 -- where a unit's body can be seen: nowhere, in the packet, or in front of the gather buffer
 pub data Showing : Type 0 where
   nowhere : Showing
-  in-packet : Showing
-  in-gather : (len : ℕ) → Showing
+  in_packet : Showing
+  in_gather : (len : ℕ) → Showing
 
 -- "A plain unit's body can be shown as a part of the packet, a joined one as a part of the gather buffer"; `n` bytes were gathered
 -- before
-abbrev pub shownOf : Shape → ℕ → ℕ → Showing
-shownOf short n len = nowhere
-shownOf (unknown t) n len = nowhere
-shownOf plain n len = in-packet
-shownOf aggregate n len = nowhere
-shownOf (fragment first false head) n len = nowhere
-shownOf (fragment first true head) n len = in-gather (n + (len - 2))
+abbrev pub shown_of : Shape → ℕ → ℕ → Showing
+shown_of short n len = nowhere
+shown_of (unknown t) n len = nowhere
+shown_of plain n len = in_packet
+shown_of aggregate n len = nowhere
+shown_of (fragment first false head) n len = nowhere
+shown_of (fragment first true head) n len = in_gather (n + (len - 2))
 
 -- what is shown is there: in a payload of p bytes, or in front of a gather buffer of g
 abbrev pub Lies : Showing → ℕ → ℕ → Type 0
 Lies nowhere p g = Unit {0}
-Lies in-packet p g = 1 ≤ p
-Lies (in-gather len) p g = len ≤ g
+Lies in_packet p g = 1 ≤ p
+Lies (in_gather len) p g = len ≤ g
 
 -- "The body is all after the unit's first byte"; a length beyond the buffer shows nothing
 unfoldable pub body_of : Showing → List ℕ → List ℕ → List ℕ
 body_of nowhere payload gather = []
-body_of in-packet payload gather = drop 1 payload
-body_of (in-gather len) payload gather = cond (leb len (length gather)) (take len gather) []
+body_of in_packet payload gather = drop 1 payload
+body_of (in_gather len) payload gather = cond (leb len (length gather)) (take len gather) []
 
 -- ---- the partition tests
 
 -- "The partition head and tail tests of 002": 28 and 29 look at the start bit
-unfoldable pub headTest : List ℕ → Said Bool
-headTest s =
+unfoldable pub head_test : List ℕ → Said Bool
+head_test s =
     cond (ltb 65535 (length s)) (refuse 8)
     (cond (ltb (length s) 2) (says false)
     (cond (eqb (get_or s 0 0 % 32) 28 || eqb (get_or s 0 0 % 32) 29) (says (bit (get_or s 1 0 / 128))) (says true)))

@@ -1,7 +1,7 @@
 // The partition tests.
 ghost use Rattle.std.specs.Prelude.{◌≡◌};
-ghost use Rattle.h264_packet.specs.Depacketize.{headTest};
-ghost use Rattle.h264_packet.specs.Said.{saidHead};
+ghost use Rattle.h264_packet.specs.Depacketize.{head_test};
+ghost use Rattle.h264_packet.specs.Said.{said_head};
 
 use crate::Head;
 use error::Error;
@@ -11,7 +11,7 @@ pub const FUB_NALU_TYPE: u8 = 29;
 
 // Whether a payload is the head of a packetized unit: FU-A and FU-B say so by their start bit.
 pub fn is_partition_head(payload: &[u8]) -> Head
-    ensures { saidHead result ≡ headTest payload.now }
+    ensures { said_head result ≡ head_test payload.now }
 {
     if 65535 < payload.len() {
         return Head::Refused(Error::OutsideDomain);

@@ -1,13 +1,13 @@
 // Reading a payload.
 ghost use Rattle.std.specs.Prelude.{◌≡◌, false, ◌++◌, ◌≤◌, length, take, drop};
-ghost use Rattle.error.specs.Refusal.{refusalOf};
+ghost use Rattle.error.specs.Refusal.{refusal_of};
 ghost use Rattle.error.specs.Said.{says, refused};
 ghost use Rattle.nal_read.specs.Kind.{fragment, shape};
-ghost use Rattle.nal.specs.Said.{saidHanded};
-ghost use Rattle.nal.specs.Ran.{with_run, layRun};
+ghost use Rattle.nal.specs.Said.{said_handed};
+ghost use Rattle.nal.specs.Ran.{with_run, lay_run};
 ghost use Rattle.h264_packet.specs.Run.{run_of, recorded};
-ghost use Rattle.h264_packet.specs.Depacketize.{gatheredOn, readPayload, depacketized, nowhere, shownOf};
-ghost use Rattle.h264_packet.specs.Said.{ranSaid, ranHeard, Shows, saidShown, saidDepacketize, heard, depacketizedHeard};
+ghost use Rattle.h264_packet.specs.Depacketize.{gathered_on, read_payload, depacketized, nowhere, shown_of};
+ghost use Rattle.h264_packet.specs.Said.{ran_said, ran_heard, Shows, said_shown, said_depacketize, heard, depacketized_heard};
 
 use crate::{Depacketize, Depacketized, H264Packet, Ran, Shown};
 use error::Error;
@@ -16,7 +16,7 @@ use nal_read::Kind;
 
 // The answer of handing out, where a run of `gathered` bytes is open afterwards and the body is shown so.
 fn with_run(handed: Handed, gathered: usize, shown: Shown) -> Ran
-    ensures { (ranSaid result ≡ with_run gathered (saidHanded handed)) × Shows result (saidShown shown) }
+    ensures { (ran_said result ≡ with_run gathered (said_handed handed)) × Shows result (said_shown shown) }
 {
     match handed {
         Handed::Bytes(bytes) => Ran::On {
@@ -39,8 +39,8 @@ fn read_fragment(
     out: &mut [u8],
 ) -> Ran
     requires { (3 ≤ length payload.now) × (length payload.now ≤ 65535) × (run ≤ length gather.old) }
-    ensures { (ranHeard result gather.new out.new ≡ layRun recorded avc gather.old out.old (says (gatheredOn (take run gather.old ++ drop 2 payload.now) last head)))
-        × Shows result (shownOf (fragment false last head) run (length payload.now)) }
+    ensures { (ran_heard result gather.new out.new ≡ lay_run recorded avc gather.old out.old (says (gathered_on (take run gather.old ++ drop 2 payload.now) last head)))
+        × Shows result (shown_of (fragment false last head) run (length payload.now)) }
 {
     let end = run + (payload.len() - 2);
     if last {
@@ -60,8 +60,8 @@ fn read_fragment(
 
 fn read_payload(avc: bool, run: usize, payload: &[u8], gather: &mut [u8], out: &mut [u8]) -> Ran
     requires { (length payload.now ≤ 65535) × (run ≤ length gather.old) × (run ≤ 16777215) }
-    ensures { (ranHeard result gather.new out.new ≡ layRun recorded avc gather.old out.old (readPayload (run_of run gather.old) payload.now))
-        × Shows result (shownOf (shape payload.now) run (length payload.now)) }
+    ensures { (ran_heard result gather.new out.new ≡ lay_run recorded avc gather.old out.old (read_payload (run_of run gather.old) payload.now))
+        × Shows result (shown_of (shape payload.now) run (length payload.now)) }
 {
     let kind = nal_read::kind_of(payload);
     match kind {
@@ -83,7 +83,7 @@ fn read_payload(avc: bool, run: usize, payload: &[u8], gather: &mut [u8], out: &
 
 impl H264Packet {
     fn refused(self, e: Error) -> Depacketized
-        ensures { (result.packet ≡ self) × (saidDepacketize result.answer ≡ refused (refusalOf e)) × (saidShown result.shown ≡ nowhere) }
+        ensures { (result.packet ≡ self) × (said_depacketize result.answer ≡ refused (refusal_of e)) × (said_shown result.shown ≡ nowhere) }
     {
         Depacketized {
             packet: self,
@@ -94,7 +94,7 @@ impl H264Packet {
 
     // Reads a payload: units go to the front of out, fragments behind what gather holds. A refusal changes nothing.
     pub fn depacketize(self, payload: &[u8], gather: &mut [u8], out: &mut [u8]) -> Depacketized
-        ensures { heard result gather.new out.new ≡ depacketizedHeard self payload.now (depacketized self.is_avc self.gathered payload.now gather.old out.old) }
+        ensures { heard result gather.new out.new ≡ depacketized_heard self payload.now (depacketized self.is_avc self.gathered payload.now gather.old out.old) }
     {
         let run = self.gathered;
         if 65535 < payload.len() {

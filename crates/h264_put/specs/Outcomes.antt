@@ -8,73 +8,73 @@ use Rattle.h264_put.specs.declared.outcome.PairOutcome.{PairOutcome}
 use Rattle.h264_put.specs.declared.outcome.PairOutcome.TheVariants as of_pair
 use Rattle.h264_put.specs.declared.outcome.Outcome.{Outcome}
 use Rattle.h264_put.specs.declared.outcome.Drops.{Drops}
-use Rattle.h264_put.specs.Groups.{Saved, bothSaved, fateOf, keep, stapA}
+use Rattle.h264_put.specs.Groups.{Saved, both_saved, fate_of, keep, stap_a}
 
 -- ---- what becomes of them
 
 -- "A unit that fits goes alone, else as FU-A with at most mtu - 2 bytes each; under mtu 3 it is dropped."
-unfoldable pub unitOutcome : ℕ → List ℕ → UnitOutcome
-unitOutcome mtu u = cond (leb (length u) mtu) of-unit.Sent (cond (ltb mtu 3) of-unit.DroppedForMtu of-unit.Sent)
+unfoldable pub unit_outcome : ℕ → List ℕ → UnitOutcome
+unit_outcome mtu u = cond (leb (length u) mtu) of-unit.Sent (cond (ltb mtu 3) of-unit.DroppedForMtu of-unit.Sent)
 
 -- "with both saved, is preceded by a STAP-A (0x78) if that fits the mtu; the pair is forgotten either way"
-unfoldable pub pairOutcome : ℕ → Saved → PairOutcome
-pairOutcome mtu v =
-    cond (bothSaved v) (cond (leb (length (stapA v.sps v.pps)) mtu) of_pair.Sent of_pair.DroppedForMtu) of_pair.NotDue
+unfoldable pub pair_outcome : ℕ → Saved → PairOutcome
+pair_outcome mtu v =
+    cond (both_saved v) (cond (leb (length (stap_a v.sps v.pps)) mtu) of_pair.Sent of_pair.DroppedForMtu) of_pair.NotDue
 
 -- at a unit that is not to be sent no pair is due
-abbrev pub withoutPair : UnitOutcome → Outcome
-withoutPair u = record { unit = u; pair = of_pair.NotDue }
+abbrev pub without_pair : UnitOutcome → Outcome
+without_pair u = record { unit = u; pair = of_pair.NotDue }
 
 -- "Empty units and types 9, 12 are dropped; 7, 8 are saved. Any other unit" is sent or dropped for the mtu
-abbrev pub outcomeBy : Fate → ℕ → Saved → List ℕ → Outcome
-outcomeBy Empty mtu v u = withoutPair of-unit.Empty
-outcomeBy Dropped mtu v u = withoutPair of-unit.DroppedByType
-outcomeBy Sps mtu v u = withoutPair of-unit.Saved
-outcomeBy Pps mtu v u = withoutPair of-unit.Saved
-outcomeBy Coded mtu v u = record { unit = unitOutcome mtu u; pair = pairOutcome mtu v }
+abbrev pub outcome_by : Fate → ℕ → Saved → List ℕ → Outcome
+outcome_by Empty mtu v u = without_pair of-unit.Empty
+outcome_by Dropped mtu v u = without_pair of-unit.DroppedByType
+outcome_by Sps mtu v u = without_pair of-unit.Saved
+outcome_by Pps mtu v u = without_pair of-unit.Saved
+outcome_by Coded mtu v u = record { unit = unit_outcome mtu u; pair = pair_outcome mtu v }
 
 -- what becomes of one unit and of the pair at it, where v is saved
-unfoldable pub outcomeFor : ℕ → Saved → List ℕ → Outcome
-outcomeFor mtu v u = outcomeBy (fateOf u) mtu v u
+unfoldable pub outcome_for : ℕ → Saved → List ℕ → Outcome
+outcome_for mtu v u = outcome_by (fate_of u) mtu v u
 
 -- of units in order; of a frame that is refused nothing is sent or saved, and this is not asked
-abbrev pub outcomesOf : ℕ → Saved → List (List ℕ) → List Outcome
-outcomesOf mtu v [] = []
-outcomesOf mtu v (u ∷ us) = outcomeFor mtu v u ∷ outcomesOf mtu (keep v u) us
+abbrev pub outcomes_of : ℕ → Saved → List (List ℕ) → List Outcome
+outcomes_of mtu v [] = []
+outcomes_of mtu v (u ∷ us) = outcome_for mtu v u ∷ outcomes_of mtu (keep v u) us
 
 -- ---- how many are dropped for the mtu
 
-abbrev pub unitDropped : UnitOutcome → Bool
-unitDropped of-unit.Empty = false
-unitDropped of-unit.DroppedByType = false
-unitDropped of-unit.Saved = false
-unitDropped of-unit.Sent = false
-unitDropped of-unit.DroppedForMtu = true
+abbrev pub unit_dropped : UnitOutcome → Bool
+unit_dropped of-unit.Empty = false
+unit_dropped of-unit.DroppedByType = false
+unit_dropped of-unit.Saved = false
+unit_dropped of-unit.Sent = false
+unit_dropped of-unit.DroppedForMtu = true
 
-abbrev pub pairDropped : PairOutcome → Bool
-pairDropped of_pair.NotDue = false
-pairDropped of_pair.Sent = false
-pairDropped of_pair.DroppedForMtu = true
+abbrev pub pair_dropped : PairOutcome → Bool
+pair_dropped of_pair.NotDue = false
+pair_dropped of_pair.Sent = false
+pair_dropped of_pair.DroppedForMtu = true
 
 abbrev pub one : Bool → ℕ
 one b = cond b 1 0
 
 -- how many of a list have it
-abbrev pub howMany : (Outcome → Bool) → List Outcome → ℕ
-howMany test [] = 0
-howMany test (o ∷ os) = one (test o) + howMany test os
+abbrev pub how_many : (Outcome → Bool) → List Outcome → ℕ
+how_many test [] = 0
+how_many test (o ∷ os) = one (test o) + how_many test os
 
 -- "how many units and pairs were dropped for the mtu, each count equal to the number so named"
-unfoldable pub dropsIn : List Outcome → Drops
-dropsIn os =
+unfoldable pub drops_in : List Outcome → Drops
+drops_in os =
     record {
-      units = howMany (λ (o : Outcome). unitDropped o.unit) os;
-      pairs = howMany (λ (o : Outcome). pairDropped o.pair) os;
+      units = how_many (λ (o : Outcome). unit_dropped o.unit) os;
+      pairs = how_many (λ (o : Outcome). pair_dropped o.pair) os;
     }
 
 -- one unit more
 abbrev pub counted : Drops → Outcome → Drops
-counted d o = record { units = d.units + one (unitDropped o.unit); pairs = d.pairs + one (pairDropped o.pair) }
+counted d o = record { units = d.units + one (unit_dropped o.unit); pairs = d.pairs + one (pair_dropped o.pair) }
 
 -- those of units and of the units behind them
 abbrev pub together : Drops → Drops → Drops

@@ -6,7 +6,7 @@
 // |F|NRI|  Type   |
 // +---------------+
 ghost use Rattle.std.specs.Prelude.{◌≡◌, ◌&&◌, ltb};
-ghost use Rattle.h264_put.specs.Groups.{fateOf};
+ghost use Rattle.h264_put.specs.Groups.{fate_of};
 
 pub const SPS_NALU_TYPE: u8 = 7;
 
@@ -31,7 +31,7 @@ pub enum Fate {
 }
 
 pub fn fate_of(unit: &[u8]) -> Fate
-    ensures { result ≡ fateOf unit.now }
+    ensures { result ≡ fate_of unit.now }
 {
     if unit.len() == 0 {
         return Fate::Empty;

@@ -1,6 +1,6 @@
 // What became of a unit and of the pair that may stand before it, and how many of each were dropped for the mtu.
 ghost use Rattle.std.specs.Prelude.{◌≡◌, ◌≤◌};
-ghost use Rattle.h264_put.specs.Outcomes.{one, unitDropped, pairDropped, counted};
+ghost use Rattle.h264_put.specs.Outcomes.{one, unit_dropped, pair_dropped, counted};
 
 #[derive(Drop)]
 pub enum UnitOutcome {
@@ -60,7 +60,7 @@ impl Drops {
 }
 
 fn unit_dropped(unit: UnitOutcome) -> usize
-    ensures { result ≡ one (unitDropped unit) }
+    ensures { result ≡ one (unit_dropped unit) }
 {
     match unit {
         UnitOutcome::Empty => 0,
@@ -72,7 +72,7 @@ fn unit_dropped(unit: UnitOutcome) -> usize
 }
 
 fn pair_dropped(pair: PairOutcome) -> usize
-    ensures { result ≡ one (pairDropped pair) }
+    ensures { result ≡ one (pair_dropped pair) }
 {
     match pair {
         PairOutcome::NotDue => 0,

@@ -5,9 +5,9 @@ ghost use Rattle.std.specs.Prelude.{◌≡◌, ◌++◌, ◌+◌, ◌<◌, ◌�
 ghost use Rattle.wire.specs.Net.{be16};
 ghost use Rattle.wire.specs.Part.{splice};
 ghost use Rattle.wire.specs.Packets.{Room, put, put_all};
-ghost use Rattle.h264_put.specs.Groups.{stapA, fragment, fragmentsOf, unit_for, packetsOf};
-ghost use Rattle.h264_put.specs.Step.{sinkAt};
-ghost use Rattle.h264_put.specs.Outcomes.{unitOutcome};
+ghost use Rattle.h264_put.specs.Groups.{stap_a, fragment, fragments_of, unit_for, packets_of};
+ghost use Rattle.h264_put.specs.Step.{sink_at};
+ghost use Rattle.h264_put.specs.Outcomes.{unit_outcome};
 
 use crate::outcome::UnitOutcome;
 
@@ -23,8 +23,8 @@ pub struct Place {
 // A packet as it is.
 fn put_plain(packet: &[u8], out: &mut [u8], ends: &mut [usize], to: Place) -> Place
     requires { (to.at + length packet.now ≤ length out.old) × (to.n < length ends.old) }
-    ensures { sinkAt out.new ends.new result ≡
-        put (sinkAt out.old ends.old to) packet.now }
+    ensures { sink_at out.new ends.new result ≡
+        put (sink_at out.old ends.old to) packet.now }
 {
     let at = to.at;
     let n = to.n;
@@ -60,8 +60,8 @@ fn put_set(set: &[u8], out: &mut [u8], at: usize)
 pub fn put_pair(sps: &[u8], pps: &[u8], out: &mut [u8], ends: &mut [usize], to: Place) -> Place
     requires sps_len_bound { (length sps.now ≤ 1024) × (length pps.now ≤ 1024) }
     requires pps_in_bounds { (to.at + (5 + length sps.now + length pps.now) ≤ length out.old) × (to.n < length ends.old) }
-    ensures { sinkAt out.new ends.new result ≡
-        put (sinkAt out.old ends.old to) (stapA sps.now pps.now) }
+    ensures { sink_at out.new ends.new result ≡
+        put (sink_at out.old ends.old to) (stap_a sps.now pps.now) }
 {
     let at = to.at;
     let n = to.n;
@@ -89,8 +89,8 @@ fn put_fragment(
     to: Place,
 ) -> Place
     requires { (bits ≤ 128) × (to.at + (2 + length part.now) ≤ length out.old) × (to.n < length ends.old) }
-    ensures { sinkAt out.new ends.new result ≡
-        put (sinkAt out.old ends.old to) (fragment head bits part.now) }
+    ensures { sink_at out.new ends.new result ≡
+        put (sink_at out.old ends.old to) (fragment head bits part.now) }
 {
     let at = to.at;
     let n = to.n;
@@ -105,9 +105,9 @@ fn put_fragment(
 // A unit in fragments of size bytes, the last of what is left. The unit's first byte is in none of them.
 fn put_fragments(unit: &[u8], size: usize, out: &mut [u8], ends: &mut [usize], to: Place) -> Place
     requires { (0 < size) × (size + 1 < length unit.now) ×
-        Room (sinkAt out.old ends.old to) (packetsOf (fragmentsOf size unit.now)) }
-    ensures { sinkAt out.new ends.new result ≡
-        put_all (sinkAt out.old ends.old to) (packetsOf (fragmentsOf size unit.now)) }
+        Room (sink_at out.old ends.old to) (packets_of (fragments_of size unit.now)) }
+    ensures { sink_at out.new ends.new result ≡
+        put_all (sink_at out.old ends.old to) (packets_of (fragments_of size unit.now)) }
 {
     let head = unit[0];
     let mut i = 1 + size;
@@ -131,10 +131,10 @@ pub struct PutUnit {
 
 // A unit alone where it fits, else in fragments; under mtu 3 not at all.
 pub fn put_unit(mtu: usize, unit: &[u8], out: &mut [u8], ends: &mut [usize], to: Place) -> PutUnit
-    requires { Room (sinkAt out.old ends.old to) (packetsOf (unit_for mtu unit.now)) }
-    ensures place_after { sinkAt out.new ends.new result.place ≡
-        put_all (sinkAt out.old ends.old to) (packetsOf (unit_for mtu unit.now)) }
-    ensures outcome_value { result.outcome ≡ unitOutcome mtu unit.now }
+    requires { Room (sink_at out.old ends.old to) (packets_of (unit_for mtu unit.now)) }
+    ensures place_after { sink_at out.new ends.new result.place ≡
+        put_all (sink_at out.old ends.old to) (packets_of (unit_for mtu unit.now)) }
+    ensures outcome_value { result.outcome ≡ unit_outcome mtu unit.now }
 {
     if unit.len() <= mtu {
         return PutUnit {

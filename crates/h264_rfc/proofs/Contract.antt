@@ -10,77 +10,77 @@ use Rattle.nal.specs.Fed.{Laid}
 use Rattle.nal.specs.Ran.{RanOn}
 use Rattle.h264_packet.specs.declared.H264Packet.{H264Packet}
 use Rattle.h264_packet.specs.Depacketize.{depacketized}
-use Rattle.h264_packet.specs.Said.{Heard, readingHeard}
-use Rattle.h264_rfc.specs.Reading.{State, gatheredThen, next, calls, behind, handedIn, handedBy, Answered, Hears}
-use Rattle.h264_rfc.specs.Contract.{Result, Meets, takenFrom, handedOut, AnsweredCall, recordBehind, CodeHears}
+use Rattle.h264_packet.specs.Said.{Heard, reading_heard}
+use Rattle.h264_rfc.specs.Reading.{State, gathered_then, next, calls, behind, handed_in, handed_by, Answered, Hears}
+use Rattle.h264_rfc.specs.Contract.{Result, Meets, taken_from, handed_out, AnsweredCall, record_behind, CodeHears}
 
 -- the record that a state is
-abbrev recordOf : Bool → State → H264Packet
-recordOf avc s = record { is_avc = avc; gathered = s.gathered }
+abbrev record_of : Bool → State → H264Packet
+record_of avc s = record { is_avc = avc; gathered = s.gathered }
 
 module _ (avc : Bool) (n : ℕ) (payload gather out : List ℕ) where
-  packet-heard : (x : Said (RanOn ℕ)) →
-      (readingHeard (record { is_avc = avc; gathered = n }) payload gather out x).packet ≡ record { is_avc = avc; gathered = gatheredThen n x }
-  packet-heard (says r) = refl
-  packet-heard (refused r) = refl
+  packet_heard : (x : Said (RanOn ℕ)) →
+      (reading_heard (record { is_avc = avc; gathered = n }) payload gather out x).packet ≡ record { is_avc = avc; gathered = gathered_then n x }
+  packet_heard (says r) = refl
+  packet_heard (refused r) = refl
 
-  gather-heard : (x : Said (RanOn ℕ)) → (readingHeard (record { is_avc = avc; gathered = n }) payload gather out x).gather ≡ gather
-  gather-heard (says r) = refl
-  gather-heard (refused r) = refl
+  gather_heard : (x : Said (RanOn ℕ)) → (reading_heard (record { is_avc = avc; gathered = n }) payload gather out x).gather ≡ gather
+  gather_heard (says r) = refl
+  gather_heard (refused r) = refl
 
-  handed-heard : (x : Said (RanOn ℕ)) →
-      let h : Heard = readingHeard (record { is_avc = avc; gathered = n }) payload gather out x in takenFrom h.answer h.out ≡ handedIn x out
-  handed-heard (says r) = refl
-  handed-heard (refused r) = refl
+  handed_heard : (x : Said (RanOn ℕ)) →
+      let h : Heard = reading_heard (record { is_avc = avc; gathered = n }) payload gather out x in taken_from h.answer h.out ≡ handed_in x out
+  handed_heard (says r) = refl
+  handed_heard (refused r) = refl
 
-  answer-heard : (x : Said (RanOn ℕ)) (r : RanOn ℕ) → x ≡ says r →
-      (readingHeard (record { is_avc = avc; gathered = n }) payload gather out x).answer ≡ says r.bytes
-  answer-heard x r e = ap (λ (y : Said (RanOn ℕ)). (readingHeard (record { is_avc = avc; gathered = n }) payload gather out y).answer) e
+  answer_heard : (x : Said (RanOn ℕ)) (r : RanOn ℕ) → x ≡ says r →
+      (reading_heard (record { is_avc = avc; gathered = n }) payload gather out x).answer ≡ says r.bytes
+  answer_heard x r e = ap (λ (y : Said (RanOn ℕ)). (reading_heard (record { is_avc = avc; gathered = n }) payload gather out y).answer) e
 
 -- the results are those of the definition's calls
 pub record SameCalls (avc : Bool) (ps : List (List ℕ)) (rs : List Result) (s : State) (outs : ℕ → List ℕ) : Type 0 where
-  pub handed : map handedOut rs ≡ map handedBy (calls depacketized avc s outs ps)
+  pub handed : map handed_out rs ≡ map handed_by (calls depacketized avc s outs ps)
   pub answered : Each Answered (calls depacketized avc s outs ps) → Each AnsweredCall rs
-  pub left : recordBehind (recordOf avc s) rs ≡ recordOf avc (behind depacketized avc s outs ps)
+  pub left : record_behind (record_of avc s) rs ≡ record_of avc (behind depacketized avc s outs ps)
 
 module _ (avc : Bool) where
-  pub same-calls : (ps : List (List ℕ)) (rs : List Result) (s : State) (outs : ℕ → List ℕ) → Meets (recordOf avc s) s.gather outs ps rs →
+  pub same_calls : (ps : List (List ℕ)) (rs : List Result) (s : State) (outs : ℕ → List ℕ) → Meets (record_of avc s) s.gather outs ps rs →
       SameCalls avc ps rs s outs
-  same-calls [] [] s outs m = record { handed = refl; answered = λ a. tt; left = refl }
-  same-calls [] (r ∷ rs) s outs m = absurd m
-  same-calls (p ∷ ps) [] s outs m = absurd m
-  same-calls (p ∷ ps) (r ∷ rs) s outs m =
+  same_calls [] [] s outs m = record { handed = refl; answered = λ a. tt; left = refl }
+  same_calls [] (r ∷ rs) s outs m = absurd m
+  same_calls (p ∷ ps) [] s outs m = absurd m
+  same_calls (p ∷ ps) (r ∷ rs) s outs m =
       let l : Laid (RanOn ℕ) = depacketized avc s.gathered p s.gather (outs 0) in
-      let packet : r.answer.packet ≡ recordOf avc (next s l) =
-      ap (λ (h : Heard). h.packet) m.0 ∙ packet-heard avc s.gathered p l.gather l.out l.answer in
+      let packet : r.answer.packet ≡ record_of avc (next s l) =
+      ap (λ (h : Heard). h.packet) m.0 ∙ packet_heard avc s.gathered p l.gather l.out l.answer in
       let gather : r.gather ≡ l.gather =
-      ap (λ (h : Heard). h.gather) m.0 ∙ gather-heard avc s.gathered p l.gather l.out l.answer in
+      ap (λ (h : Heard). h.gather) m.0 ∙ gather_heard avc s.gathered p l.gather l.out l.answer in
       let rest : SameCalls avc ps rs (next s l) (λ i. outs (suc i)) =
-      same-calls ps rs (next s l) (λ i. outs (suc i))
-      (subst (λ (g : List ℕ). Meets (recordOf avc (next s l)) g (λ i. outs (suc i)) ps rs) gather
+      same_calls ps rs (next s l) (λ i. outs (suc i))
+      (subst (λ (g : List ℕ). Meets (record_of avc (next s l)) g (λ i. outs (suc i)) ps rs) gather
       (subst (λ (q : H264Packet). Meets q r.gather (λ i. outs (suc i)) ps rs) packet m.1)) in
       record {
         handed =
             ap₂ (λ (x : List ℕ) (xs : List (List ℕ)). x ∷ xs)
-            (ap (λ (h : Heard). takenFrom h.answer h.out) m.0 ∙ handed-heard avc s.gathered p l.gather l.out l.answer)
+            (ap (λ (h : Heard). taken_from h.answer h.out) m.0 ∙ handed_heard avc s.gathered p l.gather l.out l.answer)
             rest.handed;
         answered =
             λ a. (
               (
                 a.0.0.bytes,
                 ap (λ (h : Heard). h.answer) m.0
-                    ∙ answer-heard avc s.gathered p l.gather l.out l.answer a.0.0 a.0.1,
+                    ∙ answer_heard avc s.gathered p l.gather l.out l.answer a.0.0 a.0.1,
               ),
               rest.answered a.1,
             );
-        left = ap (λ (q : H264Packet). recordBehind q rs) packet ∙ rest.left;
+        left = ap (λ (q : H264Packet). record_behind q rs) packet ∙ rest.left;
       }
 
   -- what the definition's calls do, the code's do
-  pub code-hears : (ps : List (List ℕ)) (rs : List Result) (s : State) (outs : ℕ → List ℕ) (xs : List (List ℕ)) →
-      Meets (recordOf avc s) s.gather outs ps rs → Hears depacketized avc s outs ps xs → CodeHears (recordOf avc s) rs xs
-  code-hears ps rs s outs xs m h =
-      let c : SameCalls avc ps rs s outs = same-calls ps rs s outs m in
+  pub code_hears : (ps : List (List ℕ)) (rs : List Result) (s : State) (outs : ℕ → List ℕ) (xs : List (List ℕ)) →
+      Meets (record_of avc s) s.gather outs ps rs → Hears depacketized avc s outs ps xs → CodeHears (record_of avc s) rs xs
+  code_hears ps rs s outs xs m h =
+      let c : SameCalls avc ps rs s outs = same_calls ps rs s outs m in
       record {
         answered = c.answered h.answered;
         handed = c.handed ∙ h.handed;

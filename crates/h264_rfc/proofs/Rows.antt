@@ -10,22 +10,22 @@ use Rattle.wire.specs.Part.{splice}
 use Rattle.wire.specs.Turns.{run}
 use Rattle.nal_read.specs.Kind.{shape}
 use Rattle.nal_read.specs.Unpack.{unpack}
-use Rattle.nal.specs.Unpack.{unpackTurn}
+use Rattle.nal.specs.Unpack.{unpack_turn}
 use Rattle.nal.specs.Unpack as unpacking
-use Rattle.nal.specs.Fed.{layBytes, Laid, layBoth}
+use Rattle.nal.specs.Fed.{lay_bytes, Laid, lay_both}
 use Rattle.nal.specs.Ran.{RanOn}
-use Rattle.rfc6184.specs.Sending.{Nal, octet, octetsOf, Fragmented, single, fuA, fragment, payloadsOf, Lawful}
-use Rattle.h264_packet.specs.Depacketize.{readPayload, depacketized}
+use Rattle.rfc6184.specs.Sending.{Nal, octet, octets_of, Fragmented, single, fu_a, fragment, payloads_of, Lawful}
+use Rattle.h264_packet.specs.Depacketize.{read_payload, depacketized}
 use Rattle.h264_rfc.specs.Reading.{fresh, calls}
 
 -- what a call says: the bytes handed out, or the refusal
-abbrev saidIn : Said (RanOn ℕ) → List ℕ → Said (List ℕ)
-saidIn (says r) out = says (take r.bytes out)
-saidIn (refused why) out = refused why
+abbrev said_in : Said (RanOn ℕ) → List ℕ → Said (List ℕ)
+said_in (says r) out = says (take r.bytes out)
+said_in (refused why) out = refused why
 
 -- the payloads fed in order, as Annex B
 abbrev fed : List (List ℕ) → List (Said (List ℕ))
-fed ps = map (λ (l : Laid (RanOn ℕ)). saidIn l.answer l.out) (calls depacketized false (fresh (replicate 8 0)) (λ i. replicate 16 0) ps)
+fed ps = map (λ (l : Laid (RanOn ℕ)). said_in l.answer l.out) (calls depacketized false (fresh (replicate 8 0)) (λ i. replicate 16 0) ps)
 
 -- a unit behind its start code
 abbrev unit : List ℕ → Said (List ℕ)
@@ -82,27 +82,27 @@ table =
     ∷ []
 
 pub rows : map (λ (row : List (List ℕ) × List (Said (List ℕ))). fed row.0) table ≡ map (λ (row : List (List ℕ) × List (Said (List ℕ))). row.1) table
-unfolding table depacketized readPayload shape unpack unpacking.unpack unpackTurn run layBoth layBytes splice
+unfolding table depacketized read_payload shape unpack unpacking.unpack unpack_turn run lay_both lay_bytes splice
 rows = refl
 
 -- ---- 9 and 10 are lawful
 
-abbrev endOfSequence : Nal
-endOfSequence = record { f = 0; nri = 0; type = 10; payload = [] }
+abbrev end_of_sequence : Nal
+end_of_sequence = record { f = 0; nri = 0; type = 10; payload = [] }
 
-pub end-lawful : Lawful (single endOfSequence) × (octetsOf endOfSequence ≡ 0x0A ∷ [])
-unfolding octetsOf octet
-end-lawful = (
+pub end_lawful : Lawful (single end_of_sequence) × (octets_of end_of_sequence ≡ 0x0A ∷ [])
+unfolding octets_of octet
+end_lawful = (
   record {
-    formed = record { f-bit = omega arith; nri-bits = omega arith; type-bits = omega arith };
+    formed = record { f_bit = omega arith; nri_bits = omega arith; type_bits = omega arith };
     rules = record { low = omega arith; high = omega arith };
   },
   refl,
 )
 
 -- a unit of two octets, the first fragment without its octet
-abbrev emptyFirst : Fragmented
-emptyFirst =
+abbrev empty_first : Fragmented
+empty_first =
     record {
       f = 0;
       nri = 0;
@@ -112,12 +112,12 @@ emptyFirst =
       last = record { reserved = 0; octets = 0x11 ∷ [] };
     }
 
-pub empty-lawful : Lawful (fuA emptyFirst) × (payloadsOf (fuA emptyFirst) ≡ (0x1C ∷ 0x85 ∷ []) ∷ (0x1C ∷ 0x45 ∷ 0x11 ∷ []) ∷ [])
+pub empty_lawful : Lawful (fu_a empty_first) × (payloads_of (fu_a empty_first) ≡ (0x1C ∷ 0x85 ∷ []) ∷ (0x1C ∷ 0x45 ∷ 0x11 ∷ []) ∷ [])
 unfolding fragment octet
-empty-lawful = (
+empty_lawful = (
   record {
     formed = (
-      record { f-bit = omega arith; nri-bits = omega arith; type-bits = omega arith },
+      record { f_bit = omega arith; nri_bits = omega arith; type_bits = omega arith },
       omega arith,
       tt,
       omega arith,

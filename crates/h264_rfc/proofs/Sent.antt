@@ -10,21 +10,21 @@ use lib.Dec.{leb}
 use lib.ListN.{length}
 use borrow.Author.Tests.{le-leb, lt-leb}
 use Rattle.wire.specs.Packets.{joined}
-use Rattle.rfc6184.specs.Sending.{Each, Nal, octetsOf, Part, payloadsOfAll, body_of, FormedSending}
-use Rattle.rfc6184.proofs.Each.{each_append, each-by, each_map}
-use Rattle.rfc6184.proofs.Octets.{length-octets}
-use Rattle.annexb.specs.Units.{unitsAt}
-use Rattle.h264_put.specs.Groups.{Saved, nothingSaved, Group, pair, plain, fragments, fateOf, keep, keepAll, groups_of, packetsOfGroup, packetsOf}
-use Rattle.h264.specs.Conformance.{Octets, SavedOctets, nal, part, fragmented, sendingOf, cleared, rebuilt, nalsOfAll, Divided, Sendable, unitsIn, isCoded, goesOut, thoseThat}
-use Rattle.h264.specs.Frames.{groupsFrom, groupsSent}
-use Rattle.h264.proofs.Fits.{sendable, group-fits}
-use Rattle.h264.proofs.LeftOut.{left_out}
-use Rattle.h264.proofs.Conforms.{Headed, group-laid, group-units, group-formed, keep-octets, groups-headed, all_laid, all-units}
-use Rattle.h264.proofs.FrameUnits.{unitsAt-octets, those-short}
+use Rattle.rfc6184.specs.Sending.{Each, Nal, octets_of, Part, payloads_of_all, body_of, FormedSending}
+use Rattle.rfc6184.proofs.Each.{each_append, each_by, each_map}
+use Rattle.rfc6184.proofs.Octets.{length_octets}
+use Rattle.annexb.specs.Units.{units_at}
+use Rattle.h264_put.specs.Groups.{Saved, nothing_saved, Group, pair, plain, fragments, fate_of, keep, keep_all, groups_of, packets_of_group, packets_of}
+use Rattle.h264.specs.Conformance.{Octets, SavedOctets, nal, part, fragmented, sending_of, cleared, rebuilt, nals_of_all, Divided, Sendable, units_in, is_coded, goes_out, those_that}
+use Rattle.h264.specs.Frames.{groups_from, groups_sent}
+use Rattle.h264.proofs.Fits.{sendable, group_fits}
+use Rattle.h264.proofs.LeftOut.{left_out_lem}
+use Rattle.h264.proofs.Conforms.{Headed, group_laid, group_units, group_formed, keep_octets, groups_headed, all_laid, all_units}
+use Rattle.h264.proofs.FrameUnits.{units_at_octets, those_short}
 use Rattle.h264_packet.specs.Depacketize.{depacketized}
-use Rattle.h264_rfc.specs.Reading.{fresh, Hears, lastly, handedAs, expected, Some, Taken, gatheredOf, Room}
-use Rattle.h264_rfc.specs.Sent.{Readable, FrameOk, GroupRoom, backFrom, back, codedNals, codedUnits}
-use Rattle.h264_rfc.proofs.Complete.{complete, handed-in-order}
+use Rattle.h264_rfc.specs.Reading.{fresh, Hears, lastly, handed_as, expected, Some, Taken, gathered_of, Room}
+use Rattle.h264_rfc.specs.Sent.{Readable, FrameOk, GroupRoom, back_from, back, coded_nals, coded_units}
+use Rattle.h264_rfc.proofs.Complete.{complete, handed_in_order}
 
 -- ---- the units that go out
 
@@ -38,33 +38,33 @@ Good u = Readable u × (length u ≤ 16777216)
 record Fine (mtu : ℕ) (g : Group) : Type 0 where
   sendable : Sendable mtu g
   headed : Headed g
-  taken : Taken (sendingOf g)
-  run : gatheredOf (sendingOf g) ≤ 16777215
+  taken : Taken (sending_of g)
+  run : gathered_of (sending_of g) ≤ 16777215
 
-length-nal : (u : List ℕ) → 0 < length u → length (octetsOf (nal u)) ≡ length u
-length-nal [] h = absurd (omega arith)
-length-nal (b ∷ s) h = omega (arith, length-octets (nal (b ∷ s)))
+length_nal : (u : List ℕ) → 0 < length u → length (octets_of (nal u)) ≡ length u
+length_nal [] h = absurd (omega arith)
+length_nal (b ∷ s) h = omega (arith, length_octets (nal (b ∷ s)))
 
-body-joined : (head : ℕ) (first : List ℕ) (middle : List (List ℕ)) (last : List ℕ) →
+body_joined : (head : ℕ) (first : List ℕ) (middle : List (List ℕ)) (last : List ℕ) →
     body_of (fragmented head first middle last) ≡ first ++ (joined middle ++ last)
-body-joined head first middle last =
+body_joined head first middle last =
     ap (λ (l : List (List ℕ)). first ++ (joined l ++ last)) (map-map (λ (p : Part). p.octets) part middle ∙ map-id middle)
 
-fine-groups : (mtu : ℕ) (gs : List Group) → Each (Sendable mtu) gs → Each Headed gs → Each Good (unitsIn gs) → Each (Fine mtu) gs
-fine-groups mtu [] w h u = tt
-fine-groups mtu (pair sps pps ∷ gs) w h u =
-    (record { sendable = w.0; headed = h.0; taken = tt; run = omega arith }, fine-groups mtu gs w.1 h.1 u)
-fine-groups mtu (plain x ∷ gs) w h u =
+fine_groups : (mtu : ℕ) (gs : List Group) → Each (Sendable mtu) gs → Each Headed gs → Each Good (units_in gs) → Each (Fine mtu) gs
+fine_groups mtu [] w h u = tt
+fine_groups mtu (pair sps pps ∷ gs) w h u =
+    (record { sendable = w.0; headed = h.0; taken = tt; run = omega arith }, fine_groups mtu gs w.1 h.1 u)
+fine_groups mtu (plain x ∷ gs) w h u =
     let r : Readable x = u.0.0 in (
       record {
         sendable = w.0;
         headed = h.0;
-        taken = record { type = r.type; long = inl (omega (arith, length-nal x w.0.0, r.long)) };
+        taken = record { type = r.type; long = inl (omega (arith, length_nal x w.0.0, r.long)) };
         run = omega arith;
       },
-      fine-groups mtu gs w.1 h.1 u.1,
+      fine_groups mtu gs w.1 h.1 u.1,
     )
-fine-groups mtu (fragments head first middle last ∷ gs) w h u =
+fine_groups mtu (fragments head first middle last ∷ gs) w h u =
     let d : Divided (mtu - 2) first middle last = w.0.2 in
     let three : 3 ≤ mtu = w.0.0 in (
       record {
@@ -73,139 +73,139 @@ fine-groups mtu (fragments head first middle last ∷ gs) w h u =
         taken = (
           refl,
           (
-            omega (arith, d.first-full),
+            omega (arith, d.first_full),
             each_map Some part middle
-                (each-by (λ (p : List ℕ). Some (part p)) (λ (p : List ℕ). length p ≡ mtu - 2) (λ p e. omega arith) middle d.middle-full),
+                (each_by (λ (p : List ℕ). Some (part p)) (λ (p : List ℕ). length p ≡ mtu - 2) (λ p e. omega arith) middle d.middle_full),
             d.last_some,
           ),
         );
-        run = omega (arith, ap length (body-joined head first middle last), u.0.1);
+        run = omega (arith, ap length (body_joined head first middle last), u.0.1);
       },
-      fine-groups mtu gs w.1 h.1 u.1,
+      fine_groups mtu gs w.1 h.1 u.1,
     )
 
 -- ---- frames one after the other
 
-keep-all-octets : (v : Saved) (us : List (List ℕ)) → SavedOctets v → Each Octets us → SavedOctets (keepAll v us)
-keep-all-octets v [] o q = o
-keep-all-octets v (u ∷ us) o q = keep-all-octets (keep v u) us (keep-octets v u o q.0) q.1
+keep_all_octets : (v : Saved) (us : List (List ℕ)) → SavedOctets v → Each Octets us → SavedOctets (keep_all v us)
+keep_all_octets v [] o q = o
+keep_all_octets v (u ∷ us) o q = keep_all_octets (keep v u) us (keep_octets v u o q.0) q.1
 
-frame-fine : (mtu : ℕ) (v : Saved) (frame : List ℕ) → SavedOctets v → FrameOk mtu frame → Each (Fine mtu) (groups_of mtu v (unitsAt mtu frame))
-frame-fine mtu v frame o ok =
-    let us : List (List ℕ) = unitsAt mtu frame in
-    fine-groups mtu (groups_of mtu v us) (sendable mtu v us) (groups-headed mtu v us o (unitsAt-octets mtu frame ok.bytes))
-    (subst (Each Good) (sym (left_out mtu v us))
-    (those-short Readable mtu 16777216 frame ok.short ok.units))
+frame_fine : (mtu : ℕ) (v : Saved) (frame : List ℕ) → SavedOctets v → FrameOk mtu frame → Each (Fine mtu) (groups_of mtu v (units_at mtu frame))
+frame_fine mtu v frame o ok =
+    let us : List (List ℕ) = units_at mtu frame in
+    fine_groups mtu (groups_of mtu v us) (sendable mtu v us) (groups_headed mtu v us o (units_at_octets mtu frame ok.bytes))
+    (subst (Each Good) (sym (left_out_lem mtu v us))
+    (those_short Readable mtu 16777216 frame ok.short ok.units))
 
-frames-fine : (mtu : ℕ) (v : Saved) (frames : List (List ℕ)) → SavedOctets v → Each (FrameOk mtu) frames → Each (Fine mtu) (groupsFrom mtu v frames)
-frames-fine mtu v [] o ok = tt
-frames-fine mtu v (frame ∷ frames) o ok =
-    let us : List (List ℕ) = unitsAt mtu frame in
-    each_append (Fine mtu) (groups_of mtu v us) (groupsFrom mtu (keepAll v us) frames) (frame-fine mtu v frame o ok.0)
-    (frames-fine mtu (keepAll v us) frames (keep-all-octets v us o (unitsAt-octets mtu frame ok.0.bytes)) ok.1)
+frames_fine : (mtu : ℕ) (v : Saved) (frames : List (List ℕ)) → SavedOctets v → Each (FrameOk mtu) frames → Each (Fine mtu) (groups_from mtu v frames)
+frames_fine mtu v [] o ok = tt
+frames_fine mtu v (frame ∷ frames) o ok =
+    let us : List (List ℕ) = units_at mtu frame in
+    each_append (Fine mtu) (groups_of mtu v us) (groups_from mtu (keep_all v us) frames) (frame_fine mtu v frame o ok.0)
+    (frames_fine mtu (keep_all v us) frames (keep_all_octets v us o (units_at_octets mtu frame ok.0.bytes)) ok.1)
 
 -- ---- read back
 
 module _ (mtu : ℕ) (small : mtu ≤ 65535) (avc : Bool) where
-  back-expected : (gs : List Group) → Each (Fine mtu) gs → expected avc (map sendingOf gs) ≡ backFrom avc gs
-  back-expected [] w = refl
-  back-expected (g ∷ gs) w =
+  back_expected : (gs : List Group) → Each (Fine mtu) gs → expected avc (map sending_of gs) ≡ back_from avc gs
+  back_expected [] w = refl
+  back_expected (g ∷ gs) w =
       ap₂ (λ (a b : List (List ℕ)). a ++ b)
-      (ap₂ (λ (ps : List (List ℕ)) (us : List Nal). lastly ps (handedAs avc us)) (sym (group-laid mtu small g w.0.sendable w.0.headed)) (group-units mtu small g))
-      (back-expected gs w.1)
+      (ap₂ (λ (ps : List (List ℕ)) (us : List Nal). lastly ps (handed_as avc us)) (sym (group_laid mtu small g w.0.sendable w.0.headed)) (group_units mtu small g))
+      (back_expected gs w.1)
 
   -- all that is handed out
-  pub back-in-order : (frames : List (List ℕ)) → Each (FrameOk mtu) frames →
-      joined (backFrom avc (groupsSent mtu frames)) ≡ handedAs avc (nalsOfAll (groupsSent mtu frames))
-  back-in-order frames ok =
-      let gs : List Group = groupsSent mtu frames in
-      ap joined (sym (back-expected gs (frames-fine mtu nothingSaved frames (record { sps = tt; pps = tt }) ok)))
-      ∙ handed-in-order avc (map sendingOf gs)
-      ∙ ap (handedAs avc) (sym (all-units mtu small gs))
+  pub back_in_order : (frames : List (List ℕ)) → Each (FrameOk mtu) frames →
+      joined (back_from avc (groups_sent mtu frames)) ≡ handed_as avc (nals_of_all (groups_sent mtu frames))
+  back_in_order frames ok =
+      let gs : List Group = groups_sent mtu frames in
+      ap joined (sym (back_expected gs (frames_fine mtu nothing_saved frames (record { sps = tt; pps = tt }) ok)))
+      ∙ handed_in_order avc (map sending_of gs)
+      ∙ ap (handed_as avc) (sym (all_units mtu small gs))
 
   module _ (gather : List ℕ) (outs : ℕ → List ℕ) where
     -- room for a group is room for its sending
-    group-room : (g : Group) → Fine mtu g → GroupRoom avc (length gather) outs g → Room avc (length gather) outs (sendingOf g)
-    group-room g w room =
+    group_room : (g : Group) → Fine mtu g → GroupRoom avc (length gather) outs g → Room avc (length gather) outs (sending_of g)
+    group_room g w room =
         record {
           short =
-              subst (Each (λ (p : List ℕ). length p ≤ 65535)) (group-laid mtu small g w.sendable w.headed)
-              (each-by (λ (p : List ℕ). length p ≤ 65535) (λ (p : List ℕ). length p ≤ mtu) (λ p h. omega arith) (packetsOfGroup g) (group-fits mtu g w.sendable));
+              subst (Each (λ (p : List ℕ). length p ≤ 65535)) (group_laid mtu small g w.sendable w.headed)
+              (each_by (λ (p : List ℕ). length p ≤ 65535) (λ (p : List ℕ). length p ≤ mtu) (λ p h. omega arith) (packets_of_group g) (group_fits mtu g w.sendable));
           run = w.run;
-          gather-room = room.gather-room;
-          out-room = λ i. rw (group-units mtu small g) (room.out-room i);
+          gather_room = room.gather_room;
+          out_room = λ i. rw (group_units mtu small g) (room.out_room i);
         }
 
-    rooms : (gs : List Group) → Each (Fine mtu) gs → Each (GroupRoom avc (length gather) outs) gs → Each (Room avc (length gather) outs) (map sendingOf gs)
+    rooms : (gs : List Group) → Each (Fine mtu) gs → Each (GroupRoom avc (length gather) outs) gs → Each (Room avc (length gather) outs) (map sending_of gs)
     rooms [] w room = tt
-    rooms (g ∷ gs) w room = (group-room g w.0 room.0, rooms gs w.1 room.1)
+    rooms (g ∷ gs) w room = (group_room g w.0 room.0, rooms gs w.1 room.1)
 
-    laid : (gs : List Group) → Each (Fine mtu) gs → packetsOf gs ≡ payloadsOfAll (map sendingOf gs)
+    laid : (gs : List Group) → Each (Fine mtu) gs → packets_of gs ≡ payloads_of_all (map sending_of gs)
     laid gs w =
-        all_laid mtu small gs (each-by (Sendable mtu) (Fine mtu) (λ g f. f.sendable) gs w) (each-by Headed (Fine mtu) (λ g f. f.headed) gs w)
+        all_laid mtu small gs (each_by (Sendable mtu) (Fine mtu) (λ g f. f.sendable) gs w) (each_by Headed (Fine mtu) (λ g f. f.headed) gs w)
 
-    hears-groups : (gs : List Group) → Each (Fine mtu) gs → Each (GroupRoom avc (length gather) outs) gs →
-        Hears depacketized avc (fresh gather) outs (packetsOf gs) (backFrom avc gs)
-    hears-groups gs w room =
-        subst (λ (ps : List (List ℕ)). Hears depacketized avc (fresh gather) outs ps (backFrom avc gs)) (sym (laid gs w))
-        (subst (Hears depacketized avc (fresh gather) outs (payloadsOfAll (map sendingOf gs))) (back-expected gs w)
-        (complete avc gather outs (map sendingOf gs)
-        (each_map FormedSending sendingOf gs
-        (each-by (λ (g : Group). FormedSending (sendingOf g)) (Fine mtu) (λ g f. group-formed mtu small g f.sendable f.headed) gs w))
-        (each_map Taken sendingOf gs (each-by (λ (g : Group). Taken (sendingOf g)) (Fine mtu) (λ g f. f.taken) gs w))
+    hears_groups : (gs : List Group) → Each (Fine mtu) gs → Each (GroupRoom avc (length gather) outs) gs →
+        Hears depacketized avc (fresh gather) outs (packets_of gs) (back_from avc gs)
+    hears_groups gs w room =
+        subst (λ (ps : List (List ℕ)). Hears depacketized avc (fresh gather) outs ps (back_from avc gs)) (sym (laid gs w))
+        (subst (Hears depacketized avc (fresh gather) outs (payloads_of_all (map sending_of gs))) (back_expected gs w)
+        (complete avc gather outs (map sending_of gs)
+        (each_map FormedSending sending_of gs
+        (each_by (λ (g : Group). FormedSending (sending_of g)) (Fine mtu) (λ g f. group_formed mtu small g f.sendable f.headed) gs w))
+        (each_map Taken sending_of gs (each_by (λ (g : Group). Taken (sending_of g)) (Fine mtu) (λ g f. f.taken) gs w))
         (rooms gs w room)))
 
     -- every group that a fresh sender sends for the frames comes back, in order, once, with its last packet
-    pub sent-and-read : (frames : List (List ℕ)) → Each (FrameOk mtu) frames → Each (GroupRoom avc (length gather) outs) (groupsSent mtu frames) →
-        Hears depacketized avc (fresh gather) outs (packetsOf (groupsSent mtu frames)) (backFrom avc (groupsSent mtu frames))
-    sent-and-read frames ok room =
-        hears-groups (groupsSent mtu frames) (frames-fine mtu nothingSaved frames (record { sps = tt; pps = tt }) ok) room
+    pub sent_and_read : (frames : List (List ℕ)) → Each (FrameOk mtu) frames → Each (GroupRoom avc (length gather) outs) (groups_sent mtu frames) →
+        Hears depacketized avc (fresh gather) outs (packets_of (groups_sent mtu frames)) (back_from avc (groups_sent mtu frames))
+    sent_and_read frames ok room =
+        hears_groups (groups_sent mtu frames) (frames_fine mtu nothing_saved frames (record { sps = tt; pps = tt }) ok) room
 
 -- ---- which units these are
 
-coded-append : (a b : List Group) → codedNals (a ++ b) ≡ codedNals a ++ codedNals b
-coded-append [] b = refl
-coded-append (pair sps pps ∷ a) b = coded-append a b
-coded-append (plain u ∷ a) b = ap (λ (l : List Nal). nal u ∷ l) (coded-append a b)
-coded-append (fragments head first middle last ∷ a) b =
-    ap (λ (l : List Nal). cleared (nal (rebuilt head first middle last)) ∷ l) (coded-append a b)
+coded_append : (a b : List Group) → coded_nals (a ++ b) ≡ coded_nals a ++ coded_nals b
+coded_append [] b = refl
+coded_append (pair sps pps ∷ a) b = coded_append a b
+coded_append (plain u ∷ a) b = ap (λ (l : List Nal). nal u ∷ l) (coded_append a b)
+coded_append (fragments head first middle last ∷ a) b =
+    ap (λ (l : List Nal). cleared (nal (rebuilt head first middle last)) ∷ l) (coded_append a b)
 
 module _ (mtu : ℕ) where
-  coded-back : (gs : List Group) → Each (Sendable mtu) gs → codedNals gs ≡ map (back mtu) (unitsIn gs)
-  coded-back [] w = refl
-  coded-back (pair sps pps ∷ gs) w = coded-back gs w.1
-  coded-back (plain u ∷ gs) w =
+  coded_back : (gs : List Group) → Each (Sendable mtu) gs → coded_nals gs ≡ map (back mtu) (units_in gs)
+  coded_back [] w = refl
+  coded_back (pair sps pps ∷ gs) w = coded_back gs w.1
+  coded_back (plain u ∷ gs) w =
       ap₂ (λ (x : Nal) (l : List Nal). x ∷ l) (sym (ap (λ (t : Bool). cond t (nal u) (cleared (nal u))) (le-leb (length u) mtu w.0.1)))
-      (coded-back gs w.1)
-  coded-back (fragments head first middle last ∷ gs) w =
+      (coded_back gs w.1)
+  coded_back (fragments head first middle last ∷ gs) w =
       let u : List ℕ = rebuilt head first middle last in
       ap₂ (λ (x : Nal) (l : List Nal). x ∷ l) (sym (ap (λ (t : Bool). cond t (nal u) (cleared (nal u))) (lt-leb (length u) mtu w.0.1)))
-      (coded-back gs w.1)
+      (coded_back gs w.1)
 
   module _ (three : 3 ≤ mtu) where
     -- "under mtu 3 it is dropped"; from 3 on no coded unit is
-    all-go-out : (us : List (List ℕ)) → thoseThat (goesOut mtu) us ≡ thoseThat (λ (u : List ℕ). isCoded (fateOf u)) us
-    all-go-out [] = refl
-    all-go-out (u ∷ us) =
+    all_go_out : (us : List (List ℕ)) → those_that (goes_out mtu) us ≡ those_that (λ (u : List ℕ). is_coded (fate_of u)) us
+    all_go_out [] = refl
+    all_go_out (u ∷ us) =
         ap₂ (λ (t : Bool) (l : List (List ℕ)). cond t (u ∷ l) l)
-        (ap (λ (t : Bool). isCoded (fateOf u) && (leb (length u) mtu || t)) (le-leb 3 mtu three)
-        ∙ ap (λ (t : Bool). isCoded (fateOf u) && t) (or-true (leb (length u) mtu))
-        ∙ and-true (isCoded (fateOf u)))
-        (all-go-out us)
+        (ap (λ (t : Bool). is_coded (fate_of u) && (leb (length u) mtu || t)) (le-leb 3 mtu three)
+        ∙ ap (λ (t : Bool). is_coded (fate_of u) && t) (or-true (leb (length u) mtu))
+        ∙ and-true (is_coded (fate_of u)))
+        (all_go_out us)
 
-    frame_back : (v : Saved) (us : List (List ℕ)) → codedNals (groups_of mtu v us) ≡ map (back mtu) (thoseThat (λ (u : List ℕ). isCoded (fateOf u)) us)
+    frame_back : (v : Saved) (us : List (List ℕ)) → coded_nals (groups_of mtu v us) ≡ map (back mtu) (those_that (λ (u : List ℕ). is_coded (fate_of u)) us)
     frame_back v us =
-        coded-back (groups_of mtu v us) (sendable mtu v us) ∙ ap (map (back mtu)) (left_out mtu v us ∙ all-go-out us)
+        coded_back (groups_of mtu v us) (sendable mtu v us) ∙ ap (map (back mtu)) (left_out_lem mtu v us ∙ all_go_out us)
 
-    back_from : (v : Saved) (frames : List (List ℕ)) → codedNals (groupsFrom mtu v frames) ≡ map (back mtu) (codedUnits mtu frames)
-    back_from v [] = refl
-    back_from v (frame ∷ frames) =
-        let us : List (List ℕ) = unitsAt mtu frame in
-        let coded : List (List ℕ) = thoseThat (λ (u : List ℕ). isCoded (fateOf u)) us in
-        coded-append (groups_of mtu v us) (groupsFrom mtu (keepAll v us) frames)
-        ∙ ap₂ (λ (x y : List Nal). x ++ y) (frame_back v us) (back_from (keepAll v us) frames)
-        ∙ sym (map-append (back mtu) coded (codedUnits mtu frames))
+    back_from_lem : (v : Saved) (frames : List (List ℕ)) → coded_nals (groups_from mtu v frames) ≡ map (back mtu) (coded_units mtu frames)
+    back_from_lem v [] = refl
+    back_from_lem v (frame ∷ frames) =
+        let us : List (List ℕ) = units_at mtu frame in
+        let coded : List (List ℕ) = those_that (λ (u : List ℕ). is_coded (fate_of u)) us in
+        coded_append (groups_of mtu v us) (groups_from mtu (keep_all v us) frames)
+        ∙ ap₂ (λ (x y : List Nal). x ++ y) (frame_back v us) (back_from_lem (keep_all v us) frames)
+        ∙ sym (map-append (back mtu) coded (coded_units mtu frames))
 
     -- the frames' own units, each with F cleared where it did not fit alone
-    pub units-back : (frames : List (List ℕ)) → codedNals (groupsSent mtu frames) ≡ map (back mtu) (codedUnits mtu frames)
-    units-back frames = back_from nothingSaved frames
+    pub units_back : (frames : List (List ℕ)) → coded_nals (groups_sent mtu frames) ≡ map (back mtu) (coded_units mtu frames)
+    units_back frames = back_from_lem nothing_saved frames

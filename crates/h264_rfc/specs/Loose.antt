@@ -11,12 +11,12 @@ pub record Loose : Type 0 where
   pub part : Part
 
 -- its octets, with End bit e
-abbrev pub looseOctets : ℕ → Loose → List ℕ
-looseOctets e l = fragment l.of l.start e l.part
+abbrev pub loose_octets : ℕ → Loose → List ℕ
+loose_octets e l = fragment l.of l.start e l.part
 
 -- the fragment that a payload says by the figure; of the unit it tells F, NRI and type, and this one part
-unfoldable pub looseOf : List ℕ → Loose
-looseOf p =
+unfoldable pub loose_of : List ℕ → Loose
+loose_of p =
     let part : Part = record { reserved = get_or p 1 0 / 32 % 2; octets = drop 2 p } in
     record {
       of = record { f = get_or p 0 0 / 128; nri = get_or p 0 0 / 32 % 4; type = get_or p 1 0 % 32; first = part; middle = []; last = part };
@@ -27,8 +27,8 @@ looseOf p =
 -- its fields fit into their bits, and it is not empty
 pub record LooseFormed (l : Loose) : Type 0 where
   pub formed : Formed l.of.f l.of.nri l.of.type
-  pub start-bit : l.start < 2
-  pub part-formed : FormedPart l.part
+  pub start_bit : l.start < 2
+  pub part_formed : FormedPart l.part
   pub some : Some l.part
   -- "packets up to 65,535 bytes"
   pub short : 2 + length l.part.octets ≤ 65535
@@ -38,25 +38,25 @@ abbrev pub parts_of : List Loose → List ℕ
 parts_of ls = joined (map (λ (l : Loose). l.part.octets) ls)
 
 -- the first byte of a joined unit: "writes NRI and type from that packet"
-abbrev pub headFrom : Loose → ℕ
-headFrom l = octet 0 l.of.nri l.of.type
+abbrev pub head_from : Loose → ℕ
+head_from l = octet 0 l.of.nri l.of.type
 
 -- fragments ls without End bit, and behind them l with it: their payloads ..
-abbrev pub looseAll : List Loose → Loose → List (List ℕ)
-looseAll ls l = map (looseOctets 0) ls ++ (looseOctets 1 l ∷ [])
+abbrev pub loose_all : List Loose → Loose → List (List ℕ)
+loose_all ls l = map (loose_octets 0) ls ++ (loose_octets 1 l ∷ [])
 
 -- .. and the unit that is joined of them
-abbrev pub looseUnit : List Loose → Loose → List ℕ
-looseUnit ls l = headFrom l ∷ (parts_of ls ++ l.part.octets)
+abbrev pub loose_unit : List Loose → Loose → List ℕ
+loose_unit ls l = head_from l ∷ (parts_of ls ++ l.part.octets)
 
 -- the paper's limits, and room
 pub record LooseRoom (gather : ℕ) (outs : ℕ → List ℕ) (ls : List Loose) (l : Loose) : Type 0 where
   -- 6: "the run over 16,777,215 bytes"
-  pub run : length (looseUnit ls l) ≤ 16777216
+  pub run : length (loose_unit ls l) ≤ 16777216
   -- "Room: gather for the longest unit less one byte"
-  pub gather-room : length (looseUnit ls l) ≤ gather + 1
+  pub gather_room : length (loose_unit ls l) ≤ gather + 1
   -- "output for the largest group as handed out, prefixes included"
-  pub out-room : (i : ℕ) → 4 + length (looseUnit ls l) ≤ length (outs i)
+  pub out_room : (i : ℕ) → 4 + length (loose_unit ls l) ≤ length (outs i)
 
 -- the same unit in the same parts, with every Reserved bit clear: 5.8 has the receiver ignore it
 abbrev pub bare : Part → Part

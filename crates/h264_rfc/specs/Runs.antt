@@ -4,10 +4,10 @@ use Rattle.std.specs.Prelude.{◌≡◌, Bool, true, false, List, [], ◌∷◌,
 use Rattle.error.specs.Said.{Said, says, refused}
 use Rattle.nal.specs.Fed.{prefixed, Laid}
 use Rattle.nal.specs.Ran.{RanOn}
-use Rattle.rfc6184.specs.Sending.{Each, octetsOf, Fragmented, fuA, payloadsOf, unitsOf, UnitType, FormedSending, Lawful}
+use Rattle.rfc6184.specs.Sending.{Each, octets_of, Fragmented, fu_a, payloads_of, units_of, UnitType, FormedSending, Lawful}
 use Rattle.h264.specs.Conformance.{Octets}
-use Rattle.h264_rfc.specs.Reading.{Reader, State, fresh, next, behind, handedBy}
-use Rattle.h264_rfc.specs.Loose.{Loose, looseOf, looseAll, looseUnit, unreserved}
+use Rattle.h264_rfc.specs.Reading.{Reader, State, fresh, next, behind, handed_by}
+use Rattle.h264_rfc.specs.Loose.{Loose, loose_of, loose_all, loose_unit, unreserved}
 use Rattle.h264_rfc.specs.Meaning.{Somewhere, Means}
 
 -- ---- what came
@@ -25,33 +25,33 @@ pieces_of (piece x ∷ cs) = x ∷ pieces_of cs
 pieces_of (passing p ∷ cs) = pieces_of cs
 
 -- what came from the first fragment on
-abbrev pub fromFirst : List Came → List Came
-fromFirst [] = []
-fromFirst (piece x ∷ cs) = piece x ∷ cs
-fromFirst (passing p ∷ cs) = fromFirst cs
+abbrev pub from_first : List Came → List Came
+from_first [] = []
+from_first (piece x ∷ cs) = piece x ∷ cs
+from_first (passing p ∷ cs) = from_first cs
 
-abbrev pub isFuA : List ℕ → Bool
-isFuA p = eqb (get_or p 0 0 % 32) 28
+abbrev pub is_fu_a : List ℕ → Bool
+is_fu_a p = eqb (get_or p 0 0 % 32) 28
 
-abbrev pub hasEnd : List ℕ → Bool
-hasEnd p = eqb (get_or p 1 0 / 64 % 2) 1
+abbrev pub has_end : List ℕ → Bool
+has_end p = eqb (get_or p 1 0 / 64 % 2) 1
 
 -- with the End bit a unit is joined, and nothing has come since
-abbrev pub cameBy : (fu end : Bool) → List Came → List ℕ → List Came
-cameBy false end cs p = cs ++ (passing p ∷ [])
-cameBy true false cs p = cs ++ (piece (looseOf p) ∷ [])
-cameBy true true cs p = []
+abbrev pub came_by : (fu end : Bool) → List Came → List ℕ → List Came
+came_by false end cs p = cs ++ (passing p ∷ [])
+came_by true false cs p = cs ++ (piece (loose_of p) ∷ [])
+came_by true true cs p = []
 
-abbrev pub cameThen : List Came → List ℕ → Said (RanOn ℕ) → List Came
-cameThen cs p (says r) = cameBy (isFuA p) (hasEnd p) cs p
-cameThen cs p (refused r) = cs ++ (passing p ∷ [])
+abbrev pub came_then : List Came → List ℕ → Said (RanOn ℕ) → List Came
+came_then cs p (says r) = came_by (is_fu_a p) (has_end p) cs p
+came_then cs p (refused r) = cs ++ (passing p ∷ [])
 
 -- what came since the last unit was joined, behind cs
 abbrev pub since : Reader → Bool → State → (ℕ → List ℕ) → List Came → List (List ℕ) → List Came
 since read avc s outs cs [] = cs
 since read avc s outs cs (p ∷ ps) =
     since read avc (next s (read avc s.gathered p s.gather (outs 0))) (λ i. outs (suc i))
-    (cameThen cs p (read avc s.gathered p s.gather (outs 0)).answer) ps
+    (came_then cs p (read avc s.gathered p s.gather (outs 0)).answer) ps
 
 -- ---- what it is by 5.8
 
@@ -71,35 +71,35 @@ first_of (x ∷ xs) l = x
 -- them
 pub record OneUnit (cs : List Came) (l : Loose) : Type 0 where
   pub unit : Fragmented
-  pub formed : FormedSending (fuA unit)
-  pub lawful : Lawful (fuA (unreserved unit))
-  pub f-clear : unit.f ≡ 0
-  pub payloads : looseAll (pieces_of cs) l ≡ payloadsOf (fuA unit)
-  pub adjacent : fromFirst cs ≡ map piece (pieces_of cs)
-  pub joined : looseUnit (pieces_of cs) l ∷ [] ≡ map octetsOf (unitsOf (fuA unit))
+  pub formed : FormedSending (fu_a unit)
+  pub lawful : Lawful (fu_a (unreserved unit))
+  pub f_clear : unit.f ≡ 0
+  pub payloads : loose_all (pieces_of cs) l ≡ payloads_of (fu_a unit)
+  pub adjacent : from_first cs ≡ map piece (pieces_of cs)
+  pub joined : loose_unit (pieces_of cs) l ∷ [] ≡ map octets_of (units_of (fu_a unit))
 
 -- The ways in which what came is not that, each a row of docs/DIFFERENCES.md. A lost fragment that was neither the first nor the last of its unit
 -- is not among them: the others are the FU-As of a shorter unit.
 pub data Deviates (cs : List Came) (l : Loose) : Type 0 where
   -- F is set, and is not handed out
-  f-set : l.of.f ≡ 1 → Deviates cs l
+  f_set : l.of.f ≡ 1 → Deviates cs l
   -- Start and End are both set
-  both-set : l.start ≡ 1 → Deviates cs l
+  both_set : l.start ≡ 1 → Deviates cs l
   -- the first fragment has no Start bit: the unit's first is missing
   no_start : (first_of (pieces_of cs) l).start ≡ 0 → Deviates cs l
   -- a later one has it: the unit's last is missing, and another unit began
-  starts-again : Somewhere (λ (x : Loose). x.start ≡ 1) (drop 1 (pieces_of cs)) → Deviates cs l
+  starts_again : Somewhere (λ (x : Loose). x.start ≡ 1) (drop 1 (pieces_of cs)) → Deviates cs l
   -- another packet came between them
-  not-adjacent : Somewhere IsPassing (fromFirst cs) → Deviates cs l
+  not_adjacent : Somewhere IsPassing (from_first cs) → Deviates cs l
   -- F, NRI or type of one is not that of the last, whose NRI and type are handed out
   differs : Somewhere (λ (x : Loose). SameUnit x l → ⊥) (pieces_of cs) → Deviates cs l
   -- the type is that of no unit
-  no-unit : (UnitType l.of.type → ⊥) → Deviates cs l
+  no_unit : (UnitType l.of.type → ⊥) → Deviates cs l
 
 -- a call that joined a unit: what it handed out, and of what it was made
 pub record Joined (avc : Bool) (cs : List Came) (l : Loose) (handed : List ℕ) : Type 0 where
   -- all parts in order, behind the last one's NRI and type
-  pub unit : handed ≡ prefixed avc (looseUnit (pieces_of cs) l ∷ [])
+  pub unit : handed ≡ prefixed avc (loose_unit (pieces_of cs) l ∷ [])
   pub kind : OneUnit cs l ⊎ Deviates cs l
 
 -- ---- what is asked of a reader
@@ -111,7 +111,7 @@ pub record Sound (read : Reader) : Type 0 where
       (read avc n payload gather out).answer ≡ says r → Means avc n gather payload (read avc n payload gather out)
   -- an FU-A with End bit, behind whatever payloads ps came from a record without a run on, some of them perhaps refused
   pub run : (avc : Bool) (gather : List ℕ) (outs : ℕ → List ℕ) (ps : List (List ℕ)) (p out : List ℕ) (r : RanOn ℕ) → Each Octets ps → Octets p →
-      isFuA p ≡ true → hasEnd p ≡ true →
+      is_fu_a p ≡ true → has_end p ≡ true →
       let s : State = behind read avc (fresh gather) outs ps in
       let l : Laid (RanOn ℕ) = read avc s.gathered p s.gather out in
-      l.answer ≡ says r → Joined avc (since read avc (fresh gather) outs [] ps) (looseOf p) (handedBy l)
+      l.answer ≡ says r → Joined avc (since read avc (fresh gather) outs [] ps) (loose_of p) (handed_by l)

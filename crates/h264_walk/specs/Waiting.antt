@@ -20,9 +20,9 @@ pub record Lying (held frame : List ℕ) (l : Lies) : Type 0 where
 
 -- both do
 pub record Waits (sps pps frame : List ℕ) (w : Waiting) : Type 0 where
-  pub of-sps : Lying sps frame w.sps
-  pub of-pps : Lying pps frame w.pps
+  pub of_sps : Lying sps frame w.sps
+  pub of_pps : Lying pps frame w.pps
 
 -- no set waits
-abbrev pub nothingWaits : Waiting
-nothingWaits = record { sps = record { from = 0; len = 0 }; pps = record { from = 0; len = 0 } }
+abbrev pub nothing_waits : Waiting
+nothing_waits = record { sps = record { from = 0; len = 0 }; pps = record { from = 0; len = 0 } }

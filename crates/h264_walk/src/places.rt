@@ -1,7 +1,7 @@
 // The parameter sets that wait to be sent, by where they lie.
 ghost use Rattle.std.specs.Prelude.{◌≡◌, cond, ◌&&◌, ◌+◌, ◌-◌, ◌≤◌, ltb};
 ghost use Rattle.wire.specs.Part.{splice};
-ghost use Rattle.h264_walk.specs.Waiting.{bytes_of, Lying, nothingWaits};
+ghost use Rattle.h264_walk.specs.Waiting.{bytes_of, Lying, nothing_waits};
 
 use h264_put::both;
 
@@ -92,7 +92,7 @@ impl Waiting {
 
     // The pair is forgotten where both sets wait.
     pub fn forget(self) -> Waiting
-        ensures { result ≡ cond (ltb 0 self.sps.len && ltb 0 self.pps.len) nothingWaits self }
+        ensures { result ≡ cond (ltb 0 self.sps.len && ltb 0 self.pps.len) nothing_waits self }
     {
         if both(self.sps.len, self.pps.len) {
             return Waiting {

@@ -1,11 +1,11 @@
 // One unit sent: dropped, saved, or written behind the pair that waits.
 ghost use Rattle.std.specs.Prelude.{◌≡◌};
 ghost use Rattle.wire.specs.Packets.{Room, put_all};
-ghost use Rattle.h264_put.specs.Groups.{keep, pairFor, groupsFor, packetsOf};
-ghost use Rattle.h264_put.specs.Outcomes.{pairOutcome, withoutPair, outcomeFor};
-ghost use Rattle.h264_put.specs.Step.{sinkAt};
+ghost use Rattle.h264_put.specs.Groups.{keep, pair_for, groups_for, packets_of};
+ghost use Rattle.h264_put.specs.Outcomes.{pair_outcome, without_pair, outcome_for};
+ghost use Rattle.h264_put.specs.Step.{sink_at};
 ghost use Rattle.h264_walk.specs.Waiting.{saved_at, Waits};
-ghost use Rattle.h264_walk.specs.Step.{unitIn, Ready, Done};
+ghost use Rattle.h264_walk.specs.Step.{unit_in, Ready, Done};
 
 use crate::places::{Lies, Waiting};
 use h264_put::{Fate, Outcome, PairOutcome, Place, UnitOutcome, both, fate_of, put_pair, put_unit};
@@ -42,11 +42,11 @@ fn put_waiting<'a>(
     to: Place,
 ) -> PutPair
     requires { Waits sps.now pps.now frame.now waiting ×
-        Room (sinkAt out.old ends.old to) (packetsOf (pairFor mtu (saved_at sps.now pps.now frame.now waiting))) }
-    ensures place_after { sinkAt out.new ends.new result.place ≡
-        put_all (sinkAt out.old ends.old to)
-        (packetsOf (pairFor mtu (saved_at sps.now pps.now frame.now waiting))) }
-    ensures outcome_value { result.outcome ≡ pairOutcome mtu (saved_at sps.now pps.now frame.now waiting) }
+        Room (sink_at out.old ends.old to) (packets_of (pair_for mtu (saved_at sps.now pps.now frame.now waiting))) }
+    ensures place_after { sink_at out.new ends.new result.place ≡
+        put_all (sink_at out.old ends.old to)
+        (packets_of (pair_for mtu (saved_at sps.now pps.now frame.now waiting))) }
+    ensures outcome_value { result.outcome ≡ pair_outcome mtu (saved_at sps.now pps.now frame.now waiting) }
 {
     let of_sps = waiting.sps;
     let of_pps = waiting.pps;
@@ -76,7 +76,7 @@ fn put_waiting<'a>(
 
 // A step that sends nothing: no pair is due.
 fn unsent(waiting: Waiting, place: Place, unit: UnitOutcome) -> Emitted
-    ensures { (result.waiting ≡ waiting) × (result.place ≡ place) × (result.outcome ≡ withoutPair unit) }
+    ensures { (result.waiting ≡ waiting) × (result.place ≡ place) × (result.outcome ≡ without_pair unit) }
 {
     Emitted {
         waiting,
@@ -101,13 +101,13 @@ pub(crate) fn emit<'a>(
     ends: &mut [usize],
     to: Place,
 ) -> Emitted
-    requires { Ready sps.now pps.now frame.now waiting start end mtu (sinkAt out.old ends.old to) }
+    requires { Ready sps.now pps.now frame.now waiting start end mtu (sink_at out.old ends.old to) }
     ensures done { Done sps.now pps.now frame.now
-        (keep (saved_at sps.now pps.now frame.now waiting) (unitIn frame.now start end))
-        (groupsFor mtu (saved_at sps.now pps.now frame.now waiting) (unitIn frame.now start end))
-        (sinkAt out.old ends.old to) result.waiting (sinkAt out.new ends.new result.place) }
+        (keep (saved_at sps.now pps.now frame.now waiting) (unit_in frame.now start end))
+        (groups_for mtu (saved_at sps.now pps.now frame.now waiting) (unit_in frame.now start end))
+        (sink_at out.old ends.old to) result.waiting (sink_at out.new ends.new result.place) }
     ensures outcome_value { result.outcome ≡
-        outcomeFor mtu (saved_at sps.now pps.now frame.now waiting) (unitIn frame.now start end) }
+        outcome_for mtu (saved_at sps.now pps.now frame.now waiting) (unit_in frame.now start end) }
 {
     let unit = &frame[start..end];
     match fate_of(unit) {

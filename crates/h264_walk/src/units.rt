@@ -2,9 +2,9 @@
 ghost use Rattle.std.specs.Prelude.{◌≡◌, false, ◌≤◌, length, drop};
 ghost use Rattle.wire.specs.Packets.{Room};
 ghost use Rattle.annexb.specs.Units.{units, pieces};
-ghost use Rattle.h264_put.specs.Groups.{keepAll, groups_of, packetsOf};
-ghost use Rattle.h264_put.specs.Outcomes.{outcomesOf, dropsIn};
-ghost use Rattle.h264_put.specs.Step.{sinkAt, emptySink, overLimit};
+ghost use Rattle.h264_put.specs.Groups.{keep_all, groups_of, packets_of};
+ghost use Rattle.h264_put.specs.Outcomes.{outcomes_of, drops_in};
+ghost use Rattle.h264_put.specs.Step.{sink_at, empty_sink, over_limit};
 ghost use Rattle.h264_walk.specs.Waiting.{saved_at, Waits};
 ghost use Rattle.h264_walk.specs.Step.{Done};
 
@@ -35,16 +35,16 @@ pub fn walk<'a>(
     out: &mut [u8],
     ends: &mut [usize],
 ) -> Walked
-    requires waits { Waits sps.now pps.now frame.now waiting × (overLimit (units frame.now) ≡ false) × (length frame.now ≤ 16777216) }
+    requires waits { Waits sps.now pps.now frame.now waiting × (over_limit (units frame.now) ≡ false) × (length frame.now ≤ 16777216) }
     requires first_in_bounds { (first ≤ length frame.now) × (pieces (drop first frame.now) ≡ units frame.now) }
-    requires room { Room (emptySink out.old ends.old)
-        (packetsOf (groups_of mtu (saved_at sps.now pps.now frame.now waiting) (units frame.now))) }
+    requires room { Room (empty_sink out.old ends.old)
+        (packets_of (groups_of mtu (saved_at sps.now pps.now frame.now waiting) (units frame.now))) }
     ensures done { Done sps.now pps.now frame.now
-        (keepAll (saved_at sps.now pps.now frame.now waiting) (units frame.now))
+        (keep_all (saved_at sps.now pps.now frame.now waiting) (units frame.now))
         (groups_of mtu (saved_at sps.now pps.now frame.now waiting) (units frame.now))
-        (emptySink out.old ends.old) result.waiting (sinkAt out.new ends.new result.place) }
+        (empty_sink out.old ends.old) result.waiting (sink_at out.new ends.new result.place) }
     ensures drops_value { result.drops ≡
-        dropsIn (outcomesOf mtu (saved_at sps.now pps.now frame.now waiting) (units frame.now)) }
+        drops_in (outcomes_of mtu (saved_at sps.now pps.now frame.now waiting) (units frame.now)) }
 {
     let mut start = first;
     let mut waits = waiting;

@@ -9,17 +9,17 @@ use lib.ListN.{length, take, drop, get_or}
 use Rattle.error.specs.Refusal.{Refusal}
 use Rattle.error.specs.Said.{Said, says, refused, refuse}
 use Rattle.error.specs.Only.{Determined}
-use Rattle.error.proofs.Inverse.{errorOf, errorOf-refusalOf}
-use Rattle.error.proofs.Only.{by_value, by-view, by_both, spoken, Sayable, either-sayable, known, passed}
-use Rattle.wire.specs.Net.{u16At, bit}
-use Rattle.wire.specs.Part.{padTo}
+use Rattle.error.proofs.Inverse.{error_of, error_of_refusal_of}
+use Rattle.error.proofs.Only.{by_value, by_view, by_both, spoken, Sayable, either_sayable, known, passed}
+use Rattle.wire.specs.Net.{u16_at, bit}
+use Rattle.wire.specs.Part.{pad_to}
 use Rattle.wire.specs.Turns.{Turn, more, done, after, run}
 use Rattle.elements.specs.declared.Extensions.{Extensions}
-use Rattle.elements.specs.Elements.{Element, data_of, room_for, layElements}
+use Rattle.elements.specs.Elements.{Element, data_of, room_for, lay_elements}
 use Rattle.elements.specs.Named.{Found, absent, find, replace, append}
 use Rattle.elements.specs.Named as named
-use Rattle.block_read.specs.Read.{Item, pad, stop, past, element, Block, skip, with-element, taken, turn, itemsBy, wholeBlock, readBlock, block_at}
-use Rattle.block.specs.Form.{Form, one_byte, two-byte, other, form_of}
+use Rattle.block_read.specs.Read.{Item, pad, stop, past, element, Block, skip, with_element, taken, turn, items_by, whole_block, read_block, block_at}
+use Rattle.block.specs.Form.{Form, one_byte, two_byte, other, form_of}
 use Rattle.header.specs.declared.Header.{Header}
 use Rattle.header.specs.declared.HeaderRead.{HeaderRead}
 use Rattle.header.specs.declared.HeaderRead.TheVariants as read
@@ -37,54 +37,54 @@ use Rattle.header.specs.declared.Got.TheVariants as got
 use Rattle.header.specs.declared.IdCount.{IdCount}
 use Rattle.header.specs.declared.IdCount.TheVariants as ids
 use Rattle.header.specs.declared.Ids.{Ids}
-use Rattle.header.specs.Fields.{fields_of, blank, inDomain}
-use Rattle.header.specs.Read.{Reading, count_of, fixedLength, reading_of, readExtension, readFixed, readHeader}
-use Rattle.header.specs.Parts.{fixed_of, together, bare, frontOf, FrontHeard, heardFront, frontHeard, Lent, lentRead}
-use Rattle.header.specs.Size.{payloadLength, headerSize, lengthAsked, sizeAsked}
+use Rattle.header.specs.Fields.{fields_of, blank, in_domain}
+use Rattle.header.specs.Read.{Reading, count_of, fixed_length, reading_of, read_extension, read_fixed, read_header}
+use Rattle.header.specs.Parts.{fixed_of, together, bare, front_of, FrontHeard, heard_front, front_heard, Lent, lent_read}
+use Rattle.header.specs.Size.{payload_length, header_size, length_asked, size_asked}
 use Rattle.header_write.specs.Judge.{judged}
-use Rattle.header.specs.Write.{octetsOf, inWritingDomain, writeHeader}
-use Rattle.header.specs.Extension.{limited, idRefusal, setFound, setLater, setFirst, setExtension, delFound, delExtension, getExtension, getExtensionIds}
-use Rattle.header_write.specs.Said.{saidLength}
-use Rattle.header.specs.Said.{saidRead, Heard, heard, readingHeard, Written, heardWritten, written, saidChange, After, heardChange, changeHeard, saidGot, saidCount, Listed, heardIds, idsHeard}
-use Rattle.header.proofs.Fronts.{withArrays}
+use Rattle.header.specs.Write.{octets_of, in_writing_domain, write_header}
+use Rattle.header.specs.Extension.{limited, id_refusal, set_found, set_later, set_first, set_extension, del_found, del_extension, get_extension, get_extension_ids}
+use Rattle.header_write.specs.Said.{said_length}
+use Rattle.header.specs.Said.{said_read, Heard, heard, reading_heard, Written, heard_written, written, said_change, After, heard_change, change_heard, said_got, said_count, Listed, heard_ids, ids_heard}
+use Rattle.header.proofs.Fronts.{with_arrays}
 
 -- ---- lengths
 
 abbrev pub length_of : Said ℕ → Length
 length_of (says n) = len.Bytes n
-length_of (refused r) = len.Refused (errorOf r)
+length_of (refused r) = len.Refused (error_of r)
 
-lengthOf-said : (a : Length) → length_of (saidLength a) ≡ a
-lengthOf-said (len.Bytes n) = refl
-lengthOf-said (len.Refused e) = ap len.Refused (errorOf-refusalOf e)
+length_of_said : (a : Length) → length_of (said_length a) ≡ a
+length_of_said (len.Bytes n) = refl
+length_of_said (len.Refused e) = ap len.Refused (error_of_refusal_of e)
 
-said-lengthOf : (x : Said ℕ) → saidLength (length_of x) ≡ spoken x
-said-lengthOf (says n) = refl
-said-lengthOf (refused r) = refl
+said_length_of : (x : Said ℕ) → said_length (length_of x) ≡ spoken x
+said_length_of (says n) = refl
+said_length_of (refused r) = refl
 
-pub length-only : (x : Said ℕ) → Sayable x → Determined (λ (r : Length). saidLength r ≡ x)
-length-only x s = by-view saidLength length_of lengthOf-said (length_of x) x (said-lengthOf x ∙ s)
+pub length_only : (x : Said ℕ) → Sayable x → Determined (λ (r : Length). said_length r ≡ x)
+length_only x s = by_view said_length length_of length_of_said (length_of x) x (said_length_of x ∙ s)
 
-pub get-extension-payload-len-only : (h : Header) → Determined (λ (r : Length). saidLength r ≡ lengthAsked h)
-unfolding lengthAsked
-get-extension-payload-len-only h =
-    length-only (lengthAsked h)
-    (either-sayable {x = says (payloadLength (fields_of h))} {y = refuse 8} (inDomain h) refl refl)
+pub get_extension_payload_len_only : (h : Header) → Determined (λ (r : Length). said_length r ≡ length_asked h)
+unfolding length_asked
+get_extension_payload_len_only h =
+    length_only (length_asked h)
+    (either_sayable {x = says (payload_length (fields_of h))} {y = refuse 8} (in_domain h) refl refl)
 
-pub marshal-size-only : (h : Header) → Determined (λ (r : Length). saidLength r ≡ sizeAsked h)
-unfolding sizeAsked
-marshal-size-only h =
-    length-only (sizeAsked h)
-    (either-sayable {x = says (headerSize (fields_of h))} {y = refuse 8} (inDomain h) refl refl)
+pub marshal_size_only : (h : Header) → Determined (λ (r : Length). said_length r ≡ size_asked h)
+unfolding size_asked
+marshal_size_only h =
+    length_only (size_asked h)
+    (either_sayable {x = says (header_size (fields_of h))} {y = refuse 8} (in_domain h) refl refl)
 
 -- .. of the record put together
-pub get-extension-payload-len-parts-only : (f : Fixed) (count : ℕ) (csrc : List ℕ) (profile : ℕ) (x : Extensions) (pads : ℕ) →
-    Determined (λ (r : Length). saidLength r ≡ lengthAsked (together f count csrc profile x pads))
-get-extension-payload-len-parts-only f count csrc profile x pads = get-extension-payload-len-only (together f count csrc profile x pads)
+pub get_extension_payload_len_parts_only : (f : Fixed) (count : ℕ) (csrc : List ℕ) (profile : ℕ) (x : Extensions) (pads : ℕ) →
+    Determined (λ (r : Length). said_length r ≡ length_asked (together f count csrc profile x pads))
+get_extension_payload_len_parts_only f count csrc profile x pads = get_extension_payload_len_only (together f count csrc profile x pads)
 
-pub marshal-size-parts-only : (f : Fixed) (count : ℕ) (csrc : List ℕ) (profile : ℕ) (x : Extensions) (pads : ℕ) →
-    Determined (λ (r : Length). saidLength r ≡ sizeAsked (together f count csrc profile x pads))
-marshal-size-parts-only f count csrc profile x pads = marshal-size-only (together f count csrc profile x pads)
+pub marshal_size_parts_only : (f : Fixed) (count : ℕ) (csrc : List ℕ) (profile : ℕ) (x : Extensions) (pads : ℕ) →
+    Determined (λ (r : Length). said_length r ≡ size_asked (together f count csrc profile x pads))
+marshal_size_parts_only f count csrc profile x pads = marshal_size_only (together f count csrc profile x pads)
 
 -- ---- writing
 
@@ -92,60 +92,60 @@ marshal-size-parts-only f count csrc profile x pads = marshal-size-only (togethe
 abbrev pub Left : Type 0
 Left = Length × List ℕ
 
-abbrev pub heardLeft : Left → Written
-heardLeft a = heardWritten a.0 a.1
+abbrev pub heard_left : Left → Written
+heard_left a = heard_written a.0 a.1
 
 abbrev pub left_of : Written → Left
 left_of w = (length_of w.answer, w.buffer)
 
-leftOf-heard : (a : Left) → left_of (heardLeft a) ≡ a
-leftOf-heard a = ap (λ (r : Length). (r, a.1)) (lengthOf-said a.0)
+left_of_heard : (a : Left) → left_of (heard_left a) ≡ a
+left_of_heard a = ap (λ (r : Length). (r, a.1)) (length_of_said a.0)
 
-heard-leftOf : (buf : List ℕ) (x : Said (List ℕ)) → Sayable x → heardLeft (left_of (written buf x)) ≡ written buf x
-heard-leftOf buf (says octets) s = refl
-heard-leftOf buf (refused r) s = ap (λ (k : Refusal). record { answer = refused k; buffer = buf }) (known {A = List ℕ} {r = r} s)
+heard_left_of : (buf : List ℕ) (x : Said (List ℕ)) → Sayable x → heard_left (left_of (written buf x)) ≡ written buf x
+heard_left_of buf (says octets) s = refl
+heard_left_of buf (refused r) s = ap (λ (k : Refusal). record { answer = refused k; buffer = buf }) (known {A = List ℕ} {r = r} s)
 
-pub written-only : (buf : List ℕ) (x : Said (List ℕ)) → Sayable x → Determined (λ (a : Left). heardLeft a ≡ written buf x)
-written-only buf x s = by-view heardLeft left_of leftOf-heard (left_of (written buf x)) (written buf x) (heard-leftOf buf x s)
+pub written_only : (buf : List ℕ) (x : Said (List ℕ)) → Sayable x → Determined (λ (a : Left). heard_left a ≡ written buf x)
+written_only buf x s = by_view heard_left left_of left_of_heard (left_of (written buf x)) (written buf x) (heard_left_of buf x s)
 
-pub judged-sayable : {A : Type 0} (on : Bool) (form : Form) (len count : ℕ) (x : A) →
+pub judged_sayable : {A : Type 0} (on : Bool) (form : Form) (len count : ℕ) (x : A) →
     Sayable (cond on (judged form len count (says x)) (says x))
-judged-sayable true one_byte len count x = refl
-judged-sayable true two-byte len count x = refl
-judged-sayable true other len count x =
-    either-sayable {x = cond (eqb count 1) (says x) (refuse 10)} {y = refuse 9} (eqb (len % 4) 0)
-    (either-sayable {x = says x} {y = refuse 10} (eqb count 1) refl refl) refl
-judged-sayable false form len count x = refl
+judged_sayable true one_byte len count x = refl
+judged_sayable true two_byte len count x = refl
+judged_sayable true other len count x =
+    either_sayable {x = cond (eqb count 1) (says x) (refuse 10)} {y = refuse 9} (eqb (len % 4) 0)
+    (either_sayable {x = says x} {y = refuse 10} (eqb count 1) refl refl) refl
+judged_sayable false form len count x = refl
 
-write-sayable : (h : Header) (room : ℕ) → Sayable (writeHeader h room)
-unfolding writeHeader
-write-sayable h room =
+write_sayable : (h : Header) (room : ℕ) → Sayable (write_header h room)
+unfolding write_header
+write_sayable h room =
     let form : Form = form_of h.extension_profile in
-    let n : ℕ = payloadLength (fields_of h) in
+    let n : ℕ = payload_length (fields_of h) in
     let count : ℕ = length (fields_of h).elements in
-    let octets : List ℕ = octetsOf (fields_of h) in
+    let octets : List ℕ = octets_of (fields_of h) in
     let asked : Said (List ℕ) = cond h.extension (judged form n count (says octets)) (says octets) in
-    either-sayable {x = cond (ltb room (headerSize (fields_of h))) (refuse 5) asked} {y = refuse 8} (inWritingDomain h)
-    (either-sayable {x = refuse 5} {y = asked} (ltb room (headerSize (fields_of h))) refl (judged-sayable h.extension form n count octets))
+    either_sayable {x = cond (ltb room (header_size (fields_of h))) (refuse 5) asked} {y = refuse 8} (in_writing_domain h)
+    (either_sayable {x = refuse 5} {y = asked} (ltb room (header_size (fields_of h))) refl (judged_sayable h.extension form n count octets))
     refl
 
-pub marshal-to-only : (h : Header) (buf : List ℕ) → Determined (λ (a : Left). heardLeft a ≡ written buf (writeHeader h (length buf)))
-marshal-to-only h buf = written-only buf (writeHeader h (length buf)) (write-sayable h (length buf))
+pub marshal_to_only : (h : Header) (buf : List ℕ) → Determined (λ (a : Left). heard_left a ≡ written buf (write_header h (length buf)))
+marshal_to_only h buf = written_only buf (write_header h (length buf)) (write_sayable h (length buf))
 
 -- of the record put together, and of the bare one
-pub marshal-parts-only : (f : Fixed) (count : ℕ) (csrc : List ℕ) (profile : ℕ) (x : Extensions) (pads : ℕ) (buf : List ℕ) →
-    Determined (λ (a : Left). heardLeft a ≡ written buf (writeHeader (together f count csrc profile x pads) (length buf)))
-marshal-parts-only f count csrc profile x pads buf = marshal-to-only (together f count csrc profile x pads) buf
+pub marshal_parts_only : (f : Fixed) (count : ℕ) (csrc : List ℕ) (profile : ℕ) (x : Extensions) (pads : ℕ) (buf : List ℕ) →
+    Determined (λ (a : Left). heard_left a ≡ written buf (write_header (together f count csrc profile x pads) (length buf)))
+marshal_parts_only f count csrc profile x pads buf = marshal_to_only (together f count csrc profile x pads) buf
 
-pub marshal-bare-only : (f : Fixed) (profile pads : ℕ) (buf : List ℕ) →
-    Determined (λ (a : Left). heardLeft a ≡ written buf (writeHeader (bare f profile pads) (length buf)))
-marshal-bare-only f profile pads buf = marshal-to-only (bare f profile pads) buf
+pub marshal_bare_only : (f : Fixed) (profile pads : ℕ) (buf : List ℕ) →
+    Determined (λ (a : Left). heard_left a ≡ written buf (write_header (bare f profile pads) (length buf)))
+marshal_bare_only f profile pads buf = marshal_to_only (bare f profile pads) buf
 
-pub fixed-only : (h : Header) → Determined (λ (r : Fixed). r ≡ fixed_of h)
-fixed-only h = by_value (fixed_of h)
+pub fixed_only : (h : Header) → Determined (λ (r : Fixed). r ≡ fixed_of h)
+fixed_only h = by_value (fixed_of h)
 
-pub is-writable-only : (h : Header) → Determined (λ (r : Bool). r ≡ inWritingDomain h)
-is-writable-only h = by_value (inWritingDomain h)
+pub is_writable_only : (h : Header) → Determined (λ (r : Bool). r ≡ in_writing_domain h)
+is_writable_only h = by_value (in_writing_domain h)
 
 -- ---- reading
 
@@ -154,251 +154,251 @@ abbrev Settled : Turn Block (Said Block) → Type 0
 Settled (more b) = Unit
 Settled (done x) = Sayable x
 
-settled-either : (x y : Turn Block (Said Block)) (b : Bool) → Settled x → Settled y → Settled (cond b x y)
-settled-either x y true p q = p
-settled-either x y false p q = q
+settled_either : (x y : Turn Block (Said Block)) (b : Bool) → Settled x → Settled y → Settled (cond b x y)
+settled_either x y true p q = p
+settled_either x y false p q = q
 
-settled-taken : (b : Block) (i : Item) → Settled (taken b i)
+settled_taken : (b : Block) (i : Item) → Settled (taken b i)
 unfolding taken
-settled-taken b pad = tt
-settled-taken b stop = refl
-settled-taken b past = refl
-settled-taken b (element head id len) =
-    settled-either (more (with-element (record { id = id; bytes = take len (drop head b.rest) }) (skip (head + len) b)))
+settled_taken b pad = tt
+settled_taken b stop = refl
+settled_taken b past = refl
+settled_taken b (element head id len) =
+    settled_either (more (with_element (record { id = id; bytes = take len (drop head b.rest) }) (skip (head + len) b)))
     (done (refuse 7)) (room_for b.elements len) tt refl
 
-settled-turn : (item : List ℕ → Item) (b : Block) → Settled (turn item b)
+settled_turn : (item : List ℕ → Item) (b : Block) → Settled (turn item b)
 unfolding turn
-settled-turn item b =
-    settled-either (done (says b)) (taken b (item b.rest)) (eqb b.left 0) refl (settled-taken b (item b.rest))
+settled_turn item b =
+    settled_either (done (says b)) (taken b (item b.rest)) (eqb b.left 0) refl (settled_taken b (item b.rest))
 
-settled-after : (t : Turn Block (Said Block)) (go : Block → Said Block) → Settled t → ((b : Block) → Sayable (go b)) → Sayable (after t go)
-settled-after (more b) go s h = h b
-settled-after (done x) go s h = s
+settled_after : (t : Turn Block (Said Block)) (go : Block → Said Block) → Settled t → ((b : Block) → Sayable (go b)) → Sayable (after t go)
+settled_after (more b) go s h = h b
+settled_after (done x) go s h = s
 
-run-sayable : (item : List ℕ → Item) (fuel : ℕ) (b : Block) → Sayable (run (turn item) (refuse 3) fuel b)
+run_sayable : (item : List ℕ → Item) (fuel : ℕ) (b : Block) → Sayable (run (turn item) (refuse 3) fuel b)
 unfolding run
-run-sayable item zero b = refl
-run-sayable item (suc fuel) b =
-    settled-after (turn item b) (run (turn item) (refuse 3) fuel) (settled-turn item b) (λ c. run-sayable item fuel c)
+run_sayable item zero b = refl
+run_sayable item (suc fuel) b =
+    settled_after (turn item b) (run (turn item) (refuse 3) fuel) (settled_turn item b) (λ c. run_sayable item fuel c)
 
-block-sayable : (form : Form) (b : Block) → Sayable (readBlock form b)
-unfolding wholeBlock
-block-sayable one_byte b = run-sayable (itemsBy false) (b.left + 1) b
-block-sayable two-byte b = run-sayable (itemsBy true) (b.left + 1) b
-block-sayable other b =
-    either-sayable {x = says (with-element (record { id = 0; bytes = take b.left b.rest }) (skip b.left b))} {y = refuse 7}
+block_sayable : (form : Form) (b : Block) → Sayable (read_block form b)
+unfolding whole_block
+block_sayable one_byte b = run_sayable (items_by false) (b.left + 1) b
+block_sayable two_byte b = run_sayable (items_by true) (b.left + 1) b
+block_sayable other b =
+    either_sayable {x = says (with_element (record { id = 0; bytes = take b.left b.rest }) (skip b.left b))} {y = refuse 7}
     (room_for b.elements b.left) refl refl
 
-reading-sayable : (s : List ℕ) (cc profile : ℕ) (x : Said Block) → Sayable x → Sayable (reading_of s cc profile x)
-reading-sayable s cc profile (says b) e = refl
-reading-sayable s cc profile (refused r) e = passed {A = Block} {r = r} e
+reading_sayable : (s : List ℕ) (cc profile : ℕ) (x : Said Block) → Sayable x → Sayable (reading_of s cc profile x)
+reading_sayable s cc profile (says b) e = refl
+reading_sayable s cc profile (refused r) e = passed {A = Block} {r = r} e
 
-extension-sayable : (s : List ℕ) (cc at : ℕ) → Sayable (readExtension s cc at)
-unfolding readExtension
-extension-sayable s cc at =
-    let block : Said Block = readBlock (form_of (u16At s at)) (block_at s (at + 4) (4 * u16At s (at + 2))) in
-    let rest : Said Reading = reading_of s cc (u16At s at) block in
-    either-sayable {x = refuse 2} {y = cond (ltb (length s) (at + 4 + 4 * u16At s (at + 2))) (refuse 2) rest} (ltb (length s) (at + 4)) refl
-    (either-sayable {x = refuse 2} {y = rest} (ltb (length s) (at + 4 + 4 * u16At s (at + 2))) refl
-    (reading-sayable s cc (u16At s at) block (block-sayable (form_of (u16At s at)) (block_at s (at + 4) (4 * u16At s (at + 2))))))
+extension_sayable : (s : List ℕ) (cc at : ℕ) → Sayable (read_extension s cc at)
+unfolding read_extension
+extension_sayable s cc at =
+    let block : Said Block = read_block (form_of (u16_at s at)) (block_at s (at + 4) (4 * u16_at s (at + 2))) in
+    let rest : Said Reading = reading_of s cc (u16_at s at) block in
+    either_sayable {x = refuse 2} {y = cond (ltb (length s) (at + 4 + 4 * u16_at s (at + 2))) (refuse 2) rest} (ltb (length s) (at + 4)) refl
+    (either_sayable {x = refuse 2} {y = rest} (ltb (length s) (at + 4 + 4 * u16_at s (at + 2))) refl
+    (reading_sayable s cc (u16_at s at) block (block_sayable (form_of (u16_at s at)) (block_at s (at + 4) (4 * u16_at s (at + 2))))))
 
-fixed-sayable : (s : List ℕ) (cc : ℕ) → Sayable (readFixed s cc)
-unfolding readFixed
-fixed-sayable s cc =
-    let plain : Said Reading = reading_of s cc 0 (says (block_at s (fixedLength cc) 0)) in
-    let extended : Said Reading = readExtension s cc (fixedLength cc) in
-    either-sayable {x = refuse 1} {y = cond (bit (get_or s 0 0 / 16)) extended plain} (ltb (length s) (fixedLength cc)) refl
-    (either-sayable {x = extended} {y = plain} (bit (get_or s 0 0 / 16)) (extension-sayable s cc (fixedLength cc)) refl)
+fixed_sayable : (s : List ℕ) (cc : ℕ) → Sayable (read_fixed s cc)
+unfolding read_fixed
+fixed_sayable s cc =
+    let plain : Said Reading = reading_of s cc 0 (says (block_at s (fixed_length cc) 0)) in
+    let extended : Said Reading = read_extension s cc (fixed_length cc) in
+    either_sayable {x = refuse 1} {y = cond (bit (get_or s 0 0 / 16)) extended plain} (ltb (length s) (fixed_length cc)) refl
+    (either_sayable {x = extended} {y = plain} (bit (get_or s 0 0 / 16)) (extension_sayable s cc (fixed_length cc)) refl)
 
-pub read-sayable : (s : List ℕ) → Sayable (readHeader s)
-unfolding readHeader
-read-sayable s =
-    let fixed : Said Reading = readFixed s (count_of s) in
-    either-sayable {x = refuse 8} {y = cond (ltb (length s) 4) (refuse 1) fixed} (ltb 65535 (length s)) refl
-    (either-sayable {x = refuse 1} {y = fixed} (ltb (length s) 4) refl (fixed-sayable s (count_of s)))
+pub read_sayable : (s : List ℕ) → Sayable (read_header s)
+unfolding read_header
+read_sayable s =
+    let fixed : Said Reading = read_fixed s (count_of s) in
+    either_sayable {x = refuse 8} {y = cond (ltb (length s) 4) (refuse 1) fixed} (ltb 65535 (length s)) refl
+    (either_sayable {x = refuse 1} {y = fixed} (ltb (length s) 4) refl (fixed_sayable s (count_of s)))
 
 abbrev read_of : Said ℕ → HeaderRead
 read_of (says place) = read.Payload place
-read_of (refused r) = read.Refused (errorOf r)
+read_of (refused r) = read.Refused (error_of r)
 
-readOf-said : (a : HeaderRead) → read_of (saidRead a) ≡ a
-readOf-said (read.Payload place) = refl
-readOf-said (read.Refused e) = ap read.Refused (errorOf-refusalOf e)
+read_of_said : (a : HeaderRead) → read_of (said_read a) ≡ a
+read_of_said (read.Payload place) = refl
+read_of_said (read.Refused e) = ap read.Refused (error_of_refusal_of e)
 
-abbrev unmarshalledOf : Heard → Unmarshalled
-unmarshalledOf h = record { read = read_of h.answer; header = h.header }
+abbrev unmarshalled_of : Heard → Unmarshalled
+unmarshalled_of h = record { read = read_of h.answer; header = h.header }
 
-unmarshalledOf-heard : (a : Unmarshalled) → unmarshalledOf (heard a) ≡ a
-unmarshalledOf-heard a = ap (λ (r : HeaderRead). record { read = r; header = a.header }) (readOf-said a.read)
+unmarshalled_of_heard : (a : Unmarshalled) → unmarshalled_of (heard a) ≡ a
+unmarshalled_of_heard a = ap (λ (r : HeaderRead). record { read = r; header = a.header }) (read_of_said a.read)
 
-heard-unmarshalledOf : (x : Said Reading) → Sayable x → heard (unmarshalledOf (readingHeard x)) ≡ readingHeard x
-heard-unmarshalledOf (says r) s = refl
-heard-unmarshalledOf (refused r) s = ap (λ (k : Refusal). record { answer = refused k; header = blank }) (known {A = Reading} {r = r} s)
+heard_unmarshalled_of : (x : Said Reading) → Sayable x → heard (unmarshalled_of (reading_heard x)) ≡ reading_heard x
+heard_unmarshalled_of (says r) s = refl
+heard_unmarshalled_of (refused r) s = ap (λ (k : Refusal). record { answer = refused k; header = blank }) (known {A = Reading} {r = r} s)
 
-pub unmarshal-only : (s : List ℕ) → Determined (λ (r : Unmarshalled). heard r ≡ readingHeard (readHeader s))
-unmarshal-only s =
-    by-view heard unmarshalledOf unmarshalledOf-heard (unmarshalledOf (readingHeard (readHeader s))) (readingHeard (readHeader s))
-    (heard-unmarshalledOf (readHeader s) (read-sayable s))
+pub unmarshal_only : (s : List ℕ) → Determined (λ (r : Unmarshalled). heard r ≡ reading_heard (read_header s))
+unmarshal_only s =
+    by_view heard unmarshalled_of unmarshalled_of_heard (unmarshalled_of (reading_heard (read_header s))) (reading_heard (read_header s))
+    (heard_unmarshalled_of (read_header s) (read_sayable s))
 
 -- .. without the arrays
-abbrev frontReadOf : FrontHeard → FrontRead
-frontReadOf h = record { read = read_of h.answer; front = h.front }
+abbrev front_read_of : FrontHeard → FrontRead
+front_read_of h = record { read = read_of h.answer; front = h.front }
 
-frontReadOf-heard : (a : FrontRead) → frontReadOf (heardFront a) ≡ a
-frontReadOf-heard a = ap (λ (r : HeaderRead). record { read = r; front = a.front }) (readOf-said a.read)
+front_read_of_heard : (a : FrontRead) → front_read_of (heard_front a) ≡ a
+front_read_of_heard a = ap (λ (r : HeaderRead). record { read = r; front = a.front }) (read_of_said a.read)
 
-heard-frontReadOf : (x : Said Reading) → Sayable x → heardFront (frontReadOf (frontHeard (readingHeard x))) ≡ frontHeard (readingHeard x)
-heard-frontReadOf (says r) s = refl
-heard-frontReadOf (refused r) s = ap (λ (k : Refusal). record { answer = refused k; front = frontOf blank }) (known {A = Reading} {r = r} s)
+heard_front_read_of : (x : Said Reading) → Sayable x → heard_front (front_read_of (front_heard (reading_heard x))) ≡ front_heard (reading_heard x)
+heard_front_read_of (says r) s = refl
+heard_front_read_of (refused r) s = ap (λ (k : Refusal). record { answer = refused k; front = front_of blank }) (known {A = Reading} {r = r} s)
 
-pub unmarshal-front-only : (s : List ℕ) → Determined (λ (r : FrontRead). heardFront r ≡ frontHeard (readingHeard (readHeader s)))
-unmarshal-front-only s =
-    let said : FrontHeard = frontHeard (readingHeard (readHeader s)) in
-    by-view heardFront frontReadOf frontReadOf-heard (frontReadOf said) said (heard-frontReadOf (readHeader s) (read-sayable s))
+pub unmarshal_front_only : (s : List ℕ) → Determined (λ (r : FrontRead). heard_front r ≡ front_heard (reading_heard (read_header s)))
+unmarshal_front_only s =
+    let said : FrontHeard = front_heard (reading_heard (read_header s)) in
+    by_view heard_front front_read_of front_read_of_heard (front_read_of said) said (heard_front_read_of (read_header s) (read_sayable s))
 
-pub unmarshal-parts-only : (s : List ℕ) (old : Lent) →
+pub unmarshal_parts_only : (s : List ℕ) (old : Lent) →
     Determined
     (λ (a : FrontRead × Lent).
-    (heardFront a.0 ≡ frontHeard (readingHeard (readHeader s))) × (a.1 ≡ lentRead old (readHeader s)))
-unmarshal-parts-only s old = by_both (unmarshal-front-only s) (by_value (lentRead old (readHeader s)))
+    (heard_front a.0 ≡ front_heard (reading_heard (read_header s))) × (a.1 ≡ lent_read old (read_header s)))
+unmarshal_parts_only s old = by_both (unmarshal_front_only s) (by_value (lent_read old (read_header s)))
 
 -- of `Front`
-pub front-default-only : Determined (λ (r : Front). r ≡ frontOf blank)
-front-default-only = by_value (frontOf blank)
+pub front_default_only : Determined (λ (r : Front). r ≡ front_of blank)
+front_default_only = by_value (front_of blank)
 
-pub front-with-only : (f : Front) (l : Lent) → Determined (λ (r : Header). r ≡ withArrays f l)
-front-with-only f l = by_value (withArrays f l)
+pub front_with_only : (f : Front) (l : Lent) → Determined (λ (r : Header). r ≡ with_arrays f l)
+front_with_only f l = by_value (with_arrays f l)
 
-pub default-only : Determined (λ (r : Header). r ≡ blank)
-default-only = by_value blank
+pub default_only : Determined (λ (r : Header). r ≡ blank)
+default_only = by_value blank
 
 -- of `Extensions`
-pub new-only : Determined (λ (r : Extensions). r ≡ layElements [])
-new-only = by_value (layElements [])
+pub new_only : Determined (λ (r : Extensions). r ≡ lay_elements [])
+new_only = by_value (lay_elements [])
 
 -- ---- setting and deleting
 
-abbrev changeOf : Said Unit → Change
-changeOf (says u) = change.Made
-changeOf (refused r) = change.Refused (errorOf r)
+abbrev change_of : Said Unit → Change
+change_of (says u) = change.Made
+change_of (refused r) = change.Refused (error_of r)
 
-changeOf-said : (a : Change) → changeOf (saidChange a) ≡ a
-changeOf-said change.Made = refl
-changeOf-said (change.Refused e) = ap change.Refused (errorOf-refusalOf e)
+change_of_said : (a : Change) → change_of (said_change a) ≡ a
+change_of_said change.Made = refl
+change_of_said (change.Refused e) = ap change.Refused (error_of_refusal_of e)
 
-abbrev changedOf : After → Changed
-changedOf a = record { change = changeOf a.answer; header = a.header }
+abbrev changed_of : After → Changed
+changed_of a = record { change = change_of a.answer; header = a.header }
 
-changedOf-heard : (a : Changed) → changedOf (heardChange a) ≡ a
-changedOf-heard a = ap (λ (c : Change). record { change = c; header = a.header }) (changeOf-said a.change)
+changed_of_heard : (a : Changed) → changed_of (heard_change a) ≡ a
+changed_of_heard a = ap (λ (c : Change). record { change = c; header = a.header }) (change_of_said a.change)
 
-heard-changedOf : (h : Header) (x : Said Header) → Sayable x → heardChange (changedOf (changeHeard h x)) ≡ changeHeard h x
-heard-changedOf h (says h') s = refl
-heard-changedOf h (refused r) s = ap (λ (k : Refusal). record { answer = refused k; header = h }) (known {A = Header} {r = r} s)
+heard_changed_of : (h : Header) (x : Said Header) → Sayable x → heard_change (changed_of (change_heard h x)) ≡ change_heard h x
+heard_changed_of h (says h') s = refl
+heard_changed_of h (refused r) s = ap (λ (k : Refusal). record { answer = refused k; header = h }) (known {A = Header} {r = r} s)
 
-change-only : (h : Header) (x : Said Header) → Sayable x → Determined (λ (r : Changed). heardChange r ≡ changeHeard h x)
-change-only h x s =
-    by-view heardChange changedOf changedOf-heard (changedOf (changeHeard h x)) (changeHeard h x) (heard-changedOf h x s)
+change_only : (h : Header) (x : Said Header) → Sayable x → Determined (λ (r : Changed). heard_change r ≡ change_heard h x)
+change_only h x s =
+    by_view heard_change changed_of changed_of_heard (changed_of (change_heard h x)) (change_heard h x) (heard_changed_of h x s)
 
-limited-sayable : (es : List Element) (h : Header) → Sayable (limited es h)
-limited-sayable es h = either-sayable {x = says h} {y = refuse 7} (leb (length es) 32 && leb (length (data_of es)) 1024) refl refl
+limited_sayable : (es : List Element) (h : Header) → Sayable (limited es h)
+limited_sayable es h = either_sayable {x = says h} {y = refuse 7} (leb (length es) 32 && leb (length (data_of es)) 1024) refl refl
 
-id-sayable : (form : Form) (id len : ℕ) (next : Said Header) → Sayable next → Sayable (idRefusal form id len next)
-id-sayable one_byte id len next s =
-    either-sayable {x = cond (leb len 16) next (refuse 12)} {y = refuse 11} (leb 1 id && leb id 14)
-    (either-sayable {x = next} {y = refuse 12} (leb len 16) s refl) refl
-id-sayable two-byte id len next s =
-    either-sayable {x = cond (leb len 255) next (refuse 14)} {y = refuse 13} (leb 1 id)
-    (either-sayable {x = next} {y = refuse 14} (leb len 255) s refl) refl
-id-sayable other id len next s = either-sayable {x = next} {y = refuse 10} (eqb id 0) s refl
+id_sayable : (form : Form) (id len : ℕ) (next : Said Header) → Sayable next → Sayable (id_refusal form id len next)
+id_sayable one_byte id len next s =
+    either_sayable {x = cond (leb len 16) next (refuse 12)} {y = refuse 11} (leb 1 id && leb id 14)
+    (either_sayable {x = next} {y = refuse 12} (leb len 16) s refl) refl
+id_sayable two_byte id len next s =
+    either_sayable {x = cond (leb len 255) next (refuse 14)} {y = refuse 13} (leb 1 id)
+    (either_sayable {x = next} {y = refuse 14} (leb len 255) s refl) refl
+id_sayable other id len next s = either_sayable {x = next} {y = refuse 10} (eqb id 0) s refl
 
-found-sayable : (h : Header) (es : List Element) (id : ℕ) (bytes : List ℕ) (f : Found) → Sayable (setFound h es id bytes f)
-found-sayable h es id bytes absent = limited-sayable (append id bytes es) _
-found-sayable h es id bytes (named.at place len) = limited-sayable (replace id bytes es) _
+found_sayable : (h : Header) (es : List Element) (id : ℕ) (bytes : List ℕ) (f : Found) → Sayable (set_found h es id bytes f)
+found_sayable h es id bytes absent = limited_sayable (append id bytes es) _
+found_sayable h es id bytes (named.at place len) = limited_sayable (replace id bytes es) _
 
-set-sayable : (h : Header) (id : ℕ) (bytes : List ℕ) → Sayable (setExtension h id bytes)
-unfolding setExtension setLater setFirst
-set-sayable h id bytes =
+set_sayable : (h : Header) (id : ℕ) (bytes : List ℕ) → Sayable (set_extension h id bytes)
+unfolding set_extension set_later set_first
+set_sayable h id bytes =
     let es : List Element = (fields_of h).elements in
-    either-sayable {x = cond h.extension (setLater h es id bytes) (setFirst h es id bytes)} {y = refuse 8} (inDomain h)
-    (either-sayable {x = setLater h es id bytes} {y = setFirst h es id bytes} h.extension
-    (id-sayable (form_of h.extension_profile) id (length bytes) (setFound h es id bytes (find id 0 es))
-    (found-sayable h es id bytes (find id 0 es)))
-    (limited-sayable (append id bytes es) _))
+    either_sayable {x = cond h.extension (set_later h es id bytes) (set_first h es id bytes)} {y = refuse 8} (in_domain h)
+    (either_sayable {x = set_later h es id bytes} {y = set_first h es id bytes} h.extension
+    (id_sayable (form_of h.extension_profile) id (length bytes) (set_found h es id bytes (find id 0 es))
+    (found_sayable h es id bytes (find id 0 es)))
+    (limited_sayable (append id bytes es) _))
     refl
 
-pub set-extension-only : (h : Header) (id : ℕ) (bytes : List ℕ) →
-    Determined (λ (r : Changed). heardChange r ≡ changeHeard h (setExtension h id bytes))
-set-extension-only h id bytes = change-only h (setExtension h id bytes) (set-sayable h id bytes)
+pub set_extension_only : (h : Header) (id : ℕ) (bytes : List ℕ) →
+    Determined (λ (r : Changed). heard_change r ≡ change_heard h (set_extension h id bytes))
+set_extension_only h id bytes = change_only h (set_extension h id bytes) (set_sayable h id bytes)
 
-deleted-sayable : (h : Header) (es : List Element) (id : ℕ) (f : Found) → Sayable (delFound h es id f)
-deleted-sayable h es id absent = refl
-deleted-sayable h es id (named.at place len) = refl
+deleted_sayable : (h : Header) (es : List Element) (id : ℕ) (f : Found) → Sayable (del_found h es id f)
+deleted_sayable h es id absent = refl
+deleted_sayable h es id (named.at place len) = refl
 
-del-sayable : (h : Header) (id : ℕ) → Sayable (delExtension h id)
-unfolding delExtension
-del-sayable h id =
+del_sayable : (h : Header) (id : ℕ) → Sayable (del_extension h id)
+unfolding del_extension
+del_sayable h id =
     let es : List Element = (fields_of h).elements in
-    either-sayable {x = cond h.extension (delFound h es id (find id 0 es)) (refuse 16)} {y = refuse 8} (inDomain h)
-    (either-sayable {x = delFound h es id (find id 0 es)} {y = refuse 16} h.extension (deleted-sayable h es id (find id 0 es)) refl) refl
+    either_sayable {x = cond h.extension (del_found h es id (find id 0 es)) (refuse 16)} {y = refuse 8} (in_domain h)
+    (either_sayable {x = del_found h es id (find id 0 es)} {y = refuse 16} h.extension (deleted_sayable h es id (find id 0 es)) refl) refl
 
-pub del-extension-only : (h : Header) (id : ℕ) → Determined (λ (r : Changed). heardChange r ≡ changeHeard h (delExtension h id))
-del-extension-only h id = change-only h (delExtension h id) (del-sayable h id)
+pub del_extension_only : (h : Header) (id : ℕ) → Determined (λ (r : Changed). heard_change r ≡ change_heard h (del_extension h id))
+del_extension_only h id = change_only h (del_extension h id) (del_sayable h id)
 
 -- ---- looking
 
-abbrev gotOf : Said Found → Got
-gotOf (says absent) = got.Absent
-gotOf (says (named.at place len)) = got.Data place len
-gotOf (refused r) = got.Refused (errorOf r)
+abbrev got_of : Said Found → Got
+got_of (says absent) = got.Absent
+got_of (says (named.at place len)) = got.Data place len
+got_of (refused r) = got.Refused (error_of r)
 
-gotOf-said : (a : Got) → gotOf (saidGot a) ≡ a
-gotOf-said (got.Data place len) = refl
-gotOf-said got.Absent = refl
-gotOf-said (got.Refused e) = ap got.Refused (errorOf-refusalOf e)
+got_of_said : (a : Got) → got_of (said_got a) ≡ a
+got_of_said (got.Data place len) = refl
+got_of_said got.Absent = refl
+got_of_said (got.Refused e) = ap got.Refused (error_of_refusal_of e)
 
-said-gotOf : (x : Said Found) → saidGot (gotOf x) ≡ spoken x
-said-gotOf (says absent) = refl
-said-gotOf (says (named.at place len)) = refl
-said-gotOf (refused r) = refl
+said_got_of : (x : Said Found) → said_got (got_of x) ≡ spoken x
+said_got_of (says absent) = refl
+said_got_of (says (named.at place len)) = refl
+said_got_of (refused r) = refl
 
-pub get-extension-only : (h : Header) (id : ℕ) → Determined (λ (r : Got). saidGot r ≡ getExtension h id)
-unfolding getExtension
-get-extension-only h id =
+pub get_extension_only : (h : Header) (id : ℕ) → Determined (λ (r : Got). said_got r ≡ get_extension h id)
+unfolding get_extension
+get_extension_only h id =
     let answer : Said Found = says (cond h.extension (find id 0 (fields_of h).elements) absent) in
-    by-view saidGot gotOf gotOf-said (gotOf (getExtension h id)) (getExtension h id)
-    (said-gotOf (getExtension h id) ∙ either-sayable {x = answer} {y = refuse 8} (inDomain h) refl refl)
+    by_view said_got got_of got_of_said (got_of (get_extension h id)) (get_extension h id)
+    (said_got_of (get_extension h id) ∙ either_sayable {x = answer} {y = refuse 8} (in_domain h) refl refl)
 
-pub get-extension-parts-only : (f : Fixed) (count : ℕ) (csrc : List ℕ) (profile : ℕ) (x : Extensions) (pads : ℕ) (id : ℕ) →
-    Determined (λ (r : Got). saidGot r ≡ getExtension (together f count csrc profile x pads) id)
-get-extension-parts-only f count csrc profile x pads id = get-extension-only (together f count csrc profile x pads) id
+pub get_extension_parts_only : (f : Fixed) (count : ℕ) (csrc : List ℕ) (profile : ℕ) (x : Extensions) (pads : ℕ) (id : ℕ) →
+    Determined (λ (r : Got). said_got r ≡ get_extension (together f count csrc profile x pads) id)
+get_extension_parts_only f count csrc profile x pads id = get_extension_only (together f count csrc profile x pads) id
 
-abbrev countedOf : Said ℕ → IdCount
-countedOf (says n) = ids.Ids n
-countedOf (refused r) = ids.Refused (errorOf r)
+abbrev counted_of : Said ℕ → IdCount
+counted_of (says n) = ids.Ids n
+counted_of (refused r) = ids.Refused (error_of r)
 
-countedOf-said : (a : IdCount) → countedOf (saidCount a) ≡ a
-countedOf-said (ids.Ids n) = refl
-countedOf-said (ids.Refused e) = ap ids.Refused (errorOf-refusalOf e)
+counted_of_said : (a : IdCount) → counted_of (said_count a) ≡ a
+counted_of_said (ids.Ids n) = refl
+counted_of_said (ids.Refused e) = ap ids.Refused (error_of_refusal_of e)
 
 abbrev ids_of : Listed → Ids
-ids_of l = record { count = countedOf l.answer; ids = l.ids }
+ids_of l = record { count = counted_of l.answer; ids = l.ids }
 
-idsOf-heard : (a : Ids) → ids_of (heardIds a) ≡ a
-idsOf-heard a = ap (λ (c : IdCount). record { count = c; ids = a.ids }) (countedOf-said a.count)
+ids_of_heard : (a : Ids) → ids_of (heard_ids a) ≡ a
+ids_of_heard a = ap (λ (c : IdCount). record { count = c; ids = a.ids }) (counted_of_said a.count)
 
-heard-idsOf : (x : Said (List ℕ)) → Sayable x → heardIds (ids_of (idsHeard x)) ≡ idsHeard x
-heard-idsOf (says l) s = refl
-heard-idsOf (refused r) s = ap (λ (k : Refusal). record { answer = refused k; ids = padTo 32 [] }) (known {A = List ℕ} {r = r} s)
+heard_ids_of : (x : Said (List ℕ)) → Sayable x → heard_ids (ids_of (ids_heard x)) ≡ ids_heard x
+heard_ids_of (says l) s = refl
+heard_ids_of (refused r) s = ap (λ (k : Refusal). record { answer = refused k; ids = pad_to 32 [] }) (known {A = List ℕ} {r = r} s)
 
-pub get-extension-ids-only : (h : Header) → Determined (λ (r : Ids). heardIds r ≡ idsHeard (getExtensionIds h))
-unfolding getExtensionIds
-get-extension-ids-only h =
+pub get_extension_ids_only : (h : Header) → Determined (λ (r : Ids). heard_ids r ≡ ids_heard (get_extension_ids h))
+unfolding get_extension_ids
+get_extension_ids_only h =
     let answer : Said (List ℕ) = says (cond h.extension (map (λ (e : Element). e.id) (fields_of h).elements) []) in
-    by-view heardIds ids_of idsOf-heard (ids_of (idsHeard (getExtensionIds h))) (idsHeard (getExtensionIds h))
-    (heard-idsOf (getExtensionIds h) (either-sayable {x = answer} {y = refuse 8} (inDomain h) refl refl))
+    by_view heard_ids ids_of ids_of_heard (ids_of (ids_heard (get_extension_ids h))) (ids_heard (get_extension_ids h))
+    (heard_ids_of (get_extension_ids h) (either_sayable {x = answer} {y = refuse 8} (in_domain h) refl refl))
 
-pub get-extension-ids-parts-only : (f : Fixed) (count : ℕ) (csrc : List ℕ) (profile : ℕ) (x : Extensions) (pads : ℕ) →
-    Determined (λ (r : Ids). heardIds r ≡ idsHeard (getExtensionIds (together f count csrc profile x pads)))
-get-extension-ids-parts-only f count csrc profile x pads = get-extension-ids-only (together f count csrc profile x pads)
+pub get_extension_ids_parts_only : (f : Fixed) (count : ℕ) (csrc : List ℕ) (profile : ℕ) (x : Extensions) (pads : ℕ) →
+    Determined (λ (r : Ids). heard_ids r ≡ ids_heard (get_extension_ids (together f count csrc profile x pads)))
+get_extension_ids_parts_only f count csrc profile x pads = get_extension_ids_only (together f count csrc profile x pads)

@@ -6,29 +6,29 @@ use mathlib.Core.List.{[]}
 use Prim.Native.Nat.{ℕ, ◌*◌, ◌≤◌}
 use native.Mathlib.Nat.{zero-mul}
 use native.Mathlib.Omega.{arith}
-use Rattle.wire.proofs.Part.{length-padTo}
-use Rattle.elements.specs.Elements.{elementsOf, layElements}
-use Rattle.block.specs.Form.{form_of, perElement}
+use Rattle.wire.proofs.Part.{length_pad_to}
+use Rattle.elements.specs.Elements.{elements_of, lay_elements}
+use Rattle.block.specs.Form.{form_of, per_element}
 use Rattle.header_write.specs.declared.Fixed.{Fixed}
 use Rattle.header.specs.declared.Header.{Header}
-use Rattle.header.specs.Fields.{fields_of, inDomain}
-use Rattle.header.specs.Write.{inWritingDomain, writeHeader}
+use Rattle.header.specs.Fields.{fields_of, in_domain}
+use Rattle.header.specs.Write.{in_writing_domain, write_header}
 use Rattle.header.specs.Parts.{fixed_of, together, bare}
-use Rattle.header.proofs.Sizes.{Arrays, lengthIn}
-use Rattle.header.proofs.Writing.{Measured, measured, not-fine}
+use Rattle.header.proofs.Sizes.{Arrays, length_in}
+use Rattle.header.proofs.Writing.{Measured, measured, not_fine}
 
-pub together-whole : (h : Header) →
+pub together_whole : (h : Header) →
     together (fixed_of h) h.csrc_count h.csrc h.extension_profile h.extensions h.extensions_padding ≡ h
 unfolding together
-together-whole h = refl
+together_whole h = refl
 
-pub together-of : (h : Header) {f : Fixed} → f ≡ fixed_of h →
+pub together_of : (h : Header) {f : Fixed} → f ≡ fixed_of h →
     together f h.csrc_count h.csrc h.extension_profile h.extensions h.extensions_padding ≡ h
-together-of h e =
+together_of h e =
     ap
     (λ (f : Fixed).
     together f h.csrc_count h.csrc h.extension_profile h.extensions h.extensions_padding) e
-    ∙ together-whole h
+    ∙ together_whole h
 
 -- ---- without CSRCs and elements
 
@@ -38,9 +38,9 @@ emptied h =
     together (fixed_of h) 0 h.csrc h.extension_profile
     (record { count = 0; ids = h.extensions.ids; lens = h.extensions.lens; bytes = h.extensions.bytes }) h.extensions_padding
 
-pub is-emptied : (h : Header) → h.csrc_count ≡ 0 → h.extensions.count ≡ 0 → h ≡ emptied h
+pub is_emptied : (h : Header) → h.csrc_count ≡ 0 → h.extensions.count ≡ 0 → h ≡ emptied h
 unfolding together
-is-emptied h cs es =
+is_emptied h cs es =
     ap₂
     (λ (n k : ℕ).
     together (fixed_of h) n h.csrc h.extension_profile
@@ -48,38 +48,38 @@ is-emptied h cs es =
     cs es
 
 pub bare_alike : (h : Header) → h.csrc_count ≡ 0 → h.extensions.count ≡ 0 → (room : ℕ) →
-    writeHeader h room ≡ writeHeader (bare (fixed_of h) h.extension_profile h.extensions_padding) room
-unfolding writeHeader inWritingDomain inDomain fields_of elementsOf together bare layElements
-bare_alike h cs es room = ap (λ (g : Header). writeHeader g room) (is-emptied h cs es)
+    write_header h room ≡ write_header (bare (fixed_of h) h.extension_profile h.extensions_padding) room
+unfolding write_header in_writing_domain in_domain fields_of elements_of together bare lay_elements
+bare_alike h cs es room = ap (λ (g : Header). write_header g room) (is_emptied h cs es)
 
 module _ (f : Fixed) (profile pads : ℕ) where
-  pub bare-arrays : Arrays (bare f profile pads)
-  unfolding bare together layElements
-  bare-arrays =
+  pub bare_arrays : Arrays (bare f profile pads)
+  unfolding bare together lay_elements
+  bare_arrays =
       record {
-        csrc = length-padTo 15 [] (omega arith);
-        ids = length-padTo 32 [] (omega arith);
-        lens = length-padTo 32 [] (omega arith);
-        bytes = length-padTo 1024 [] (omega arith);
+        csrc = length_pad_to 15 [] (omega arith);
+        ids = length_pad_to 32 [] (omega arith);
+        lens = length_pad_to 32 [] (omega arith);
+        bytes = length_pad_to 1024 [] (omega arith);
       }
 
-  bare-length : 0 ≡ lengthIn (bare f profile pads)
-  unfolding bare together layElements
-  bare-length = let z : 0 * perElement (form_of profile) ≡ 0 = zero-mul (perElement (form_of profile)) in omega arith
+  bare_length : 0 ≡ length_in (bare f profile pads)
+  unfolding bare together lay_elements
+  bare_length = let z : 0 * per_element (form_of profile) ≡ 0 = zero-mul (per_element (form_of profile)) in omega arith
 
   -- three tests are all
-  pub bare-measured : f.version ≤ 3 → f.payload_type ≤ 127 → pads ≤ 262140 → Measured (bare f profile pads) 0
-  unfolding bare together layElements
-  bare-measured v t z =
-      measured (bare f profile pads) bare-arrays 0
+  pub bare_measured : f.version ≤ 3 → f.payload_type ≤ 127 → pads ≤ 262140 → Measured (bare f profile pads) 0
+  unfolding bare together lay_elements
+  bare_measured v t z =
+      measured (bare f profile pads) bare_arrays 0
       (record {
         limits = record { sources = omega arith; elements = omega arith; bytes = omega arith; zeros = z };
         version = v;
         type = t;
         fit = refl;
       })
-      bare-length
+      bare_length
 
-  pub bare-outside : (f.version ≤ 3 → f.payload_type ≤ 127 → pads ≤ 262140 → ⊥) → inWritingDomain (bare f profile pads) ≡ false
+  pub bare_outside : (f.version ≤ 3 → f.payload_type ≤ 127 → pads ≤ 262140 → ⊥) → in_writing_domain (bare f profile pads) ≡ false
   unfolding bare together
-  bare-outside out = not-fine (bare f profile pads) bare-arrays (λ w. out w.version w.type w.limits.zeros)
+  bare_outside out = not_fine (bare f profile pads) bare_arrays (λ w. out w.version w.type w.limits.zeros)

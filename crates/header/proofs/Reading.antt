@@ -10,133 +10,133 @@ use lib.Dec.{ltb}
 use lib.ListN.{length, drop, get_or, length-drop}
 use borrow.Author.Tests.{eq-eqb, ne_eqb, lt-ltb, le-ltb, ltb-false}
 use Rattle.error.specs.declared.Error.{Error}
-use Rattle.error.specs.Refusal.{refusalOf}
+use Rattle.error.specs.Refusal.{refusal_of}
 use Rattle.error.specs.Said.{Said, says, refused, refuse}
-use Rattle.error.proofs.Refusing.{not-says}
-use Rattle.wire.specs.Net.{u16At, u32_at, bit}
-use Rattle.elements.specs.Elements.{Element, layElements}
+use Rattle.error.proofs.Refusing.{not_says}
+use Rattle.wire.specs.Net.{u16_at, u32_at, bit}
+use Rattle.elements.specs.Elements.{Element, lay_elements}
 use Rattle.block_read.specs.declared.Ending.{Ending}
 use Rattle.block_read.specs.declared.Ending.TheVariants as ending
 use Rattle.block_read.specs.Read.{Block, block_at}
-use Rattle.block_read.specs.Said.{saidEnding, blockSeen}
+use Rattle.block_read.specs.Said.{said_ending, block_seen}
 use Rattle.header.specs.declared.Header.{Header}
 use Rattle.header.specs.declared.HeaderRead.{HeaderRead}
 use Rattle.header.specs.declared.HeaderRead.TheVariants as read
 use Rattle.header.specs.declared.Unmarshalled.{Unmarshalled}
 use Rattle.header.specs.declared.Front.{Front}
-use Rattle.header.specs.Fields.{Fields, layOut, blank}
-use Rattle.header.specs.Parts.{fixed_at, frontAt, frontOf, FrontHeard, frontHeard}
-use Rattle.header.specs.Read.{csrcsAt, fields_at, reading_of, block_of, readExtension, fixedLength, count_of, readFixed, Reading, readHeader}
-use Rattle.header.specs.Said.{saidRead, Heard, heard, readingHeard}
+use Rattle.header.specs.Fields.{Fields, lay_out, blank}
+use Rattle.header.specs.Parts.{fixed_at, front_at, front_of, FrontHeard, front_heard}
+use Rattle.header.specs.Read.{csrcs_at, fields_at, reading_of, block_of, read_extension, fixed_length, count_of, read_fixed, Reading, read_header}
+use Rattle.header.specs.Said.{said_read, Heard, heard, reading_heard}
 
 -- ---- the CSRCs
 
-pub length-csrcsAt : (s : List ℕ) (at n : ℕ) → length (csrcsAt s at n) ≡ n
-length-csrcsAt s at zero = refl
-length-csrcsAt s at (suc n) = ap suc (length-csrcsAt s (at + 4) n)
+pub length_csrcs_at : (s : List ℕ) (at n : ℕ) → length (csrcs_at s at n) ≡ n
+length_csrcs_at s at zero = refl
+length_csrcs_at s at (suc n) = ap suc (length_csrcs_at s (at + 4) n)
 
-csrcs-suc : (s : List ℕ) (at n : ℕ) → csrcsAt s at (suc n) ≡ csrcsAt s at n ++ (u32_at s (at + 4 * n) ∷ [])
-csrcs-suc s at zero =
+csrcs_suc : (s : List ℕ) (at n : ℕ) → csrcs_at s at (suc n) ≡ csrcs_at s at n ++ (u32_at s (at + 4 * n) ∷ [])
+csrcs_suc s at zero =
     let e : at ≡ at + 4 * 0 = omega arith in
     ap (λ (k : ℕ). u32_at s k ∷ []) e
-csrcs-suc s at (suc n) =
+csrcs_suc s at (suc n) =
     let e : at + 4 + 4 * n ≡ at + 4 * suc n = omega arith in
-    ap (λ (l : List ℕ). u32_at s at ∷ l) (csrcs-suc s (at + 4) n ∙ ap (λ (k : ℕ). csrcsAt s (at + 4) n ++ (u32_at s k ∷ [])) e)
+    ap (λ (l : List ℕ). u32_at s at ∷ l) (csrcs_suc s (at + 4) n ∙ ap (λ (k : ℕ). csrcs_at s (at + 4) n ++ (u32_at s k ∷ [])) e)
 
 -- one CSRC more
-pub csrcsAt-more : (s : List ℕ) (at n : ℕ) → csrcsAt s at (n + 1) ≡ csrcsAt s at n ++ (u32_at s (at + 4 * n) ∷ [])
-csrcsAt-more s at n = ap (csrcsAt s at) (add-one n) ∙ csrcs-suc s at n
+pub csrcs_at_more : (s : List ℕ) (at n : ℕ) → csrcs_at s at (n + 1) ≡ csrcs_at s at n ++ (u32_at s (at + 4 * n) ∷ [])
+csrcs_at_more s at n = ap (csrcs_at s at) (add-one n) ∙ csrcs_suc s at n
 
 -- ---- the front round a block
 
 -- a header laid out has the front that the code puts together
-pub front-fieldsAt : (s : List ℕ) (cc profile : ℕ) (b : Block) →
-    frontOf (layOut (fields_at s cc profile b)) ≡ frontAt s cc profile (length b.elements) b.pads
-unfolding layOut fields_at fixed_at layElements
-front-fieldsAt s cc profile b = ap (λ (n : ℕ). frontAt s n profile (length b.elements) b.pads) (length-csrcsAt s 12 cc)
+pub front_fields_at : (s : List ℕ) (cc profile : ℕ) (b : Block) →
+    front_of (lay_out (fields_at s cc profile b)) ≡ front_at s cc profile (length b.elements) b.pads
+unfolding lay_out fields_at fixed_at lay_elements
+front_fields_at s cc profile b = ap (λ (n : ℕ). front_at s n profile (length b.elements) b.pads) (length_csrcs_at s 12 cc)
 
 -- what reading answers, without the arrays
-abbrev pub saidFront : Said Reading → FrontHeard
-saidFront x = frontHeard (readingHeard x)
+abbrev pub said_front : Said Reading → FrontHeard
+said_front x = front_heard (reading_heard x)
 
 -- what the header's reader makes of the block's answer
 abbrev pub around : List ℕ → ℕ → ℕ → ℕ → ℕ → Said ℕ → FrontHeard
-around s cc profile count pads (says place) = record { answer = says place; front = frontAt s cc profile count pads }
-around s cc profile count pads (refused r) = record { answer = refused r; front = frontOf blank }
+around s cc profile count pads (says place) = record { answer = says place; front = front_at s cc profile count pads }
+around s cc profile count pads (refused r) = record { answer = refused r; front = front_of blank }
 
-pub heard-around : (s : List ℕ) (cc profile : ℕ) (b : Said Block) →
-    saidFront (reading_of s cc profile b)
-    ≡ around s cc profile (blockSeen (length s) b).count (blockSeen (length s) b).pads (blockSeen (length s) b).answer
-heard-around s cc profile (says b) =
-    ap (λ (f : Front). record { answer = says (length s - length b.rest); front = f }) (front-fieldsAt s cc profile b)
-heard-around s cc profile (refused r) = refl
+pub heard_around : (s : List ℕ) (cc profile : ℕ) (b : Said Block) →
+    said_front (reading_of s cc profile b)
+    ≡ around s cc profile (block_seen (length s) b).count (block_seen (length s) b).pads (block_seen (length s) b).answer
+heard_around s cc profile (says b) =
+    ap (λ (f : Front). record { answer = says (length s - length b.rest); front = f }) (front_fields_at s cc profile b)
+heard_around s cc profile (refused r) = refl
 
 module _ (s : List ℕ) (cc at : ℕ) where
-  pub extension-cut : length s < at + 4 → readExtension s cc at ≡ refuse 2
-  unfolding readExtension
-  extension-cut h = rw (lt-ltb (length s) (at + 4) h)
+  pub extension_cut : length s < at + 4 → read_extension s cc at ≡ refuse 2
+  unfolding read_extension
+  extension_cut h = rw (lt-ltb (length s) (at + 4) h)
 
-  pub block-cut : at + 4 ≤ length s → length s < at + 4 + 4 * u16At s (at + 2) → readExtension s cc at ≡ refuse 2
-  unfolding readExtension
-  block-cut h g = rw (le-ltb (length s) (at + 4) h, lt-ltb (length s) (at + 4 + 4 * u16At s (at + 2)) g)
+  pub block_cut : at + 4 ≤ length s → length s < at + 4 + 4 * u16_at s (at + 2) → read_extension s cc at ≡ refuse 2
+  unfolding read_extension
+  block_cut h g = rw (le-ltb (length s) (at + 4) h, lt-ltb (length s) (at + 4 + 4 * u16_at s (at + 2)) g)
 
-  pub block-whole : at + 4 ≤ length s → at + 4 + 4 * u16At s (at + 2) ≤ length s →
-      readExtension s cc at
-      ≡ reading_of s cc (u16At s at) (block_of s at)
-  unfolding readExtension
-  block-whole h g = rw (le-ltb (length s) (at + 4) h, le-ltb (length s) (at + 4 + 4 * u16At s (at + 2)) g)
+  pub block_whole : at + 4 ≤ length s → at + 4 + 4 * u16_at s (at + 2) ≤ length s →
+      read_extension s cc at
+      ≡ reading_of s cc (u16_at s at) (block_of s at)
+  unfolding read_extension
+  block_whole h g = rw (le-ltb (length s) (at + 4) h, le-ltb (length s) (at + 4 + 4 * u16_at s (at + 2)) g)
 
 -- the header's answer, by the block's
 module _ (s : List ℕ) (cc profile count pads : ℕ) (q : Ending) where
-  pub heard-payload : (place : ℕ) → q ≡ ending.Payload place →
-      record { answer = says place; front = frontAt s cc profile count pads } ≡ around s cc profile count pads (saidEnding q)
-  heard-payload place eq = sym (ap (λ (x : Ending). around s cc profile count pads (saidEnding x)) eq)
+  pub heard_payload : (place : ℕ) → q ≡ ending.Payload place →
+      record { answer = says place; front = front_at s cc profile count pads } ≡ around s cc profile count pads (said_ending q)
+  heard_payload place eq = sym (ap (λ (x : Ending). around s cc profile count pads (said_ending x)) eq)
 
-  pub heard-refused : (e : Error) → q ≡ ending.Refused e →
-      saidFront (refused (refusalOf e)) ≡ around s cc profile count pads (saidEnding q)
-  heard-refused e eq = sym (ap (λ (x : Ending). around s cc profile count pads (saidEnding x)) eq)
+  pub heard_refused : (e : Error) → q ≡ ending.Refused e →
+      said_front (refused (refusal_of e)) ≡ around s cc profile count pads (said_ending q)
+  heard_refused e eq = sym (ap (λ (x : Ending). around s cc profile count pads (said_ending x)) eq)
 
 -- ---- the whole header
 
 module _ (s : List ℕ) where
-  pub header-long : 65535 < length s → readHeader s ≡ refuse 8
-  unfolding readHeader
-  header-long h = rw (lt-ltb 65535 (length s) h)
+  pub header_long : 65535 < length s → read_header s ≡ refuse 8
+  unfolding read_header
+  header_long h = rw (lt-ltb 65535 (length s) h)
 
   module _ (fits : length s ≤ 65535) where
-    pub header-short : length s < 4 → readHeader s ≡ refuse 1
-    unfolding readHeader
-    header-short h = rw (le-ltb 65535 (length s) fits, lt-ltb (length s) 4 h)
+    pub header_short : length s < 4 → read_header s ≡ refuse 1
+    unfolding read_header
+    header_short h = rw (le-ltb 65535 (length s) fits, lt-ltb (length s) 4 h)
 
     module _ (enough : 4 ≤ length s) where
-      fixed : readHeader s ≡ readFixed s (count_of s)
-      unfolding readHeader
+      fixed : read_header s ≡ read_fixed s (count_of s)
+      unfolding read_header
       fixed = rw (le-ltb 65535 (length s) fits, le-ltb (length s) 4 enough)
 
-      pub header-cut : length s < fixedLength (count_of s) → readHeader s ≡ refuse 1
-      unfolding readFixed
-      header-cut h = fixed ∙ rw (lt-ltb (length s) (fixedLength (count_of s)) h)
+      pub header_cut : length s < fixed_length (count_of s) → read_header s ≡ refuse 1
+      unfolding read_fixed
+      header_cut h = fixed ∙ rw (lt-ltb (length s) (fixed_length (count_of s)) h)
 
-      pub header-extended : fixedLength (count_of s) ≤ length s → get_or s 0 0 / 16 % 2 ≡ 1 →
-          readHeader s ≡ readExtension s (count_of s) (fixedLength (count_of s))
-      unfolding readFixed
-      header-extended h x =
-          fixed ∙ rw (le-ltb (length s) (fixedLength (count_of s)) h, eq-eqb (get_or s 0 0 / 16 % 2) 1 x)
+      pub header_extended : fixed_length (count_of s) ≤ length s → get_or s 0 0 / 16 % 2 ≡ 1 →
+          read_header s ≡ read_extension s (count_of s) (fixed_length (count_of s))
+      unfolding read_fixed
+      header_extended h x =
+          fixed ∙ rw (le-ltb (length s) (fixed_length (count_of s)) h, eq-eqb (get_or s 0 0 / 16 % 2) 1 x)
 
-      pub header-plain : fixedLength (count_of s) ≤ length s → (get_or s 0 0 / 16 % 2 ≡ 1 → ⊥) →
-          readHeader s ≡ reading_of s (count_of s) 0 (says (block_at s (fixedLength (count_of s)) 0))
-      unfolding readFixed
-      header-plain h x =
-          fixed ∙ rw (le-ltb (length s) (fixedLength (count_of s)) h, ne_eqb (get_or s 0 0 / 16 % 2) 1 x)
+      pub header_plain : fixed_length (count_of s) ≤ length s → (get_or s 0 0 / 16 % 2 ≡ 1 → ⊥) →
+          read_header s ≡ reading_of s (count_of s) 0 (says (block_at s (fixed_length (count_of s)) 0))
+      unfolding read_fixed
+      header_plain h x =
+          fixed ∙ rw (le-ltb (length s) (fixed_length (count_of s)) h, ne_eqb (get_or s 0 0 / 16 % 2) 1 x)
 
 -- a header without extensions
-pub plain-heard : (s : List ℕ) (cc : ℕ) → fixedLength cc ≤ length s →
-    saidFront (reading_of s cc 0 (says (block_at s (fixedLength cc) 0)))
-    ≡ record { answer = says (fixedLength cc); front = frontAt s cc 0 0 0 }
-plain-heard s cc h =
-    let place : length s - length (drop (fixedLength cc) s) ≡ fixedLength cc = rw (length-drop (fixedLength cc) s) (omega arith) in
-    heard-around s cc 0 (says (block_at s (fixedLength cc) 0))
-    ∙ ap (λ (n : ℕ). record { answer = says n; front = frontAt s cc 0 0 0 }) place
+pub plain_heard_lem : (s : List ℕ) (cc : ℕ) → fixed_length cc ≤ length s →
+    said_front (reading_of s cc 0 (says (block_at s (fixed_length cc) 0)))
+    ≡ record { answer = says (fixed_length cc); front = front_at s cc 0 0 0 }
+plain_heard_lem s cc h =
+    let place : length s - length (drop (fixed_length cc) s) ≡ fixed_length cc = rw (length-drop (fixed_length cc) s) (omega arith) in
+    heard_around s cc 0 (says (block_at s (fixed_length cc) 0))
+    ∙ ap (λ (n : ℕ). record { answer = says n; front = front_at s cc 0 0 0 }) place
 
 -- ---- for callers
 
@@ -145,80 +145,80 @@ pub record Says (x : Said Reading) (place : ℕ) : Type 0 where
   pub fields : Fields
   pub reads : x ≡ says (record { fields = fields; place = place })
 
-pub says-place : (x : Said Reading) (a : HeaderRead) (place : ℕ) → saidRead a ≡ (readingHeard x).answer → a ≡ read.Payload place → Says x place
-says-place (says r) a place e p =
-    let at : says place ≡ says r.place = ap saidRead (sym p) ∙ e in
+pub says_place : (x : Said Reading) (a : HeaderRead) (place : ℕ) → said_read a ≡ (reading_heard x).answer → a ≡ read.Payload place → Says x place
+says_place (says r) a place e p =
+    let at : says place ≡ says r.place = ap said_read (sym p) ∙ e in
     let same : r.place ≡ place = cc in
     record { fields = r.fields; reads = ap (λ (n : ℕ). says (record { fields = r.fields; place = n })) same }
-says-place (refused r) a place e p = absurd (not-says (sym (ap saidRead (sym p) ∙ e)))
+says_place (refused r) a place e p = absurd (not_says (sym (ap said_read (sym p) ∙ e)))
 
 -- .. and a refusal is its refusal
-pub says-refusal : (x : Said Reading) (a : HeaderRead) (r : Error) → saidRead a ≡ (readingHeard x).answer → a ≡ read.Refused r → x ≡ refused (refusalOf r)
-says-refusal (says q) a r e p = absurd (not-says (ap saidRead (sym p) ∙ e))
-says-refusal (refused q) a r e p =
-    let at : refused (refusalOf r) ≡ refused q = ap saidRead (sym p) ∙ e in
-    let same : q ≡ refusalOf r = cc in
+pub says_refusal : (x : Said Reading) (a : HeaderRead) (r : Error) → said_read a ≡ (reading_heard x).answer → a ≡ read.Refused r → x ≡ refused (refusal_of r)
+says_refusal (says q) a r e p = absurd (not_says (ap said_read (sym p) ∙ e))
+says_refusal (refused q) a r e p =
+    let at : refused (refusal_of r) ≡ refused q = ap said_read (sym p) ∙ e in
+    let same : q ≡ refusal_of r = cc in
     ap refused same
 
 -- what a call answered is what the definition says: an answer with a place
 pub record Answered (s : List ℕ) (h : Header) (place : ℕ) : Type 0 where
   pub fields : Fields
-  pub reads : readHeader s ≡ says (record { fields = fields; place = place })
-  pub laid : h ≡ layOut fields
+  pub reads : read_header s ≡ says (record { fields = fields; place = place })
+  pub laid : h ≡ lay_out fields
 
-pub answered : (u : Unmarshalled) (s : List ℕ) (place : ℕ) → heard u ≡ readingHeard (readHeader s) → u.read ≡ read.Payload place →
+pub answered : (u : Unmarshalled) (s : List ℕ) (place : ℕ) → heard u ≡ reading_heard (read_header s) → u.read ≡ read.Payload place →
     Answered s u.header place
 answered u s place e p =
-    let a : Says (readHeader s) place = says-place (readHeader s) u.read place (ap (λ (k : Heard). k.answer) e) p in
+    let a : Says (read_header s) place = says_place (read_header s) u.read place (ap (λ (k : Heard). k.answer) e) p in
     record {
       fields = a.fields;
       reads = a.reads;
-      laid = ap (λ (k : Heard). k.header) (e ∙ ap readingHeard a.reads);
+      laid = ap (λ (k : Heard). k.header) (e ∙ ap reading_heard a.reads);
     }
 
 -- .. or a refusal
-pub answered-refusal : (u : Unmarshalled) (s : List ℕ) (r : Error) → heard u ≡ readingHeard (readHeader s) → u.read ≡ read.Refused r →
-    (readHeader s ≡ refused (refusalOf r)) × (u.header ≡ blank)
-answered-refusal u s r e p =
-    let is : readHeader s ≡ refused (refusalOf r) = says-refusal (readHeader s) u.read r (ap (λ (k : Heard). k.answer) e) p in
-    (is, ap (λ (k : Heard). k.header) (e ∙ ap readingHeard is))
+pub answered_refusal : (u : Unmarshalled) (s : List ℕ) (r : Error) → heard u ≡ reading_heard (read_header s) → u.read ≡ read.Refused r →
+    (read_header s ≡ refused (refusal_of r)) × (u.header ≡ blank)
+answered_refusal u s r e p =
+    let is : read_header s ≡ refused (refusal_of r) = says_refusal (read_header s) u.read r (ap (λ (k : Heard). k.answer) e) p in
+    (is, ap (λ (k : Heard). k.header) (e ∙ ap reading_heard is))
 
 -- ---- what a header that was read shows of its packet
 
 -- the block that begins behind the extension's head, at `at`
 pub record Extended (s : List ℕ) (at : ℕ) (es : List Element) : Type 0 where
-  pub inside : at + 4 + 4 * u16At s (at + 2) ≤ length s
+  pub inside : at + 4 + 4 * u16_at s (at + 2) ≤ length s
   pub block : Block
   pub reads : block_of s at ≡ says block
   pub elements : es ≡ block.elements
 
 pub record Shown (s : List ℕ) (r : Reading) : Type 0 where
   pub place : r.place ≤ length s
-  pub fixed : fixedLength (count_of s) ≤ length s
+  pub fixed : fixed_length (count_of s) ≤ length s
   pub padding : r.fields.padding ≡ bit (get_or s 0 0 / 32)
-  pub sources : r.fields.csrcs ≡ csrcsAt s 12 (count_of s)
-  pub extended : (r.fields.elements ≡ []) ⊎ Extended s (fixedLength (count_of s)) r.fields.elements
+  pub sources : r.fields.csrcs ≡ csrcs_at s 12 (count_of s)
+  pub extended : (r.fields.elements ≡ []) ⊎ Extended s (fixed_length (count_of s)) r.fields.elements
 
 abbrev Shows : List ℕ → Said Reading → Type 0
 Shows s (says r) = Shown s r
 Shows s (refused r) = Unit
 
-by-test : (s : List ℕ) (t : Bool) (x y : Said Reading) → (t ≡ true → Shows s x) → (t ≡ false → Shows s y) → Shows s (cond t x y)
-by-test s true x y a b = a refl
-by-test s false x y a b = b refl
+by_test : (s : List ℕ) (t : Bool) (x y : Said Reading) → (t ≡ true → Shows s x) → (t ≡ false → Shows s y) → Shows s (cond t x y)
+by_test s true x y a b = a refl
+by_test s false x y a b = b refl
 
-module _ (s : List ℕ) (fixed : fixedLength (count_of s) ≤ length s) where
+module _ (s : List ℕ) (fixed : fixed_length (count_of s) ≤ length s) where
   abbrev from : ℕ
-  from = fixedLength (count_of s)
+  from = fixed_length (count_of s)
 
-  shows-plain : Shows s (reading_of s (count_of s) 0 (says (block_at s from 0)))
+  shows_plain : Shows s (reading_of s (count_of s) 0 (says (block_at s from 0)))
   unfolding fields_at
-  shows-plain = record { place = omega arith; fixed = fixed; padding = refl; sources = refl; extended = inl refl }
+  shows_plain = record { place = omega arith; fixed = fixed; padding = refl; sources = refl; extended = inl refl }
 
-  shows-block : from + 4 + 4 * u16At s (from + 2) ≤ length s → (b : Said Block) → block_of s from ≡ b →
-      Shows s (reading_of s (count_of s) (u16At s from) b)
+  shows_block : from + 4 + 4 * u16_at s (from + 2) ≤ length s → (b : Said Block) → block_of s from ≡ b →
+      Shows s (reading_of s (count_of s) (u16_at s from) b)
   unfolding fields_at
-  shows-block inside (says b) is =
+  shows_block inside (says b) is =
       record {
         place = omega arith;
         fixed = fixed;
@@ -226,35 +226,35 @@ module _ (s : List ℕ) (fixed : fixedLength (count_of s) ≤ length s) where
         sources = refl;
         extended = inr (record { inside = inside; block = b; reads = is; elements = refl });
       }
-  shows-block inside (refused r) is = tt
+  shows_block inside (refused r) is = tt
 
-  shows-extension : Shows s (readExtension s (count_of s) from)
-  unfolding readExtension
-  shows-extension =
-      let past : ℕ = from + 4 + 4 * u16At s (from + 2) in
-      let whole : Said Reading = reading_of s (count_of s) (u16At s from) (block_of s from) in
-      by-test s (ltb (length s) (from + 4)) (refuse 2) (cond (ltb (length s) past) (refuse 2) whole) (λ _. tt)
-      (λ _. by-test s (ltb (length s) past) (refuse 2) whole (λ _. tt)
-      (λ e. shows-block (ltb-false (length s) past e) (block_of s from) refl))
+  shows_extension : Shows s (read_extension s (count_of s) from)
+  unfolding read_extension
+  shows_extension =
+      let past : ℕ = from + 4 + 4 * u16_at s (from + 2) in
+      let whole : Said Reading = reading_of s (count_of s) (u16_at s from) (block_of s from) in
+      by_test s (ltb (length s) (from + 4)) (refuse 2) (cond (ltb (length s) past) (refuse 2) whole) (λ _. tt)
+      (λ _. by_test s (ltb (length s) past) (refuse 2) whole (λ _. tt)
+      (λ e. shows_block (ltb-false (length s) past e) (block_of s from) refl))
 
-shows-header : (s : List ℕ) → Shows s (readHeader s)
-unfolding readHeader readFixed
-shows-header s =
+shows_header : (s : List ℕ) → Shows s (read_header s)
+unfolding read_header read_fixed
+shows_header s =
     let n : ℕ = length s in
-    let at : ℕ = fixedLength (count_of s) in
-    let extended : Said Reading = readExtension s (count_of s) at in
+    let at : ℕ = fixed_length (count_of s) in
+    let extended : Said Reading = read_extension s (count_of s) at in
     let plain : Said Reading = reading_of s (count_of s) 0 (says (block_at s at 0)) in
     let behind : Said Reading = cond (bit (get_or s 0 0 / 16)) extended plain in
-    by-test s (ltb 65535 n) (refuse 8) (cond (ltb n 4) (refuse 1) (readFixed s (count_of s))) (λ _. tt)
-    (λ _. by-test s (ltb n 4) (refuse 1) (readFixed s (count_of s)) (λ _. tt)
-    (λ _. by-test s (ltb n at) (refuse 1) behind (λ _. tt)
-    (λ e. by-test s (bit (get_or s 0 0 / 16)) extended plain
-    (λ _. shows-extension s (ltb-false n at e))
-    (λ _. shows-plain s (ltb-false n at e)))))
+    by_test s (ltb 65535 n) (refuse 8) (cond (ltb n 4) (refuse 1) (read_fixed s (count_of s))) (λ _. tt)
+    (λ _. by_test s (ltb n 4) (refuse 1) (read_fixed s (count_of s)) (λ _. tt)
+    (λ _. by_test s (ltb n at) (refuse 1) behind (λ _. tt)
+    (λ e. by_test s (bit (get_or s 0 0 / 16)) extended plain
+    (λ _. shows_extension s (ltb-false n at e))
+    (λ _. shows_plain s (ltb-false n at e)))))
 
-pub shown : (s : List ℕ) (r : Reading) → readHeader s ≡ says r → Shown s r
-shown s r e = subst (Shows s) e (shows-header s)
+pub shown : (s : List ℕ) (r : Reading) → read_header s ≡ says r → Shown s r
+shown s r e = subst (Shows s) e (shows_header s)
 
 -- a payload begins within the packet
-pub place_inside : (s : List ℕ) (r : Reading) → readHeader s ≡ says r → r.place ≤ length s
+pub place_inside : (s : List ℕ) (r : Reading) → read_header s ≡ says r → r.place ≤ length s
 place_inside s r e = (shown s r e).place

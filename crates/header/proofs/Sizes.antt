@@ -10,36 +10,36 @@ use lib.Seq.{length-take-le}
 use borrow.Author.Tests.{not-true, not-false}
 use Rattle.error.specs.declared.Error.{Error}
 use Rattle.error.specs.Said.{says, refuse}
-use Rattle.elements.specs.Elements.{unpack, sum, elementsOf}
-use Rattle.elements.proofs.Packed.{PackedIn, length-elementsOf, length-dataOf, length-unpack-few, length-data-few}
-use Rattle.block.specs.Form.{lengthFor}
-use Rattle.block.proofs.Form.{heads-few}
+use Rattle.elements.specs.Elements.{unpack, sum, elements_of}
+use Rattle.elements.proofs.Packed.{PackedIn, length_elements_of, length_data_of, length_unpack_few, length_data_few}
+use Rattle.block.specs.Form.{length_for}
+use Rattle.block.proofs.Form.{heads_few}
 use Rattle.header.specs.declared.Header.{Header}
 use Rattle.header_write.specs.declared.Length.{Length}
 use Rattle.header_write.specs.declared.Length.TheVariants as len
-use Rattle.header.specs.Fields.{fields_of, inDomain, Tested}
+use Rattle.header.specs.Fields.{fields_of, in_domain, Tested}
 use Rattle.header_write.specs.Size.{size_for}
-use Rattle.header.specs.Size.{payloadLength, headerSize, lengthAsked, sizeAsked}
-use Rattle.header_write.specs.Said.{saidLength}
-use Rattle.header_write.proofs.Domain.{Limits, limits, taken-few}
+use Rattle.header.specs.Size.{payload_length, header_size, length_asked, size_asked}
+use Rattle.header_write.specs.Said.{said_length}
+use Rattle.header_write.proofs.Domain.{Limits, limits, taken_few}
 pub use Rattle.header_write.proofs.Domain.{never}
 pub use Rattle.header.specs.Fields.{Arrays}
 
-abbrev pub lengthIn : Header → ℕ
-lengthIn h =
-    lengthFor h.extension_profile h.extensions.count (sum (take h.extensions.count h.extensions.lens))
+abbrev pub length_in : Header → ℕ
+length_in h =
+    length_for h.extension_profile h.extensions.count (sum (take h.extensions.count h.extensions.lens))
 
-pub payload-length : (h : Header) → PackedIn h.extensions → payloadLength (fields_of h) ≡ lengthIn h
-unfolding payloadLength fields_of
-payload-length h p =
-    ap₂ (lengthFor h.extension_profile) (length-elementsOf h.extensions p) (length-dataOf h.extensions p)
+pub payload_length_lem : (h : Header) → PackedIn h.extensions → payload_length (fields_of h) ≡ length_in h
+unfolding payload_length fields_of
+payload_length_lem h p =
+    ap₂ (length_for h.extension_profile) (length_elements_of h.extensions p) (length_data_of h.extensions p)
 
-pub header-size : (h : Header) → PackedIn h.extensions → h.csrc_count ≤ length h.csrc →
-    headerSize (fields_of h) ≡ size_for h.csrc_count h.extension (lengthIn h) h.extensions_padding
-unfolding headerSize fields_of
-header-size h p cs =
+pub header_size_lem : (h : Header) → PackedIn h.extensions → h.csrc_count ≤ length h.csrc →
+    header_size (fields_of h) ≡ size_for h.csrc_count h.extension (length_in h) h.extensions_padding
+unfolding header_size fields_of
+header_size_lem h p cs =
     ap₂ (λ (n l : ℕ). size_for n h.extension l h.extensions_padding) (length-take-le h.csrc_count h.csrc cs)
-    (payload-length h p)
+    (payload_length_lem h p)
 
 -- ---- a record in the domain
 
@@ -50,54 +50,54 @@ pub packed : (h : Header) → Arrays h → LimitsOf h → PackedIn h.extensions
 packed h a l = record { places = omega arith; lengths = omega arith; packed = omega arith }
 
 module _ {h : Header} {r : Bool} (t : Tested h r) where
-  pub passes : not r ≡ false → inDomain h ≡ true
+  pub passes : not r ≡ false → in_domain h ≡ true
   passes e = sym t.answer ∙ not-false r e
 
-  pub fails : not r ≡ true → inDomain h ≡ false
+  pub fails : not r ≡ true → in_domain h ≡ false
   fails e = sym t.answer ∙ not-true r e
 
-pub limits_of : (h : Header) → inDomain h ≡ true → LimitsOf h
-unfolding inDomain
+pub limits_of : (h : Header) → in_domain h ≡ true → LimitsOf h
+unfolding in_domain
 limits_of h e = limits h.csrc_count h.extensions.count h.extensions.lens h.extensions_padding e
 
-pub length-few : (h : Header) → LimitsOf h → lengthIn h ≤ 1088
-length-few h l =
-    taken-few h.csrc_count h.extension_profile h.extensions.count h.extensions.lens h.extensions_padding l
+pub length_few : (h : Header) → LimitsOf h → length_in h ≤ 1088
+length_few h l =
+    taken_few h.csrc_count h.extension_profile h.extensions.count h.extensions.lens h.extensions_padding l
 
-pub length-asked : (h : Header) {b : Bool} → inDomain h ≡ b → lengthAsked h ≡ cond b (says (payloadLength (fields_of h))) (refuse 8)
-unfolding lengthAsked
-length-asked h e = ap (λ (b : Bool). cond b (says (payloadLength (fields_of h))) (refuse 8)) e
+pub length_asked_lem : (h : Header) {b : Bool} → in_domain h ≡ b → length_asked h ≡ cond b (says (payload_length (fields_of h))) (refuse 8)
+unfolding length_asked
+length_asked_lem h e = ap (λ (b : Bool). cond b (says (payload_length (fields_of h))) (refuse 8)) e
 
-pub size-asked : (h : Header) {b : Bool} → inDomain h ≡ b → sizeAsked h ≡ cond b (says (headerSize (fields_of h))) (refuse 8)
-unfolding sizeAsked
-size-asked h e = ap (λ (b : Bool). cond b (says (headerSize (fields_of h))) (refuse 8)) e
+pub size_asked_lem : (h : Header) {b : Bool} → in_domain h ≡ b → size_asked h ≡ cond b (says (header_size (fields_of h))) (refuse 8)
+unfolding size_asked
+size_asked_lem h e = ap (λ (b : Bool). cond b (says (header_size (fields_of h))) (refuse 8)) e
 
 -- ---- for callers
 
 -- what a size's answer says of the record
-module _ (h : Header) (r : Length) (e : saidLength r ≡ sizeAsked h) where
-  pub size-said : (n : ℕ) → r ≡ len.Bytes n → (inDomain h ≡ true) × (headerSize (fields_of h) ≡ n)
-  size-said n p = go (inDomain h) refl
+module _ (h : Header) (r : Length) (e : said_length r ≡ size_asked h) where
+  pub size_said : (n : ℕ) → r ≡ len.Bytes n → (in_domain h ≡ true) × (header_size (fields_of h) ≡ n)
+  size_said n p = go (in_domain h) refl
     where
-      go : (b : Bool) → inDomain h ≡ b → (inDomain h ≡ true) × (headerSize (fields_of h) ≡ n)
+      go : (b : Bool) → in_domain h ≡ b → (in_domain h ≡ true) × (header_size (fields_of h) ≡ n)
       go true is =
-          let a : says (headerSize (fields_of h)) ≡ says n = sym (size-asked h is) ∙ sym e ∙ ap saidLength p in
+          let a : says (header_size (fields_of h)) ≡ says n = sym (size_asked_lem h is) ∙ sym e ∙ ap said_length p in
           (is, cc)
-      go false is = absurd (never (sym (sym (size-asked h is) ∙ sym e ∙ ap saidLength p)))
+      go false is = absurd (never (sym (sym (size_asked_lem h is) ∙ sym e ∙ ap said_length p)))
 
-  pub size-refused : (k : Error) → r ≡ len.Refused k → inDomain h ≡ false
-  size-refused k p = go (inDomain h) refl
+  pub size_refused : (k : Error) → r ≡ len.Refused k → in_domain h ≡ false
+  size_refused k p = go (in_domain h) refl
     where
-      go : (b : Bool) → inDomain h ≡ b → inDomain h ≡ false
-      go true is = absurd (never (sym (size-asked h is) ∙ sym e ∙ ap saidLength p))
+      go : (b : Bool) → in_domain h ≡ b → in_domain h ≡ false
+      go true is = absurd (never (sym (size_asked_lem h is) ∙ sym e ∙ ap said_length p))
       go false is = is
 
-pub size-most : (on : Bool) (n len pads : ℕ) → n ≤ 15 → len ≤ 1088 → pads ≤ 262140 → size_for n on len pads ≤ 263308
-size-most true n len pads p q r = omega arith
-size-most false n len pads p q r = omega arith
+pub size_most : (on : Bool) (n len pads : ℕ) → n ≤ 15 → len ≤ 1088 → pads ≤ 262140 → size_for n on len pads ≤ 263308
+size_most true n len pads p q r = omega arith
+size_most false n len pads p q r = omega arith
 
-pub size_small : (h : Header) → inDomain h ≡ true → headerSize (fields_of h) ≤ 263308
-unfolding headerSize payloadLength fields_of elementsOf
+pub size_small : (h : Header) → in_domain h ≡ true → header_size (fields_of h) ≤ 263308
+unfolding header_size payload_length fields_of elements_of
 size_small h e =
     let l = limits_of h e in
     let x = h.extensions in
@@ -107,11 +107,11 @@ size_small h e =
     let few : n ≤ 32 = omega (
       arith,
       l.elements,
-      length-unpack-few names sizes x.bytes,
+      length_unpack_few names sizes x.bytes,
       length-take x.count x.ids,
       min-le_left x.count (length x.ids),
     ) in
-    size-most h.extension _ _ h.extensions_padding
+    size_most h.extension _ _ h.extensions_padding
     (omega (arith, l.sources, length-take h.csrc_count h.csrc, min-le_left h.csrc_count (length h.csrc)))
-    (omega (arith, l.bytes, length-data-few names sizes x.bytes, heads-few h.extension_profile n few))
+    (omega (arith, l.bytes, length_data_few names sizes x.bytes, heads_few h.extension_profile n few))
     l.zeros

@@ -1,9 +1,9 @@
 -- What a header says, as the paper speaks of it: elements are a list, sources are a list. The record with its arrays is laid out
 -- from this, and read back to it, in one place. Assumes nothing.
 use Rattle.std.specs.Prelude.{◌≡◌, Bool, false, List, [], ℕ, length, take}
-use Rattle.wire.specs.Part.{padTo}
-use Rattle.elements.specs.Elements.{Element, elementsOf, layElements}
-use Rattle.header_write.specs.Limits.{inLimits}
+use Rattle.wire.specs.Part.{pad_to}
+use Rattle.elements.specs.Elements.{Element, elements_of, lay_elements}
+use Rattle.header_write.specs.Limits.{in_limits}
 use Rattle.header.specs.declared.Header.{Header}
 
 pub record Fields : Type 0 where
@@ -34,12 +34,12 @@ fields_of h =
       source = h.ssrc;
       csrcs = take h.csrc_count h.csrc;
       profile = h.extension_profile;
-      elements = elementsOf h.extensions;
+      elements = elements_of h.extensions;
       pads = h.extensions_padding;
     }
 
-unfoldable pub layOut : Fields → Header
-layOut f =
+unfoldable pub lay_out : Fields → Header
+lay_out f =
     record {
       version = f.version;
       padding = f.padding;
@@ -50,16 +50,16 @@ layOut f =
       timestamp = f.time;
       ssrc = f.source;
       csrc_count = length f.csrcs;
-      csrc = padTo 15 f.csrcs;
+      csrc = pad_to 15 f.csrcs;
       extension_profile = f.profile;
-      extensions = layElements f.elements;
+      extensions = lay_elements f.elements;
       extensions_padding = f.pads;
     }
 
 -- "no record": all zeros
 unfoldable pub blank : Header
 blank =
-    layOut
+    lay_out
     (record {
       version = 0;
       padding = false;
@@ -76,9 +76,9 @@ blank =
     })
 
 -- the limits of the domain, of a whole record
-unfoldable pub inDomain : Header → Bool
-inDomain h =
-    inLimits h.csrc_count h.extensions.count h.extensions.lens h.extensions_padding
+unfoldable pub in_domain : Header → Bool
+in_domain h =
+    in_limits h.csrc_count h.extensions.count h.extensions.lens h.extensions_padding
 
 -- arrays of a record have as many places as its type says
 pub record Arrays (h : Header) : Type 0 where
@@ -89,5 +89,5 @@ pub record Arrays (h : Header) : Type 0 where
 
 -- what a test of a record says: whether it is in the domain, and that its arrays are whole
 pub record Tested (h : Header) (r : Bool) : Type 0 where
-  pub answer : r ≡ inDomain h
+  pub answer : r ≡ in_domain h
   pub arrays : Arrays h

@@ -1,17 +1,17 @@
 -- A header in its parts: the fixed fields, the numbers, the arrays. Assumes nothing.
 use Rattle.std.specs.Prelude.{List, [], ℕ, ◌/◌, ◌%◌, get_or}
 use Rattle.error.specs.Said.{Said, says, refused}
-use Rattle.wire.specs.Net.{u16At, u32_at, bit}
-use Rattle.wire.specs.Part.{padTo}
+use Rattle.wire.specs.Net.{u16_at, u32_at, bit}
+use Rattle.wire.specs.Part.{pad_to}
 use Rattle.elements.specs.declared.Extensions.{Extensions}
-use Rattle.elements.specs.Elements.{layElements}
+use Rattle.elements.specs.Elements.{lay_elements}
 use Rattle.header_write.specs.declared.Fixed.{Fixed}
 use Rattle.header.specs.declared.Header.{Header}
 use Rattle.header.specs.declared.Front.{Front}
 use Rattle.header.specs.declared.FrontRead.{FrontRead}
-use Rattle.header.specs.Fields.{layOut}
+use Rattle.header.specs.Fields.{lay_out}
 use Rattle.header.specs.Read.{Reading}
-use Rattle.header.specs.Said.{Heard, saidRead}
+use Rattle.header.specs.Said.{Heard, said_read}
 
 abbrev pub fixed_of : Header → Fixed
 fixed_of h =
@@ -47,13 +47,13 @@ together f count csrc profile x pads =
 
 -- the record without CSRCs and elements
 unfoldable pub bare : Fixed → ℕ → ℕ → Header
-bare f profile pads = together f 0 (padTo 15 []) profile (layElements []) pads
+bare f profile pads = together f 0 (pad_to 15 []) profile (lay_elements []) pads
 
 -- ---- reading
 
 -- a record without its arrays
-abbrev pub frontOf : Header → Front
-frontOf h =
+abbrev pub front_of : Header → Front
+front_of h =
     record {
       fixed = fixed_of h;
       csrc_count = h.csrc_count;
@@ -71,14 +71,14 @@ fixed_at s =
       extension = bit (get_or s 0 0 / 16);
       marker = bit (get_or s 1 0 / 128);
       payload_type = get_or s 1 0 % 128;
-      sequence_number = u16At s 2;
+      sequence_number = u16_at s 2;
       timestamp = u32_at s 4;
       ssrc = u32_at s 8;
     }
 
 -- the front of a record in front of a packet's bytes, with the numbers of a block
-abbrev pub frontAt : List ℕ → ℕ → ℕ → ℕ → ℕ → Front
-frontAt s cc profile count pads =
+abbrev pub front_at : List ℕ → ℕ → ℕ → ℕ → ℕ → Front
+front_at s cc profile count pads =
     record {
       fixed = fixed_at s;
       csrc_count = cc;
@@ -92,12 +92,12 @@ pub record FrontHeard : Type 0 where
   pub answer : Said ℕ
   pub front : Front
 
-abbrev pub heardFront : FrontRead → FrontHeard
-heardFront r = record { answer = saidRead r.read; front = r.front }
+abbrev pub heard_front : FrontRead → FrontHeard
+heard_front r = record { answer = said_read r.read; front = r.front }
 
 -- what reading answers, without the arrays
-abbrev pub frontHeard : Heard → FrontHeard
-frontHeard h = record { answer = h.answer; front = frontOf h.header }
+abbrev pub front_heard : Heard → FrontHeard
+front_heard h = record { answer = h.answer; front = front_of h.header }
 
 -- the arrays of a record, as they are lent for reading
 pub record Lent : Type 0 where
@@ -111,6 +111,6 @@ lent_of h =
     record { csrc = h.csrc; ids = h.extensions.ids; lens = h.extensions.lens; bytes = h.extensions.bytes }
 
 -- "A refusal .. changes no buffer"; else they become those of the record
-abbrev pub lentRead : Lent → Said Reading → Lent
-lentRead old (says r) = lent_of (layOut r.fields)
-lentRead old (refused r) = old
+abbrev pub lent_read : Lent → Said Reading → Lent
+lent_read old (says r) = lent_of (lay_out r.fields)
+lent_read old (refused r) = old

@@ -1,11 +1,11 @@
 -- What each answer says, in the paper's numbers and values, and the answer that each definition asks for. Assumes nothing.
 use Rattle.std.specs.Prelude.{List, [], ℕ, length}
 use Rattle.error.specs.Said.{Said, says, refused}
-use Rattle.error.specs.Refusal.{refusalOf}
-use Rattle.wire.specs.Part.{padTo, splice}
+use Rattle.error.specs.Refusal.{refusal_of}
+use Rattle.wire.specs.Part.{pad_to, splice}
 use Rattle.elements.specs.Named.{Found, absent, at}
 use Rattle.header_write.specs.declared.Length.{Length}
-use Rattle.header_write.specs.Said.{saidLength}
+use Rattle.header_write.specs.Said.{said_length}
 use Rattle.header.specs.declared.Header.{Header}
 use Rattle.header.specs.declared.HeaderRead.{HeaderRead}
 use Rattle.header.specs.declared.HeaderRead.TheVariants as read
@@ -18,14 +18,14 @@ use Rattle.header.specs.declared.Got.TheVariants as got
 use Rattle.header.specs.declared.IdCount.{IdCount}
 use Rattle.header.specs.declared.IdCount.TheVariants as ids
 use Rattle.header.specs.declared.Ids.{Ids}
-use Rattle.header.specs.Fields.{layOut, blank}
+use Rattle.header.specs.Fields.{lay_out, blank}
 use Rattle.header.specs.Read.{Reading}
 
 -- ---- reading
 
-abbrev pub saidRead : HeaderRead → Said ℕ
-saidRead (read.Payload place) = says place
-saidRead (read.Refused e) = refused (refusalOf e)
+abbrev pub said_read : HeaderRead → Said ℕ
+said_read (read.Payload place) = says place
+said_read (read.Refused e) = refused (refusal_of e)
 
 -- the answer and the record beside it
 pub record Heard : Type 0 where
@@ -33,12 +33,12 @@ pub record Heard : Type 0 where
   pub header : Header
 
 abbrev pub heard : Unmarshalled → Heard
-heard u = record { answer = saidRead u.read; header = u.header }
+heard u = record { answer = said_read u.read; header = u.header }
 
 -- "A refusal returns its number, no record"
-abbrev pub readingHeard : Said Reading → Heard
-readingHeard (says r) = record { answer = says r.place; header = layOut r.fields }
-readingHeard (refused r) = record { answer = refused r; header = blank }
+abbrev pub reading_heard : Said Reading → Heard
+reading_heard (says r) = record { answer = says r.place; header = lay_out r.fields }
+reading_heard (refused r) = record { answer = refused r; header = blank }
 
 -- ---- sizes and writing
 
@@ -47,8 +47,8 @@ pub record Written : Type 0 where
   pub answer : Said ℕ
   pub buffer : List ℕ
 
-abbrev pub heardWritten : Length → List ℕ → Written
-heardWritten r buf = record { answer = saidLength r; buffer = buf }
+abbrev pub heard_written : Length → List ℕ → Written
+heard_written r buf = record { answer = said_length r; buffer = buf }
 
 -- "a refusal .. changes no buffer", "an answer changes only the bytes it writes"; these are the bytes
 abbrev pub written : List ℕ → Said (List ℕ) → Written
@@ -57,22 +57,22 @@ written buf (refused r) = record { answer = refused r; buffer = buf }
 
 -- ---- changes
 
-abbrev pub saidChange : Change → Said Unit
-saidChange change.Made = says tt
-saidChange (change.Refused e) = refused (refusalOf e)
+abbrev pub said_change : Change → Said Unit
+said_change change.Made = says tt
+said_change (change.Refused e) = refused (refusal_of e)
 
 -- the answer and the record beside it
 pub record After : Type 0 where
   pub answer : Said Unit
   pub header : Header
 
-abbrev pub heardChange : Changed → After
-heardChange c = record { answer = saidChange c.change; header = c.header }
+abbrev pub heard_change : Changed → After
+heard_change c = record { answer = said_change c.change; header = c.header }
 
 -- "a refusal .. changes .. no state"
-abbrev pub changeHeard : Header → Said Header → After
-changeHeard h (says h') = record { answer = says tt; header = h' }
-changeHeard h (refused r) = record { answer = refused r; header = h }
+abbrev pub change_heard : Header → Said Header → After
+change_heard h (says h') = record { answer = says tt; header = h' }
+change_heard h (refused r) = record { answer = refused r; header = h }
 
 -- what a check says before what follows it
 abbrev pub unless : Said Unit → Said Header → Said Header
@@ -81,22 +81,22 @@ unless (refused r) next = refused r
 
 -- ---- looking
 
-abbrev pub saidGot : Got → Said Found
-saidGot (got.Data place len) = says (at place len)
-saidGot got.Absent = says absent
-saidGot (got.Refused e) = refused (refusalOf e)
+abbrev pub said_got : Got → Said Found
+said_got (got.Data place len) = says (at place len)
+said_got got.Absent = says absent
+said_got (got.Refused e) = refused (refusal_of e)
 
-abbrev pub saidCount : IdCount → Said ℕ
-saidCount (ids.Ids n) = says n
-saidCount (ids.Refused e) = refused (refusalOf e)
+abbrev pub said_count : IdCount → Said ℕ
+said_count (ids.Ids n) = says n
+said_count (ids.Refused e) = refused (refusal_of e)
 
 pub record Listed : Type 0 where
   pub answer : Said ℕ
   pub ids : List ℕ
 
-abbrev pub heardIds : Ids → Listed
-heardIds i = record { answer = saidCount i.count; ids = i.ids }
+abbrev pub heard_ids : Ids → Listed
+heard_ids i = record { answer = said_count i.count; ids = i.ids }
 
-abbrev pub idsHeard : Said (List ℕ) → Listed
-idsHeard (says l) = record { answer = says (length l); ids = padTo 32 l }
-idsHeard (refused r) = record { answer = refused r; ids = padTo 32 [] }
+abbrev pub ids_heard : Said (List ℕ) → Listed
+ids_heard (says l) = record { answer = says (length l); ids = pad_to 32 l }
+ids_heard (refused r) = record { answer = refused r; ids = pad_to 32 [] }

@@ -3,21 +3,21 @@
 use Rattle.std.specs.Prelude.{cond, ℕ, length}
 use Rattle.error.specs.Said.{Said, says, refuse}
 use Rattle.elements.specs.Elements.{data_of}
-use Rattle.block.specs.Form.{lengthFor}
+use Rattle.block.specs.Form.{length_for}
 use Rattle.header_write.specs.Size.{size_for}
 use Rattle.header.specs.declared.Header.{Header}
-use Rattle.header.specs.Fields.{Fields, fields_of, inDomain}
+use Rattle.header.specs.Fields.{Fields, fields_of, in_domain}
 
 -- get_extension_payload_len: the elements with their heads
-unfoldable pub payloadLength : Fields → ℕ
-payloadLength f = lengthFor f.profile (length f.elements) (length (data_of f.elements))
+unfoldable pub payload_length : Fields → ℕ
+payload_length f = length_for f.profile (length f.elements) (length (data_of f.elements))
 
-unfoldable pub headerSize : Fields → ℕ
-headerSize f = size_for (length f.csrcs) f.extension (payloadLength f) f.pads
+unfoldable pub header_size : Fields → ℕ
+header_size f = size_for (length f.csrcs) f.extension (payload_length f) f.pads
 
 -- get_extension_payload_len and marshal_size: "Order: 8 first"
-unfoldable pub lengthAsked : Header → Said ℕ
-lengthAsked h = cond (inDomain h) (says (payloadLength (fields_of h))) (refuse 8)
+unfoldable pub length_asked : Header → Said ℕ
+length_asked h = cond (in_domain h) (says (payload_length (fields_of h))) (refuse 8)
 
-unfoldable pub sizeAsked : Header → Said ℕ
-sizeAsked h = cond (inDomain h) (says (headerSize (fields_of h))) (refuse 8)
+unfoldable pub size_asked : Header → Said ℕ
+size_asked h = cond (in_domain h) (says (header_size (fields_of h))) (refuse 8)

@@ -3,45 +3,45 @@
 use Rattle.std.specs.Prelude.{Bool, cond, ◌&&◌, List, [], ◌++◌, ℕ, ltb, leb, length}
 use Rattle.error.specs.Said.{Said, says, refuse}
 use Rattle.block.specs.Form.{Form, form_of}
-use Rattle.block_write.specs.Write.{extensionFor, allWritable}
-use Rattle.header_write.specs.Fixed.{firstFor, secondFor, fixedFor}
+use Rattle.block_write.specs.Write.{extension_for, all_writable}
+use Rattle.header_write.specs.Fixed.{first_for, second_for, fixed_for}
 use Rattle.header_write.specs.Judge.{judged}
 use Rattle.header.specs.declared.Header.{Header}
-use Rattle.header.specs.Fields.{Fields, fields_of, inDomain}
-use Rattle.header.specs.Size.{payloadLength, headerSize}
+use Rattle.header.specs.Fields.{Fields, fields_of, in_domain}
+use Rattle.header.specs.Size.{payload_length, header_size}
 
-abbrev pub extensionOctets : Fields → List ℕ
-extensionOctets f = extensionFor f.profile (payloadLength f) f.elements
+abbrev pub extension_octets : Fields → List ℕ
+extension_octets f = extension_for f.profile (payload_length f) f.elements
 
-abbrev pub firstOctet : Fields → ℕ
-firstOctet f = firstFor f.version f.padding f.extension (length f.csrcs)
+abbrev pub first_octet : Fields → ℕ
+first_octet f = first_for f.version f.padding f.extension (length f.csrcs)
 
-abbrev pub secondOctet : Fields → ℕ
-secondOctet f = secondFor f.marker f.type
+abbrev pub second_octet : Fields → ℕ
+second_octet f = second_for f.marker f.type
 
-abbrev pub fixedOctets : Fields → List ℕ
-fixedOctets f = fixedFor (firstOctet f) (secondOctet f) f.number f.time f.source f.csrcs
+abbrev pub fixed_octets : Fields → List ℕ
+fixed_octets f = fixed_for (first_octet f) (second_octet f) f.number f.time f.source f.csrcs
 
 -- all that is written for a header
-unfoldable pub octetsOf : Fields → List ℕ
-octetsOf f = fixedOctets f ++ cond f.extension (extensionOctets f) []
+unfoldable pub octets_of : Fields → List ℕ
+octets_of f = fixed_octets f ++ cond f.extension (extension_octets f) []
 
 -- "A record to be written has version 0 to 3, payload type 0 to 127", by the record's profile whether extensions are on or off
-unfoldable pub inWritingDomain : Header → Bool
-inWritingDomain h =
-    inDomain h
+unfoldable pub in_writing_domain : Header → Bool
+in_writing_domain h =
+    in_domain h
     && (leb h.version 3
-    && (leb h.payload_type 127 && allWritable (form_of h.extension_profile) (fields_of h).elements))
+    && (leb h.payload_type 127 && all_writable (form_of h.extension_profile) (fields_of h).elements))
 
-abbrev pub blockRefusal : Form → Fields → Said (List ℕ) → Said (List ℕ)
-blockRefusal form f octets = judged form (payloadLength f) (length f.elements) octets
+abbrev pub block_refusal : Form → Fields → Said (List ℕ) → Said (List ℕ)
+block_refusal form f octets = judged form (payload_length f) (length f.elements) octets
 
 -- "Writing: 5, 9, 10", 8 before: the octets written into a buffer of `room` bytes
-unfoldable pub writeHeader : Header → ℕ → Said (List ℕ)
-writeHeader h room =
-    cond (inWritingDomain h)
-    (cond (ltb room (headerSize (fields_of h))) (refuse 5)
+unfoldable pub write_header : Header → ℕ → Said (List ℕ)
+write_header h room =
+    cond (in_writing_domain h)
+    (cond (ltb room (header_size (fields_of h))) (refuse 5)
     (cond h.extension
-    (blockRefusal (form_of h.extension_profile) (fields_of h) (says (octetsOf (fields_of h))))
-    (says (octetsOf (fields_of h)))))
+    (block_refusal (form_of h.extension_profile) (fields_of h) (says (octets_of (fields_of h))))
+    (says (octets_of (fields_of h)))))
     (refuse 8)

@@ -1,14 +1,14 @@
 // Setting and deleting an extension element.
 ghost use Rattle.std.specs.Prelude.{◌≡◌, true, [], ◌∷◌, length};
-ghost use Rattle.error.specs.Refusal.{refusalOf};
+ghost use Rattle.error.specs.Refusal.{refusal_of};
 ghost use Rattle.error.specs.Said.{Said, refused};
-ghost use Rattle.elements.specs.Elements.{elementsOf};
-ghost use Rattle.elements.specs.Runs.{Holds, element, replacedAt};
+ghost use Rattle.elements.specs.Elements.{elements_of};
+ghost use Rattle.elements.specs.Runs.{Holds, element, replaced_at};
 ghost use Rattle.block.specs.Form.{form_of};
 ghost use Rattle.header.specs.declared.Header.{Header};
-ghost use Rattle.header.specs.Fields.{inDomain};
-ghost use Rattle.header.specs.Extension.{extended, change, idRefusal, setLater, setFirst, setExtension, delExtension};
-ghost use Rattle.header.specs.Said.{saidChange, heardChange, changeHeard, unless};
+ghost use Rattle.header.specs.Fields.{in_domain};
+ghost use Rattle.header.specs.Extension.{extended, change, id_refusal, set_later, set_first, set_extension, del_extension};
+ghost use Rattle.header.specs.Said.{said_change, heard_change, change_heard, unless};
 
 use crate::{Change, Changed, Header};
 use block::{
@@ -21,7 +21,7 @@ use header_write::in_limits;
 
 // Whether a later set takes the id and the length.
 fn allowed(profile: u16, id: u8, len: usize) -> Change
-    ensures { (next : Said Header) → idRefusal (form_of profile) id len next ≡ unless (saidChange result) next }
+    ensures { (next : Said Header) → id_refusal (form_of profile) id len next ≡ unless (said_change result) next }
 {
     match profile {
         EXTENSION_PROFILE_ONE_BYTE => {
@@ -67,7 +67,7 @@ impl Header {
     }
 
     fn refused(self, error: Error) -> Changed
-        ensures { heardChange result ≡ changeHeard self (refused (refusalOf error)) }
+        ensures { heard_change result ≡ change_heard self (refused (refusal_of error)) }
     {
         Changed {
             change: Change::Refused(error),
@@ -78,7 +78,7 @@ impl Header {
     // One element of `id` in the place of the run: 7 where that "would pass 32 elements or 1,024 data bytes".
     fn put(self, run: Run, profile: u16, padding: usize, id: u8, payload: &[u8]) -> Changed
         requires { Holds self.extensions run }
-        ensures { heardChange result ≡ changeHeard self (change self profile (replacedAt run (element id payload.now ∷ []) (elementsOf self.extensions)) padding) }
+        ensures { heard_change result ≡ change_heard self (change self profile (replaced_at run (element id payload.now ∷ []) (elements_of self.extensions)) padding) }
     {
         if 32 <= self.extensions.count - run.count {
             return self.refused(Error::OverLimits);
@@ -99,8 +99,8 @@ impl Header {
 
     // "Later sets replace the first element of that id or append."
     fn set_later(self, id: u8, payload: &[u8]) -> Changed
-        requires { inDomain self ≡ true }
-        ensures { heardChange result ≡ changeHeard self (setLater self (elementsOf self.extensions) id payload.now) }
+        requires { in_domain self ≡ true }
+        ensures { heard_change result ≡ change_heard self (set_later self (elements_of self.extensions) id payload.now) }
     {
         let profile = self.extension_profile;
         let answer = allowed(profile, id, payload.len());
@@ -126,8 +126,8 @@ impl Header {
 
     // A first set appends; "it does not check the id."
     fn set_first(self, id: u8, payload: &[u8]) -> Changed
-        requires { inDomain self ≡ true }
-        ensures { heardChange result ≡ changeHeard self (setFirst self (elementsOf self.extensions) id payload.now) }
+        requires { in_domain self ≡ true }
+        ensures { heard_change result ≡ change_heard self (set_first self (elements_of self.extensions) id payload.now) }
     {
         let end = Run {
             first: self.extensions.count,
@@ -142,7 +142,7 @@ impl Header {
     }
 
     pub fn set_extension(self, id: u8, payload: &[u8]) -> Changed
-        ensures { heardChange result ≡ changeHeard self (setExtension self id payload.now) }
+        ensures { heard_change result ≡ change_heard self (set_extension self id payload.now) }
     {
         if !in_limits(
             self.csrc_count,
@@ -159,7 +159,7 @@ impl Header {
     }
 
     pub fn del_extension(self, id: u8) -> Changed
-        ensures { heardChange result ≡ changeHeard self (delExtension self id) }
+        ensures { heard_change result ≡ change_heard self (del_extension self id) }
     {
         if !in_limits(
             self.csrc_count,

@@ -1,10 +1,10 @@
 // Looking at extension elements, of a record and of the parts of one.
 ghost use Rattle.std.specs.Prelude.{◌≡◌, []};
-ghost use Rattle.wire.specs.Part.{padTo};
+ghost use Rattle.wire.specs.Part.{pad_to};
 ghost use Rattle.header.specs.Fields.{Tested};
 ghost use Rattle.header.specs.Parts.{together};
-ghost use Rattle.header.specs.Extension.{getExtension, getExtensionIds};
-ghost use Rattle.header.specs.Said.{saidGot, heardIds, idsHeard};
+ghost use Rattle.header.specs.Extension.{get_extension, get_extension_ids};
+ghost use Rattle.header.specs.Said.{said_got, heard_ids, ids_heard};
 
 use crate::{Fixed, Got, Header, IdCount, Ids};
 use elements::find;
@@ -45,7 +45,7 @@ pub fn get_extension_parts<'a>(
     padding: usize,
     id: u8,
 ) -> Got
-    ensures { saidGot result ≡ getExtension (together fixed csrc_count csrc.now profile (record { count = count; ids = ids.now; lens = lens.now; bytes = bytes.now }) padding) id }
+    ensures { said_got result ≡ get_extension (together fixed csrc_count csrc.now profile (record { count = count; ids = ids.now; lens = lens.now; bytes = bytes.now }) padding) id }
 {
     if !in_domain(
         fixed, csrc_count, csrc, profile, count, ids, lens, bytes, padding,
@@ -66,7 +66,7 @@ pub fn get_extension_parts<'a>(
 }
 
 fn no_ids(count: IdCount) -> Ids
-    ensures { result ≡ record { count = count; ids = padTo 32 [] } }
+    ensures { result ≡ record { count = count; ids = pad_to 32 [] } }
 {
     Ids {
         count,
@@ -85,7 +85,7 @@ pub fn get_extension_ids_parts<'a>(
     bytes: &'a [u8; 1024],
     padding: usize,
 ) -> Ids
-    ensures { heardIds result ≡ idsHeard (getExtensionIds (together fixed csrc_count csrc.now profile (record { count = count; ids = ids.now; lens = lens.now; bytes = bytes.now }) padding)) }
+    ensures { heard_ids result ≡ ids_heard (get_extension_ids (together fixed csrc_count csrc.now profile (record { count = count; ids = ids.now; lens = lens.now; bytes = bytes.now }) padding)) }
 {
     if !in_domain(
         fixed, csrc_count, csrc, profile, count, ids, lens, bytes, padding,
@@ -106,7 +106,7 @@ pub fn get_extension_ids_parts<'a>(
 
 impl Header {
     pub fn get_extension(self, id: u8) -> Got
-        ensures { saidGot result ≡ getExtension self id }
+        ensures { said_got result ≡ get_extension self id }
     {
         get_extension_parts(
             self.fixed(),
@@ -123,7 +123,7 @@ impl Header {
     }
 
     pub fn get_extension_ids(self) -> Ids
-        ensures { heardIds result ≡ idsHeard (getExtensionIds self) }
+        ensures { heard_ids result ≡ ids_heard (get_extension_ids self) }
     {
         get_extension_ids_parts(
             self.fixed(),

@@ -1,14 +1,14 @@
 // Reading a header: judged first, without its arrays; then these are filled.
 ghost use Rattle.std.specs.Prelude.{◌≡◌, [], ◌+◌, ◌*◌, ◌≤◌, length};
-ghost use Rattle.error.specs.Refusal.{refusalOf};
+ghost use Rattle.error.specs.Refusal.{refusal_of};
 ghost use Rattle.error.specs.Said.{says, refused};
-ghost use Rattle.wire.specs.Net.{u16At};
-ghost use Rattle.wire.specs.Part.{padTo};
-ghost use Rattle.block_read.specs.Said.{Answers, elementsRead, Laid};
+ghost use Rattle.wire.specs.Net.{u16_at};
+ghost use Rattle.wire.specs.Part.{pad_to};
+ghost use Rattle.block_read.specs.Said.{Answers, elements_read, Laid};
 ghost use Rattle.header.specs.Fields.{blank};
-ghost use Rattle.header.specs.Parts.{together, fixed_at, frontAt, frontOf, heardFront, frontHeard, lentRead};
-ghost use Rattle.header.specs.Read.{csrcsAt, block_of, readExtension, fixedLength, readHeader};
-ghost use Rattle.header.specs.Said.{heard, readingHeard};
+ghost use Rattle.header.specs.Parts.{together, fixed_at, front_at, front_of, heard_front, front_heard, lent_read};
+ghost use Rattle.header.specs.Read.{csrcs_at, block_of, read_extension, fixed_length, read_header};
+ghost use Rattle.header.specs.Said.{heard, reading_heard};
 
 use crate::{Fixed, Front, FrontRead, Header, HeaderRead, Unmarshalled};
 use block_read::{Ending, fill_block, see_block};
@@ -43,7 +43,7 @@ fn front_at(
     zeros: usize,
 ) -> FrontRead
     requires { 12 ≤ length packet.now }
-    ensures { heardFront result ≡ record { answer = says place; front = frontAt packet.now cc profile count zeros } }
+    ensures { heard_front result ≡ record { answer = says place; front = front_at packet.now cc profile count zeros } }
 {
     FrontRead {
         read: HeaderRead::Payload(place),
@@ -58,7 +58,7 @@ fn front_at(
 }
 
 fn refused_front(e: Error) -> FrontRead
-    ensures { heardFront result ≡ frontHeard (readingHeard (refused (refusalOf e))) }
+    ensures { heard_front result ≡ front_heard (reading_heard (refused (refusal_of e))) }
 {
     FrontRead {
         read: HeaderRead::Refused(e),
@@ -78,8 +78,8 @@ fn refused_front(e: Error) -> FrontRead
 // |                        header extension                       |
 // |                             ....                              |
 fn front_extended(packet: &[u8], cc: usize, at: usize) -> FrontRead
-    requires { (cc ≤ 15) × (at ≡ fixedLength cc) × (at ≤ length packet.now) }
-    ensures { heardFront result ≡ frontHeard (readingHeard (readExtension packet.now cc at)) }
+    requires { (cc ≤ 15) × (at ≡ fixed_length cc) × (at ≤ length packet.now) }
+    ensures { heard_front result ≡ front_heard (reading_heard (read_extension packet.now cc at)) }
 {
     if packet.len() < at + 4 {
         return refused_front(Error::ErrHeaderSizeInsufficientForExtension);
@@ -102,7 +102,7 @@ fn front_extended(packet: &[u8], cc: usize, at: usize) -> FrontRead
 
 // The record's front: all but its arrays.
 pub fn unmarshal_front(packet: &[u8]) -> FrontRead
-    ensures { heardFront result ≡ frontHeard (readingHeard (readHeader packet.now)) }
+    ensures { heard_front result ≡ front_heard (reading_heard (read_header packet.now)) }
 {
     if 65535 < packet.len() {
         return refused_front(Error::OutsideDomain);
@@ -123,8 +123,8 @@ pub fn unmarshal_front(packet: &[u8]) -> FrontRead
 }
 
 fn fill_csrcs(packet: &[u8], cc: usize, csrc: &mut [u32; 15])
-    requires { (cc ≤ 15) × (fixedLength cc ≤ length packet.now) }
-    ensures { csrc.new ≡ padTo 15 (csrcsAt packet.now 12 cc) }
+    requires { (cc ≤ 15) × (fixed_length cc ≤ length packet.now) }
+    ensures { csrc.new ≡ pad_to 15 (csrcs_at packet.now 12 cc) }
 {
     *csrc = [0; 15];
     let mut i = 0;
@@ -142,10 +142,10 @@ fn fill_extended(
     lens: &mut [u16; 32],
     bytes: &mut [u8; 1024],
 )
-    requires at_in_bounds { at + 4 + 4 * u16At packet.now (at + 2) ≤ length packet.now }
+    requires at_in_bounds { at + 4 + 4 * u16_at packet.now (at + 2) ≤ length packet.now }
     requires answers { Answers (block_of packet.now at) }
     requires laid { Laid [] ids.old lens.old bytes.old }
-    ensures { Laid (elementsRead (block_of packet.now at)) ids.new lens.new bytes.new }
+    ensures { Laid (elements_read (block_of packet.now at)) ids.new lens.new bytes.new }
 {
     let profile = wire::get_u16(packet, at);
     let len = 4 * wire::wide16(wire::get_u16(packet, at + 2));
@@ -160,9 +160,9 @@ pub fn unmarshal_parts(
     lens: &mut [u16; 32],
     bytes: &mut [u8; 1024],
 ) -> FrontRead
-    ensures result_value { heardFront result ≡ frontHeard (readingHeard (readHeader packet.now)) }
+    ensures result_value { heard_front result ≡ front_heard (reading_heard (read_header packet.now)) }
     ensures bytes_after { record { csrc = csrc.exit.now; ids = ids.new; lens = lens.new; bytes = bytes.new }
-        ≡ lentRead (record { csrc = csrc.entry.now; ids = ids.old; lens = lens.old; bytes = bytes.old }) (readHeader packet.now) }
+        ≡ lent_read (record { csrc = csrc.entry.now; ids = ids.old; lens = lens.old; bytes = bytes.old }) (read_header packet.now) }
 {
     let seen = unmarshal_front(packet);
     let read = seen.read;
@@ -183,7 +183,7 @@ pub fn unmarshal_parts(
 impl Front {
     // All zeros.
     pub fn default() -> Self
-        ensures { result ≡ frontOf blank }
+        ensures { result ≡ front_of blank }
     {
         Front {
             fixed: Fixed {
@@ -254,7 +254,7 @@ impl Header {
     }
 
     pub fn unmarshal(packet: &[u8]) -> Unmarshalled
-        ensures { heard result ≡ readingHeard (readHeader packet.now) }
+        ensures { heard result ≡ reading_heard (read_header packet.now) }
     {
         let mut csrc = [0u32; 15];
         let mut ids = [0u8; 32];

@@ -1,8 +1,8 @@
 // The size of a header, of its record and of the parts of one.
 ghost use Rattle.std.specs.Prelude.{◌≡◌};
 ghost use Rattle.header.specs.Parts.{together};
-ghost use Rattle.header.specs.Size.{lengthAsked, sizeAsked};
-ghost use Rattle.header_write.specs.Said.{saidLength};
+ghost use Rattle.header.specs.Size.{length_asked, size_asked};
+ghost use Rattle.header_write.specs.Said.{said_length};
 
 use crate::look::in_domain;
 use crate::{Fixed, Header, Length};
@@ -21,7 +21,7 @@ pub fn get_extension_payload_len_parts<'a>(
     bytes: &'a [u8; 1024],
     padding: usize,
 ) -> Length
-    ensures { saidLength result ≡ lengthAsked (together fixed csrc_count csrc.now profile (record { count = count; ids = ids.now; lens = lens.now; bytes = bytes.now }) padding) }
+    ensures { said_length result ≡ length_asked (together fixed csrc_count csrc.now profile (record { count = count; ids = ids.now; lens = lens.now; bytes = bytes.now }) padding) }
 {
     if !in_domain(
         fixed, csrc_count, csrc, profile, count, ids, lens, bytes, padding,
@@ -42,7 +42,7 @@ pub fn marshal_size_parts<'a>(
     bytes: &'a [u8; 1024],
     padding: usize,
 ) -> Length
-    ensures { saidLength result ≡ sizeAsked (together fixed csrc_count csrc.now profile (record { count = count; ids = ids.now; lens = lens.now; bytes = bytes.now }) padding) }
+    ensures { said_length result ≡ size_asked (together fixed csrc_count csrc.now profile (record { count = count; ids = ids.now; lens = lens.now; bytes = bytes.now }) padding) }
 {
     if !in_domain(
         fixed, csrc_count, csrc, profile, count, ids, lens, bytes, padding,
@@ -55,7 +55,7 @@ pub fn marshal_size_parts<'a>(
 
 impl Header {
     pub fn get_extension_payload_len(self) -> Length
-        ensures { saidLength result ≡ lengthAsked self }
+        ensures { said_length result ≡ length_asked self }
     {
         get_extension_payload_len_parts(
             self.fixed(),
@@ -71,7 +71,7 @@ impl Header {
     }
 
     pub fn marshal_size(self) -> Length
-        ensures { saidLength result ≡ sizeAsked self }
+        ensures { said_length result ≡ size_asked self }
     {
         marshal_size_parts(
             self.fixed(),

@@ -1,8 +1,8 @@
 // Writing a header. Everything is judged before the first byte is written.
 ghost use Rattle.std.specs.Prelude.{◌≡◌, length};
 ghost use Rattle.header.specs.Parts.{fixed_of, together, bare};
-ghost use Rattle.header.specs.Write.{inWritingDomain, writeHeader};
-ghost use Rattle.header.specs.Said.{heardWritten, written};
+ghost use Rattle.header.specs.Write.{in_writing_domain, write_header};
+ghost use Rattle.header.specs.Said.{heard_written, written};
 
 use crate::{Fixed, Header, Length};
 use error::Error;
@@ -21,8 +21,8 @@ pub fn marshal_parts<'a>(
     padding: usize,
     buf: &mut [u8],
 ) -> Length
-    ensures { heardWritten result buf.new
-        ≡ written buf.old (writeHeader (together fixed csrc_count csrc.now profile (record { count = count; ids = ids.now; lens = lens.now; bytes = bytes.now }) padding) (length buf.old)) }
+    ensures { heard_written result buf.new
+        ≡ written buf.old (write_header (together fixed csrc_count csrc.now profile (record { count = count; ids = ids.now; lens = lens.now; bytes = bytes.now }) padding) (length buf.old)) }
 {
     // a slice tells its length
     let sources: &[u32] = csrc;
@@ -47,7 +47,7 @@ pub fn marshal_parts<'a>(
 
 // A record without CSRCs and elements.
 pub fn marshal_bare(fixed: Fixed, profile: u16, padding: usize, buf: &mut [u8]) -> Length
-    ensures { heardWritten result buf.new ≡ written buf.old (writeHeader (bare fixed profile padding) (length buf.old)) }
+    ensures { heard_written result buf.new ≡ written buf.old (write_header (bare fixed profile padding) (length buf.old)) }
 {
     if 3 < fixed.version || 127 < fixed.payload_type || 262140 < padding {
         return Length::Refused(Error::OutsideDomain);
@@ -81,7 +81,7 @@ impl Header {
 
     // Whether the record is in the domain of writing.
     pub fn is_writable(self) -> bool
-        ensures { result ≡ inWritingDomain self }
+        ensures { result ≡ in_writing_domain self }
     {
         let measured = measure(
             self.fixed(),
@@ -99,7 +99,7 @@ impl Header {
     }
 
     pub fn marshal_to(self, buf: &mut [u8]) -> Length
-        ensures { heardWritten result buf.new ≡ written buf.old (writeHeader self (length buf.old)) }
+        ensures { heard_written result buf.new ≡ written buf.old (write_header self (length buf.old)) }
     {
         marshal_parts(
             self.fixed(),

@@ -9,175 +9,175 @@ use native.Mathlib.Omega.{arith}
 use lib.ListN.{length, replicate, length-append, length-replicate}
 use Rattle.wire.specs.Net.{be16, be32}
 use Rattle.elements.specs.Elements.{Element, data_of}
-use Rattle.block.specs.Form.{form_of, perElement, wordsFor}
+use Rattle.block.specs.Form.{form_of, per_element, words_for}
 use Rattle.block.specs.Form as forms
 use Rattle.block_write.specs.Write as blocks
-use Rattle.block_write.proofs.Octets.{length-blockOctets}
+use Rattle.block_write.proofs.Octets.{length_block_octets}
 use Rattle.header.specs.Fields.{Fields}
-use Rattle.header.specs.Size.{payloadLength}
+use Rattle.header.specs.Size.{payload_length}
 use Rattle.header_write.specs.Fixed.{flag}
-use Rattle.header.specs.Write.{octetsOf}
+use Rattle.header.specs.Write.{octets_of}
 use Rattle.header_write.specs.Fixed as figure
 use Rattle.header.specs.Write as written
-use Rattle.rfc3550.specs.Rfc3550.{Fixed, LawfulFixed, oneIf, LawfulExtension}
+use Rattle.rfc3550.specs.Rfc3550.{Fixed, LawfulFixed, one_if, LawfulExtension}
 use Rattle.rfc3550.specs.Rfc3550 as rtp
-use Rattle.rfc3550.proofs.Places.{plain-octets}
-use Rattle.rfc3550.specs.Rfc8285.{Form, one_byte, two-byte, profileOf, Item, padding, blockOctets, extensionWith}
-use Rattle.header_rfc.specs.Says.{elementsAmong, padsAmong, Within, PlainForm}
-use Rattle.header_rfc.specs.RoundTrip.{InRange, itemsWith}
+use Rattle.rfc3550.proofs.Places.{plain_octets}
+use Rattle.rfc3550.specs.Rfc8285.{Form, one_byte, two_byte, profile_of, Item, padding, block_octets, extension_with}
+use Rattle.header_rfc.specs.Says.{elements_among, pads_among, Within, PlainForm}
+use Rattle.header_rfc.specs.RoundTrip.{InRange, items_with}
 use Rattle.header_rfc.proofs.Fixed.{extended}
 
 -- ---- the fixed header
 
-abbrev pub fixedFor : Fields → Fixed
-fixedFor f =
+abbrev pub fixed_for : Fields → Fixed
+fixed_for f =
     record {
       version = f.version;
       padding = f.padding;
       marker = f.marker;
-      payload-type = f.type;
-      sequence-number = f.number;
+      payload_type = f.type;
+      sequence_number = f.number;
       timestamp = f.time;
       ssrc = f.source;
       csrcs = f.csrcs;
     }
 
-pub fixed-lawful : (f : Fields) → InRange f → LawfulFixed (fixedFor f)
-fixed-lawful f w =
+pub fixed_lawful : (f : Fields) → InRange f → LawfulFixed (fixed_for f)
+fixed_lawful f w =
     record {
       version = omega (arith, w.version);
-      payload-type = omega (arith, w.type);
-      sequence-number = w.number;
+      payload_type = omega (arith, w.type);
+      sequence_number = w.number;
       timestamp = w.time;
       ssrc = w.source;
       count = omega (arith, w.count);
       csrcs = w.csrcs;
     }
 
-flag-bit : (b : Bool) (n : ℕ) → flag b n ≡ oneIf b * n
-flag-bit true n = omega arith
-flag-bit false n = omega arith
+flag_bit : (b : Bool) (n : ℕ) → flag b n ≡ one_if b * n
+flag_bit true n = omega arith
+flag_bit false n = omega arith
 
-csrcs-same : (cs : List ℕ) → figure.csrcOctets cs ≡ rtp.csrcOctets cs
-csrcs-same [] = refl
-csrcs-same (c ∷ cs) = ap (λ (l : List ℕ). be32 c ++ l) (csrcs-same cs)
+csrcs_same : (cs : List ℕ) → figure.csrc_octets cs ≡ rtp.csrc_octets cs
+csrcs_same [] = refl
+csrcs_same (c ∷ cs) = ap (λ (l : List ℕ). be32 c ++ l) (csrcs_same cs)
 
-pub fixed_same : (f : Fields) → written.fixedOctets f ≡ rtp.fixedOctets (fixedFor f) f.extension
-unfolding figure.fixedFor rtp.fixedOctets
+pub fixed_same : (f : Fields) → written.fixed_octets f ≡ rtp.fixed_octets (fixed_for f) f.extension
+unfolding figure.fixed_for rtp.fixed_octets
 fixed_same f i =
     (first i ∷ second i ∷ [])
-    ++ (be16 f.number ++ (be32 f.time ++ (be32 f.source ++ csrcs-same f.csrcs i)))
+    ++ (be16 f.number ++ (be32 f.time ++ (be32 f.source ++ csrcs_same f.csrcs i)))
   where
-    first : written.firstOctet f ≡ rtp.firstOctet (fixedFor f) f.extension
-    first = omega (arith, flag-bit f.padding 32, flag-bit f.extension 16)
+    first : written.first_octet f ≡ rtp.first_octet (fixed_for f) f.extension
+    first = omega (arith, flag_bit f.padding 32, flag_bit f.extension 16)
 
-    second : written.secondOctet f ≡ rtp.secondOctet (fixedFor f)
-    second = omega (arith, flag-bit f.marker 128)
+    second : written.second_octet f ≡ rtp.second_octet (fixed_for f)
+    second = omega (arith, flag_bit f.marker 128)
 
 -- ---- the block
 
 -- a form as the paper names it
-abbrev pub inPaper : Form → forms.Form
-inPaper one_byte = forms.one_byte
-inPaper (two-byte appbits) = forms.two-byte
+abbrev pub in_paper : Form → forms.Form
+in_paper one_byte = forms.one_byte
+in_paper (two_byte appbits) = forms.two_byte
 
 -- and as it knows its profile
-pub form-again : (form : Form) → PlainForm form → form_of (profileOf form) ≡ inPaper form
-form-again one_byte p = refl
-form-again (two-byte appbits) p = ap (λ (a : ℕ). form_of (0x1000 + a)) p
+pub form_again : (form : Form) → PlainForm form → form_of (profile_of form) ≡ in_paper form
+form_again one_byte p = refl
+form_again (two_byte appbits) p = ap (λ (a : ℕ). form_of (0x1000 + a)) p
 
 -- elements with their heads
-abbrev pub packedLength : forms.Form → List Element → ℕ
-packedLength g es = length (data_of es) + length es * perElement g
+abbrev pub packed_length : forms.Form → List Element → ℕ
+packed_length g es = length (data_of es) + length es * per_element g
 
-abbrev pub zerosFor : forms.Form → List Element → ℕ
-zerosFor g es = 4 * wordsFor (packedLength g es) - packedLength g es
+abbrev pub zeros_for : forms.Form → List Element → ℕ
+zeros_for g es = 4 * words_for (packed_length g es) - packed_length g es
 
 -- the written block, filled up to a whole word
 abbrev pub filled : forms.Form → List Element → List ℕ
-filled g es = blocks.blockOctets g es ++ replicate (zerosFor g es) 0
+filled g es = blocks.block_octets g es ++ replicate (zeros_for g es) 0
 
-pub filled-length : (g : forms.Form) (es : List Element) → length (filled g es) ≡ 4 * wordsFor (packedLength g es)
-filled-length g es =
+pub filled_length : (g : forms.Form) (es : List Element) → length (filled g es) ≡ 4 * words_for (packed_length g es)
+filled_length g es =
     omega (
       arith,
-      length-append (blocks.blockOctets g es) (replicate (zerosFor g es) 0),
-      length-replicate {A = ℕ} (zerosFor g es) 0,
-      length-blockOctets g es,
+      length-append (blocks.block_octets g es) (replicate (zeros_for g es) 0),
+      length-replicate {A = ℕ} (zeros_for g es) 0,
+      length_block_octets g es,
     )
 
 -- the written extension is one of RFC 3550, whose content is the filled block
-pub extension-same : (f : Fields) (g : forms.Form) → form_of f.profile ≡ g →
-    written.extensionOctets f ≡ rtp.extensionOctets (extensionWith f.profile (filled g f.elements))
-unfolding blocks.extensionFor rtp.extensionOctets payloadLength
-extension-same f g e =
-    let n : length (filled g f.elements) ≡ 4 * wordsFor (packedLength g f.elements) = filled-length g f.elements in
-    let words : wordsFor (packedLength g f.elements) ≡ length (filled g f.elements) / 4 = omega arith in
-    ap (λ (h : forms.Form). be16 f.profile ++ (be16 (wordsFor (packedLength h f.elements)) ++ filled h f.elements)) e
+pub extension_same : (f : Fields) (g : forms.Form) → form_of f.profile ≡ g →
+    written.extension_octets f ≡ rtp.extension_octets (extension_with f.profile (filled g f.elements))
+unfolding blocks.extension_for rtp.extension_octets payload_length
+extension_same f g e =
+    let n : length (filled g f.elements) ≡ 4 * words_for (packed_length g f.elements) = filled_length g f.elements in
+    let words : words_for (packed_length g f.elements) ≡ length (filled g f.elements) / 4 = omega arith in
+    ap (λ (h : forms.Form). be16 f.profile ++ (be16 (words_for (packed_length h f.elements)) ++ filled h f.elements)) e
     ∙ ap (λ (w : ℕ). be16 f.profile ++ (be16 w ++ filled g f.elements)) words
 
-pub octets-plain : (f : Fields) → f.extension ≡ false → octetsOf f ≡ rtp.octets (record { fixed = fixedFor f; extension = none })
-unfolding octetsOf
-octets-plain f off =
-    ap₂ (λ (s : List ℕ) (b : Bool). s ++ cond b (written.extensionOctets f) []) (fixed_same f) off
-    ∙ append-nil (rtp.fixedOctets (fixedFor f) f.extension)
-    ∙ ap (rtp.fixedOctets (fixedFor f)) off
-    ∙ sym (plain-octets (fixedFor f))
+pub octets_plain : (f : Fields) → f.extension ≡ false → octets_of f ≡ rtp.octets (record { fixed = fixed_for f; extension = none })
+unfolding octets_of
+octets_plain f off =
+    ap₂ (λ (s : List ℕ) (b : Bool). s ++ cond b (written.extension_octets f) []) (fixed_same f) off
+    ∙ append-nil (rtp.fixed_octets (fixed_for f) f.extension)
+    ∙ ap (rtp.fixed_octets (fixed_for f)) off
+    ∙ sym (plain_octets (fixed_for f))
 
-pub octets-extended : (f : Fields) (g : forms.Form) → f.extension ≡ true → form_of f.profile ≡ g →
-    octetsOf f ≡ rtp.octets (extended (fixedFor f) (extensionWith f.profile (filled g f.elements)))
-unfolding octetsOf rtp.octets
-octets-extended f g on e =
-    ap₂ (λ (s : List ℕ) (b : Bool). s ++ cond b (written.extensionOctets f) []) (fixed_same f ∙ ap (rtp.fixedOctets (fixedFor f)) on) on
-    ∙ ap (λ (s : List ℕ). rtp.fixedOctets (fixedFor f) true ++ s) (extension-same f g e)
+pub octets_extended : (f : Fields) (g : forms.Form) → f.extension ≡ true → form_of f.profile ≡ g →
+    octets_of f ≡ rtp.octets (extended (fixed_for f) (extension_with f.profile (filled g f.elements)))
+unfolding octets_of rtp.octets
+octets_extended f g on e =
+    ap₂ (λ (s : List ℕ) (b : Bool). s ++ cond b (written.extension_octets f) []) (fixed_same f ∙ ap (rtp.fixed_octets (fixed_for f)) on) on
+    ∙ ap (λ (s : List ℕ). rtp.fixed_octets (fixed_for f) true ++ s) (extension_same f g e)
 
 -- ---- the items
 
-pub elements-with : (es : List Element) (z : ℕ) → elementsAmong (itemsWith es z) ≡ es
-elements-with [] zero = refl
-elements-with [] (suc z) = elements-with [] z
-elements-with (e ∷ es) z = ap (λ (l : List Element). e ∷ l) (elements-with es z)
+pub elements_with : (es : List Element) (z : ℕ) → elements_among (items_with es z) ≡ es
+elements_with [] zero = refl
+elements_with [] (suc z) = elements_with [] z
+elements_with (e ∷ es) z = ap (λ (l : List Element). e ∷ l) (elements_with es z)
 
-pub pads-with : (es : List Element) (z : ℕ) → padsAmong (itemsWith es z) ≡ z
-pads-with [] zero = refl
-pads-with [] (suc z) = ap suc (pads-with [] z)
-pads-with (e ∷ es) z = pads-with es z
+pub pads_with : (es : List Element) (z : ℕ) → pads_among (items_with es z) ≡ z
+pads_with [] zero = refl
+pads_with [] (suc z) = ap suc (pads_with [] z)
+pads_with (e ∷ es) z = pads_with es z
 
-pub octets-with : (form : Form) (es : List Element) (z : ℕ) →
-    blockOctets form (itemsWith es z) ≡ blocks.blockOctets (inPaper form) es ++ replicate z 0
-octets-with form [] zero = refl
-octets-with form [] (suc z) = ap (λ (l : List ℕ). 0 ∷ l) (octets-with form [] z)
-octets-with one_byte (e ∷ es) z =
-    ap (λ (l : List ℕ). ((e.id * 16 + (length e.bytes - 1)) ∷ e.bytes) ++ l) (octets-with one_byte es z)
-    ∙ sym (append_assoc ((e.id * 16 + (length e.bytes - 1)) ∷ e.bytes) (blocks.blockOctets forms.one_byte es) (replicate z 0))
-octets-with (two-byte appbits) (e ∷ es) z =
-    ap (λ (l : List ℕ). (e.id ∷ length e.bytes ∷ e.bytes) ++ l) (octets-with (two-byte appbits) es z)
-    ∙ sym (append_assoc (e.id ∷ length e.bytes ∷ e.bytes) (blocks.blockOctets forms.two-byte es) (replicate z 0))
+pub octets_with : (form : Form) (es : List Element) (z : ℕ) →
+    block_octets form (items_with es z) ≡ blocks.block_octets (in_paper form) es ++ replicate z 0
+octets_with form [] zero = refl
+octets_with form [] (suc z) = ap (λ (l : List ℕ). 0 ∷ l) (octets_with form [] z)
+octets_with one_byte (e ∷ es) z =
+    ap (λ (l : List ℕ). ((e.id * 16 + (length e.bytes - 1)) ∷ e.bytes) ++ l) (octets_with one_byte es z)
+    ∙ sym (append_assoc ((e.id * 16 + (length e.bytes - 1)) ∷ e.bytes) (blocks.block_octets forms.one_byte es) (replicate z 0))
+octets_with (two_byte appbits) (e ∷ es) z =
+    ap (λ (l : List ℕ). (e.id ∷ length e.bytes ∷ e.bytes) ++ l) (octets_with (two_byte appbits) es z)
+    ∙ sym (append_assoc (e.id ∷ length e.bytes ∷ e.bytes) (blocks.block_octets forms.two_byte es) (replicate z 0))
 
 -- the items of a written block
 abbrev pub items_in : Form → List Element → List Item
-items_in form es = itemsWith es (zerosFor (inPaper form) es)
+items_in form es = items_with es (zeros_for (in_paper form) es)
 
-pub filled-items : (form : Form) (es : List Element) → filled (inPaper form) es ≡ blockOctets form (items_in form es)
-filled-items form es = sym (octets-with form es (zerosFor (inPaper form) es))
+pub filled_items : (form : Form) (es : List Element) → filled (in_paper form) es ≡ block_octets form (items_in form es)
+filled_items form es = sym (octets_with form es (zeros_for (in_paper form) es))
 
 -- a block of one element that is whole words is that element's data
-pub filled-words : (words : List ℕ) → length words % 4 ≡ 0 → filled forms.other (record { id = 0; bytes = words } ∷ []) ≡ words
-filled-words words h =
-    let none_left : 4 * wordsFor (length (words ++ []) + 1 * 0) - (length (words ++ []) + 1 * 0) ≡ 0 = omega (arith, ap length (append-nil words)) in
+pub filled_words : (words : List ℕ) → length words % 4 ≡ 0 → filled forms.other (record { id = 0; bytes = words } ∷ []) ≡ words
+filled_words words h =
+    let none_left : 4 * words_for (length (words ++ []) + 1 * 0) - (length (words ++ []) + 1 * 0) ≡ 0 = omega (arith, ap length (append-nil words)) in
     ap (λ (k : ℕ). words ++ [] ++ replicate k 0) none_left ∙ append-nil (words ++ []) ∙ append-nil words
 
 -- ---- each extension that is written is lawful
 
-per_small : (g : forms.Form) (n : ℕ) → n ≤ 32 → n * perElement g ≤ 64
+per_small : (g : forms.Form) (n : ℕ) → n ≤ 32 → n * per_element g ≤ 64
 per_small forms.one_byte n h = omega arith
-per_small forms.two-byte n h = omega arith
+per_small forms.two_byte n h = omega arith
 per_small forms.other n h = omega arith
 
-pub filled-lawful : (g : forms.Form) (profile : ℕ) (es : List Element) → profile < 65536 → Within es → LawfulExtension (extensionWith profile (filled g es))
-filled-lawful g profile es h w =
-    let n : length (filled g es) ≡ 4 * wordsFor (packedLength g es) = filled-length g es in
-    let per : length es * perElement g ≤ 64 = per_small g (length es) w.few in
+pub filled_lawful : (g : forms.Form) (profile : ℕ) (es : List Element) → profile < 65536 → Within es → LawfulExtension (extension_with profile (filled g es))
+filled_lawful g profile es h w =
+    let n : length (filled g es) ≡ 4 * words_for (packed_length g es) = filled_length g es in
+    let per : length es * per_element g ≤ 64 = per_small g (length es) w.few in
     record {
       profile = h;
       words = omega (arith, w.small);

@@ -4,20 +4,20 @@ use Rattle.std.proofs.Math.Option.{Option, none, some}
 use Rattle.error.specs.Said.{Said, says}
 use Rattle.wire.specs.Each.{Each}
 use Rattle.elements.specs.Elements.{Element}
-use Rattle.block.specs.Form.{Form, one_byte, two-byte, other, form_of, wordsFor}
+use Rattle.block.specs.Form.{Form, one_byte, two_byte, other, form_of, words_for}
 use Rattle.header.specs.declared.Header.{Header}
 use Rattle.header_write.specs.declared.Length.{Length}
 use Rattle.header_write.specs.declared.Length.TheVariants as len
 use Rattle.header.specs.declared.Unmarshalled.{Unmarshalled}
-use Rattle.header.specs.Fields.{Fields, fields_of, layOut}
-use Rattle.header.specs.Read.{readHeader}
-use Rattle.header.specs.Size.{payloadLength, headerSize}
-use Rattle.header.specs.Write.{octetsOf, inWritingDomain}
-use Rattle.header.specs.Said.{heard, readingHeard}
+use Rattle.header.specs.Fields.{Fields, fields_of, lay_out}
+use Rattle.header.specs.Read.{read_header}
+use Rattle.header.specs.Size.{payload_length, header_size}
+use Rattle.header.specs.Write.{octets_of, in_writing_domain}
+use Rattle.header.specs.Said.{heard, reading_heard}
 use Rattle.rfc3550.specs.Rfc3550.{AllBelow}
 use Rattle.rfc3550.specs.Rfc8285.{Item, padding, element, Content, laid, Plan, Lawful, octets}
 use Rattle.rfc3550.specs.Rfc8285
-use Rattle.header_rfc.specs.Says.{Within, Fits, wholeElement, fieldsSaid}
+use Rattle.header_rfc.specs.Says.{Within, Fits, whole_element, fields_said}
 
 -- ---- the ranges of a record
 
@@ -51,10 +51,10 @@ pub record AsTyped (h : Header) : Type 0 where
 
 -- ids from 1 to `highest`, data of `least` to `most` bytes
 pub record Kept (highest least most : ℕ) (e : Element) : Type 0 where
-  pub id-from : 1 ≤ e.id
-  pub id-to : e.id ≤ highest
-  pub len-from : least ≤ length e.bytes
-  pub len-to : length e.bytes ≤ most
+  pub id_from : 1 ≤ e.id
+  pub id_to : e.id ≤ highest
+  pub len_from : least ≤ length e.bytes
+  pub len_to : length e.bytes ≤ most
 
 -- each element by itself: ids may come twice, in any order
 abbrev pub AllKept : ℕ → ℕ → ℕ → List Element → Type 0
@@ -64,8 +64,8 @@ AllKept highest least most es = Each (Kept highest least most) es
 -- one_byte profile .. lengths 1 to 16, in the two-byte profile lengths 0 to 255"
 abbrev pub KeptIn : Form → List Element → Type 0
 KeptIn one_byte es = AllKept 14 1 16 es
-KeptIn two-byte es = AllKept 255 0 255 es
-KeptIn other es = (words : List ℕ) × (es ≡ wholeElement words ∷ []) × (length words % 4 ≡ 0)
+KeptIn two_byte es = AllKept 255 0 255 es
+KeptIn other es = (words : List ℕ) × (es ≡ whole_element words ∷ []) × (length words % 4 ≡ 0)
 
 -- "extensions off with profile 0 and no elements, or .."
 abbrev pub KeptBy : Bool → ℕ → List Element → Type 0
@@ -77,12 +77,12 @@ abbrev pub ReadsBack : Fields → Type 0
 ReadsBack f = KeptBy f.extension f.profile f.elements
 
 -- the zeros that fill the written block's last word
-unfoldable pub zerosWritten : Fields → ℕ
-zerosWritten f = cond f.extension (4 * wordsFor (payloadLength f) - payloadLength f) 0
+unfoldable pub zeros_written : Fields → ℕ
+zeros_written f = cond f.extension (4 * words_for (payload_length f) - payload_length f) 0
 
 -- "Fields and elements read back equal; extensions_padding reads back as the zeros written"
-abbrev pub readBack : Fields → Fields
-readBack f =
+abbrev pub read_back : Fields → Fields
+read_back f =
     record {
       version = f.version;
       padding = f.padding;
@@ -95,7 +95,7 @@ readBack f =
       csrcs = f.csrcs;
       profile = f.profile;
       elements = f.elements;
-      pads = zerosWritten f;
+      pads = zeros_written f;
     }
 
 -- ---- what is asked of a writer
@@ -103,21 +103,21 @@ readBack f =
 -- every record in the writing domain that meets the conditions of the round trip is written, wherever there is room for its size
 abbrev pub Writes : (Header → ℕ → Said (List ℕ)) → Type 0
 Writes write =
-    (h : Header) → inWritingDomain h ≡ true → ReadsBack (fields_of h) → (room : ℕ) → headerSize (fields_of h) ≤ room →
-    write h room ≡ says (octetsOf (fields_of h))
+    (h : Header) → in_writing_domain h ≡ true → ReadsBack (fields_of h) → (room : ℕ) → header_size (fields_of h) ≤ room →
+    write h room ≡ says (octets_of (fields_of h))
 
 -- the answer is that the octets of a lawful plan were written, which says what reads back of f
 pub record WrittenAs (f : Fields) (answer : Said (List ℕ)) : Type 0 where
   pub plan : Plan
   pub lawful : Lawful plan
   pub same : answer ≡ says (octets plan)
-  pub said : fieldsSaid plan ≡ readBack f
+  pub said : fields_said plan ≡ read_back f
 
 -- the answer is that octets were written, and these read back as f does, whatever payload follows them
 pub record WrittenAndRead (f : Fields) (answer : Said (List ℕ)) : Type 0 where
   pub octets : List ℕ
   pub written : answer ≡ says octets
-  pub back : (payload : List ℕ) → Fits (octets ++ payload) → readHeader (octets ++ payload) ≡ says (record { fields = readBack f; place = length octets })
+  pub back : (payload : List ℕ) → Fits (octets ++ payload) → read_header (octets ++ payload) ≡ says (record { fields = read_back f; place = length octets })
 
 -- the code's two calls: `marshal_to` of h answered a and left exit, and whatever `unmarshal` answers of what was written, with any payload behind it, is
 -- what reads back
@@ -125,28 +125,28 @@ pub record CodeWrittenAndRead (h : Header) (exit : List ℕ) (a : Length) : Type
   pub count : ℕ
   pub answer : a ≡ len.Bytes count
   pub back : (payload : List ℕ) → Fits (take count exit ++ payload) → (u : Unmarshalled) →
-      heard u ≡ readingHeard (readHeader (take count exit ++ payload)) →
-      heard u ≡ record { answer = says count; header = layOut (readBack (fields_of h)) }
+      heard u ≡ reading_heard (read_header (take count exit ++ payload)) →
+      heard u ≡ record { answer = says count; header = lay_out (read_back (fields_of h)) }
 
 -- ---- the other way round
 
 -- the elements without any padding
-abbrev pub itemsFor : List Element → List Item
-itemsFor [] = []
-itemsFor (e ∷ es) = element e.id e.bytes ∷ itemsFor es
+abbrev pub items_for : List Element → List Item
+items_for [] = []
+items_for (e ∷ es) = element e.id e.bytes ∷ items_for es
 
 -- the elements, then z octets of padding
-abbrev pub itemsWith : List Element → ℕ → List Item
-itemsWith es z = itemsFor es ++ replicate z padding
+abbrev pub items_with : List Element → ℕ → List Item
+items_with es z = items_for es ++ replicate z padding
 
 -- an extension as the writer lays one out: padding stands behind the elements, and only where it fills the last word
 abbrev pub Trailing : Option Content → Type 0
 Trailing none = Unit
-Trailing (some (laid form items)) = (es : List Element) × (z : ℕ) × (items ≡ itemsWith es z) × (z < 4)
+Trailing (some (laid form items)) = (es : List Element) × (z : ℕ) × (items ≡ items_with es z) × (z < 4)
 Trailing (some (Rfc8285.other profile words)) = Unit
 
 -- ---- setting and deleting
 
 -- how far the elements, with their heads, and the padding are from whole words
 abbrev pub beyond : Fields → ℕ
-beyond f = (payloadLength f + f.pads) % 4
+beyond f = (payload_length f + f.pads) % 4

@@ -8,8 +8,8 @@ use Rattle.elements.specs.Elements.{Element}
 use Rattle.header.specs.Read.{Reading}
 use Rattle.rfc3550.specs.Rfc3550.{Fixed, LawfulFixed}
 use Rattle.rfc3550.specs.Rfc3550 as rtp
-use Rattle.rfc3550.specs.Rfc8285.{Form, one_byte, two-byte, profileOf, Item, padding, element, LawfulElement, headOctets, blockOctets, extensionWith}
-use Rattle.header_rfc.specs.Says.{elementsAmong, padsAmong, wholeElement, readingAt, Within, Over, PlainForm, Fits}
+use Rattle.rfc3550.specs.Rfc8285.{Form, one_byte, two_byte, profile_of, Item, padding, element, LawfulElement, head_octets, block_octets, extension_with}
+use Rattle.header_rfc.specs.Says.{elements_among, pads_among, whole_element, reading_at, Within, Over, PlainForm, Fits}
 
 -- ---- items that are taken
 
@@ -22,7 +22,7 @@ pub record ZeroId (id n : ℕ) : Type 0 where
 -- an element of n bytes that the reader takes: a lawful one, or an id 0 with a length
 abbrev pub TakenElement : Form → ℕ → ℕ → Type 0
 TakenElement one_byte id n = LawfulElement one_byte id n ⊎ ZeroId id n
-TakenElement (two-byte appbits) id n = LawfulElement (two-byte appbits) id n
+TakenElement (two_byte appbits) id n = LawfulElement (two_byte appbits) id n
 
 -- an octet of padding is always taken for one
 abbrev pub TakenItem : Form → Item → Type 0
@@ -49,17 +49,17 @@ pub data Ending : Type 0 where
 abbrev pub LawfulEnding : Form → Ending → Type 0
 LawfulEnding form ends = Unit
 LawfulEnding one_byte (fifteen len rest) = len < 16
-LawfulEnding (two-byte appbits) (fifteen len rest) = ⊥
+LawfulEnding (two_byte appbits) (fifteen len rest) = ⊥
 LawfulEnding form (leaving id part more) = TakenElement form id (length (part ++ more)) × (1 ≤ length more)
 LawfulEnding one_byte (lone id bytes) = ⊥
-LawfulEnding (two-byte appbits) (lone id bytes) = TakenElement (two-byte appbits) id (length bytes)
+LawfulEnding (two_byte appbits) (lone id bytes) = TakenElement (two_byte appbits) id (length bytes)
 
 -- the block's octets from there on
-abbrev pub endingOctets : Form → Ending → List ℕ
-endingOctets form ends = []
-endingOctets form (fifteen len rest) = (15 * 16 + len) ∷ rest
-endingOctets form (leaving id part more) = headOctets form id (length (part ++ more)) ++ part
-endingOctets form (lone id bytes) = id ∷ []
+abbrev pub ending_octets : Form → Ending → List ℕ
+ending_octets form ends = []
+ending_octets form (fifteen len rest) = (15 * 16 + len) ∷ rest
+ending_octets form (leaving id part more) = head_octets form id (length (part ++ more)) ++ part
+ending_octets form (lone id bytes) = id ∷ []
 
 -- the octets of the payload that go to the last element: "An element may run past the block into the payload."
 abbrev pub borrowed : Ending → List ℕ
@@ -76,17 +76,17 @@ unread (leaving id part more) = []
 unread (lone id bytes) = []
 
 -- the last element
-abbrev pub lastElement : Ending → List Element
-lastElement ends = []
-lastElement (fifteen len rest) = []
-lastElement (leaving id part more) = record { id = id; bytes = part ++ more } ∷ []
-lastElement (lone id bytes) = record { id = id; bytes = bytes } ∷ []
+abbrev pub last_element : Ending → List Element
+last_element ends = []
+last_element (fifteen len rest) = []
+last_element (leaving id part more) = record { id = id; bytes = part ++ more } ∷ []
+last_element (lone id bytes) = record { id = id; bytes = bytes } ∷ []
 
 -- ---- a header that is taken
 
 -- a header whose extension has this profile and these octets
-abbrev pub headerWith : Fixed → ℕ → List ℕ → rtp.Plan
-headerWith f profile content = record { fixed = f; extension = some (extensionWith profile content) }
+abbrev pub header_with : Fixed → ℕ → List ℕ → rtp.Plan
+header_with f profile content = record { fixed = f; extension = some (extension_with profile content) }
 
 -- its fixed fields, the form that its profile tells, the items of its block that are taken, and how the block goes on behind them
 pub record Taken : Type 0 where
@@ -96,63 +96,63 @@ pub record Taken : Type 0 where
   pub ending : Ending
 
 -- the whole block
-abbrev pub contentTaken : Taken → List ℕ
-contentTaken t = blockOctets t.form t.items ++ endingOctets t.form t.ending
+abbrev pub content_taken : Taken → List ℕ
+content_taken t = block_octets t.form t.items ++ ending_octets t.form t.ending
 
 -- the header as RFC 3550 has it
-abbrev pub headerTaken : Taken → rtp.Plan
-headerTaken t = headerWith t.fixed (profileOf t.form) (contentTaken t)
+abbrev pub header_taken : Taken → rtp.Plan
+header_taken t = header_with t.fixed (profile_of t.form) (content_taken t)
 
 -- a lawful header of RFC 3550, whose profile the reader knows as that of the form
 pub record LawfulTaken (t : Taken) : Type 0 where
-  pub header : rtp.Lawful (headerTaken t)
+  pub header : rtp.Lawful (header_taken t)
   pub plain : PlainForm t.form
   pub items : AllTaken t.form t.items
   pub ending : LawfulEnding t.form t.ending
 
 -- the header, and behind it what its last element takes of the payload, and the rest of it
-abbrev pub packetTaken : Taken → List ℕ → List ℕ
-packetTaken t after = rtp.octets (headerTaken t) ++ (borrowed t.ending ++ after)
+abbrev pub packet_taken : Taken → List ℕ → List ℕ
+packet_taken t after = rtp.octets (header_taken t) ++ (borrowed t.ending ++ after)
 
 -- the elements among the items, and the last
-abbrev pub elementsTaken : Taken → List Element
-elementsTaken t = elementsAmong t.items ++ lastElement t.ending
+abbrev pub elements_taken : Taken → List Element
+elements_taken t = elements_among t.items ++ last_element t.ending
 
 -- what is read as payload
-abbrev pub payloadTaken : Taken → List ℕ → List ℕ
-payloadTaken t after = unread t.ending ++ after
+abbrev pub payload_taken : Taken → List ℕ → List ℕ
+payload_taken t after = unread t.ending ++ after
 
 -- where that begins: behind what is borrowed, and before what is unread
-abbrev pub placeTaken : Taken → ℕ
-placeTaken t = length (rtp.octets (headerTaken t)) + length (borrowed t.ending) - length (unread t.ending)
+abbrev pub place_taken : Taken → ℕ
+place_taken t = length (rtp.octets (header_taken t)) + length (borrowed t.ending) - length (unread t.ending)
 
 -- what is said of it
-abbrev pub readingTaken : Taken → Reading
-readingTaken t = readingAt t.fixed true (profileOf t.form) (elementsTaken t) (padsAmong t.items) (placeTaken t)
+abbrev pub reading_taken : Taken → Reading
+reading_taken t = reading_at t.fixed true (profile_of t.form) (elements_taken t) (pads_among t.items) (place_taken t)
 
 -- ---- an element that the packet does not hold
 
 pub data Lacking : Type 0 where
   -- it has n bytes of data, of which the block holds `part`
-  data-lack : (id n : ℕ) (part : List ℕ) → Lacking
+  data_lack : (id n : ℕ) (part : List ℕ) → Lacking
   -- two-byte form: the block holds its id alone
-  length-lacks : (id : ℕ) → Lacking
+  length_lacks : (id : ℕ) → Lacking
 
 -- the payload does not hold the others: fewer bytes of data, or no length octet
 abbrev pub LawfulLacking : Form → Lacking → List ℕ → Type 0
-LawfulLacking form (data-lack id n part) payload = TakenElement form id n × (length (part ++ payload) < n)
-LawfulLacking one_byte (length-lacks id) payload = ⊥
-LawfulLacking (two-byte appbits) (length-lacks id) [] = (1 ≤ id) × (id < 256)
-LawfulLacking (two-byte appbits) (length-lacks id) (n ∷ rest) = TakenElement (two-byte appbits) id n × (length rest < n)
+LawfulLacking form (data_lack id n part) payload = TakenElement form id n × (length (part ++ payload) < n)
+LawfulLacking one_byte (length_lacks id) payload = ⊥
+LawfulLacking (two_byte appbits) (length_lacks id) [] = (1 ≤ id) × (id < 256)
+LawfulLacking (two_byte appbits) (length_lacks id) (n ∷ rest) = TakenElement (two_byte appbits) id n × (length rest < n)
 
 -- the block's octets from there on
-abbrev pub lackingOctets : Form → Lacking → List ℕ
-lackingOctets form (data-lack id n part) = headOctets form id n ++ part
-lackingOctets form (length-lacks id) = id ∷ []
+abbrev pub lacking_octets : Form → Lacking → List ℕ
+lacking_octets form (data_lack id n part) = head_octets form id n ++ part
+lacking_octets form (length_lacks id) = id ∷ []
 
 -- the whole block
-abbrev pub contentLacking : Form → List Item → Lacking → List ℕ
-contentLacking form is x = blockOctets form is ++ lackingOctets form x
+abbrev pub content_lacking : Form → List Item → Lacking → List ℕ
+content_lacking form is x = block_octets form is ++ lacking_octets form x
 
 -- ---- the four ways
 
@@ -168,7 +168,7 @@ pub record TakenIn (s : List ℕ) : Type 0 where
   pub taken : Taken
   pub lawful : LawfulTaken taken
   pub after : List ℕ
-  pub same : packetTaken taken after ≡ s
+  pub same : packet_taken taken after ≡ s
 
 -- behind items that are taken the packet does not hold an element
 pub record LackingIn (s : List ℕ) : Type 0 where
@@ -180,19 +180,19 @@ pub record LackingIn (s : List ℕ) : Type 0 where
   pub lacking : Lacking
   pub payload : List ℕ
   pub why : LawfulLacking form lacking payload
-  pub lawful : rtp.Lawful (headerWith fixed (profileOf form) (contentLacking form items lacking))
-  pub same : rtp.octets (headerWith fixed (profileOf form) (contentLacking form items lacking)) ++ payload ≡ s
+  pub lawful : rtp.Lawful (header_with fixed (profile_of form) (content_lacking form items lacking))
+  pub same : rtp.octets (header_with fixed (profile_of form) (content_lacking form items lacking)) ++ payload ≡ s
 
 -- the extension has another profile: "one element, id 0, the whole block"
 pub record WordsIn (s : List ℕ) : Type 0 where
   pub fixed : Fixed
   pub profile : ℕ
-  pub not-one-byte : profile ≢ 0xBEDE
-  pub not-two-byte : profile ≢ 0x1000
+  pub not_one_byte : profile ≢ 0xBEDE
+  pub not_two_byte : profile ≢ 0x1000
   pub words : List ℕ
-  pub lawful : rtp.Lawful (headerWith fixed profile words)
+  pub lawful : rtp.Lawful (header_with fixed profile words)
   pub payload : List ℕ
-  pub same : rtp.octets (headerWith fixed profile words) ++ payload ≡ s
+  pub same : rtp.octets (header_with fixed profile words) ++ payload ≡ s
 
 pub data Course (s : List ℕ) : Type 0 where
   bare : Bare s → Course s
@@ -201,44 +201,44 @@ pub data Course (s : List ℕ) : Type 0 where
   words : WordsIn s → Course s
 
 -- the elements that are read; 7 is judged on them
-abbrev pub elementsIn : {s : List ℕ} → Course s → List Element
-elementsIn (bare b) = []
-elementsIn (takes t) = elementsTaken t.taken
-elementsIn (lacks l) = elementsAmong l.items
-elementsIn (words w) = wholeElement w.words ∷ []
+abbrev pub elements_in : {s : List ℕ} → Course s → List Element
+elements_in (bare b) = []
+elements_in (takes t) = elements_taken t.taken
+elements_in (lacks l) = elements_among l.items
+elements_in (words w) = whole_element w.words ∷ []
 
 -- what is said of words: the payload is that of RFC 3550
-abbrev pub readingWords : {s : List ℕ} → WordsIn s → Reading
-readingWords w =
-    readingAt w.fixed true w.profile (wholeElement w.words ∷ []) 0 (length (rtp.octets (headerWith w.fixed w.profile w.words)))
+abbrev pub reading_words : {s : List ℕ} → WordsIn s → Reading
+reading_words w =
+    reading_at w.fixed true w.profile (whole_element w.words ∷ []) 0 (length (rtp.octets (header_with w.fixed w.profile w.words)))
 
 -- the answer where they are within the limits: "3: an element's byte lies past the packet"
 abbrev pub answer_in : {s : List ℕ} → Course s → Said Reading
-answer_in (bare b) = says (readingAt b.fixed false 0 [] 0 (length (rtp.octets (record { fixed = b.fixed; extension = none }))))
-answer_in (takes t) = says (readingTaken t.taken)
+answer_in (bare b) = says (reading_at b.fixed false 0 [] 0 (length (rtp.octets (record { fixed = b.fixed; extension = none }))))
+answer_in (takes t) = says (reading_taken t.taken)
 answer_in (lacks l) = refuse 3
-answer_in (words w) = says (readingWords w)
+answer_in (words w) = says (reading_words w)
 
 -- the octets from the payload's place on, where there is an answer
-abbrev pub payloadIn : {s : List ℕ} → Course s → List ℕ
-payloadIn (bare b) = b.payload
-payloadIn (takes t) = payloadTaken t.taken t.after
-payloadIn (lacks l) = []
-payloadIn (words w) = w.payload
+abbrev pub payload_in : {s : List ℕ} → Course s → List ℕ
+payload_in (bare b) = b.payload
+payload_in (takes t) = payload_taken t.taken t.after
+payload_in (lacks l) = []
+payload_in (words w) = w.payload
 
 -- ---- what is asked of a reader
 
 -- it answers what the way through the octets says, and 7 where the elements pass the limits
 pub record Follows (read : List ℕ → Said Reading) : Type 0 where
-  pub within : (s : List ℕ) (c : Course s) → Fits s → Within (elementsIn c) → read s ≡ answer_in c
-  pub over : (s : List ℕ) (c : Course s) → Fits s → Over (elementsIn c) → read s ≡ refuse 7
+  pub within : (s : List ℕ) (c : Course s) → Fits s → Within (elements_in c) → read s ≡ answer_in c
+  pub over : (s : List ℕ) (c : Course s) → Fits s → Over (elements_in c) → read s ≡ refuse 7
 
 -- where 3 is given
 pub record PastPacket (s : List ℕ) : Type 0 where
   pub lacking : LackingIn s
-  pub within : Within (elementsAmong lacking.items)
+  pub within : Within (elements_among lacking.items)
 
 -- where 7 is given
 pub record OverLimits (s : List ℕ) : Type 0 where
   pub course : Course s
-  pub over : Over (elementsIn course)
+  pub over : Over (elements_in course)

@@ -12,16 +12,16 @@ use Rattle.error.specs.declared.Error.{Error}
 use Rattle.error.specs.Refusal.{Refusal}
 use Rattle.error.specs.Said.{Said, says, refused, refuse}
 use Rattle.elements.specs.Elements.{sum}
-use Rattle.block.specs.Form.{form_of, lengthFor}
-use Rattle.block.proofs.Form.{heads-few}
+use Rattle.block.specs.Form.{form_of, length_for}
+use Rattle.block.proofs.Form.{heads_few}
 use Rattle.block_write.specs.Write.{all_fit}
 use Rattle.block_write.proofs.Octets.{both}
 use Rattle.header_write.specs.declared.Fixed.{Fixed}
 use Rattle.header_write.specs.declared.Length.{Length}
 use Rattle.header_write.specs.declared.Length.TheVariants as len
-use Rattle.header_write.specs.Limits.{inLimits}
+use Rattle.header_write.specs.Limits.{in_limits}
 use Rattle.header_write.specs.Parts.{measured}
-use Rattle.header_write.specs.Said.{saidLength}
+use Rattle.header_write.specs.Said.{said_length}
 
 pub never : {A : Type 0} {x : A} {r : Refusal} → says x ≡ refused r → ⊥
 never e = let z : ◌≡◌ {A = ℕ} 0 1 = cc in omega arith
@@ -34,7 +34,7 @@ pub record Limits (n count : ℕ) (lens : List ℕ) (pads : ℕ) : Type 0 where
   pub bytes : sum (take count lens) ≤ 1024
   pub zeros : pads ≤ 262140
 
-pub limits : (n count : ℕ) (lens : List ℕ) (pads : ℕ) → inLimits n count lens pads ≡ true → Limits n count lens pads
+pub limits : (n count : ℕ) (lens : List ℕ) (pads : ℕ) → in_limits n count lens pads ≡ true → Limits n count lens pads
 limits n count lens pads e =
     let some = both (leb n 15) _ e in
     let more = both (leb count 32) _ some.1 in
@@ -46,8 +46,8 @@ limits n count lens pads e =
       zeros = leb-true pads 262140 last.1;
     }
 
-pub in-limits : (n count : ℕ) (lens : List ℕ) (pads : ℕ) → Limits n count lens pads → inLimits n count lens pads ≡ true
-in-limits n count lens pads l =
+pub in_limits_lem : (n count : ℕ) (lens : List ℕ) (pads : ℕ) → Limits n count lens pads → in_limits n count lens pads ≡ true
+in_limits_lem n count lens pads l =
     rw (
       le-leb n 15 l.sources,
       le-leb count 32 l.elements,
@@ -66,12 +66,12 @@ pub record Fine (f : Fixed) (n profile count : ℕ) (ids lens : List ℕ) (pads 
 module _ (f : Fixed) (n profile count : ℕ) (ids lens : List ℕ) (pads : ℕ) where
   abbrev tests : Bool
   tests =
-      inLimits n count lens pads
+      in_limits n count lens pads
       && (leb f.version 3 && (leb f.payload_type 127 && all_fit (form_of profile) (take count ids) (take count lens)))
 
   fine : tests ≡ true → Fine f n profile count ids lens pads
   fine e =
-      let some = both (inLimits n count lens pads) _ e in
+      let some = both (in_limits n count lens pads) _ e in
       let more = both (leb f.version 3) _ some.1 in
       let last = both (leb f.payload_type 127) _ more.1 in
       record {
@@ -85,39 +85,39 @@ module _ (f : Fixed) (n profile count : ℕ) (ids lens : List ℕ) (pads : ℕ) 
   asked = measured f n profile count ids lens pads
 
   abbrev taken : ℕ
-  taken = lengthFor profile count (sum (take count lens))
+  taken = length_for profile count (sum (take count lens))
 
   by_tests : {t : Bool} → tests ≡ t → asked ≡ cond t (says taken) (refuse 8)
   unfolding measured
   by_tests e = ap (λ (t : Bool). cond t (says taken) (refuse 8)) e
 
-  pub measured-fine : Fine f n profile count ids lens pads → asked ≡ says taken
-  measured-fine w =
+  pub measured_fine : Fine f n profile count ids lens pads → asked ≡ says taken
+  measured_fine w =
       by_tests {t = true}
-      (rw (in-limits n count lens pads w.limits, le-leb f.version 3 w.version, le-leb f.payload_type 127 w.type, w.fit))
+      (rw (in_limits_lem n count lens pads w.limits, le-leb f.version 3 w.version, le-leb f.payload_type 127 w.type, w.fit))
 
-  pub measured-outside : (Fine f n profile count ids lens pads → ⊥) → asked ≡ refuse 8
-  measured-outside out = go tests refl
+  pub measured_outside : (Fine f n profile count ids lens pads → ⊥) → asked ≡ refuse 8
+  measured_outside out = go tests refl
     where
       go : (t : Bool) → tests ≡ t → asked ≡ refuse 8
       go true e = absurd (out (fine e))
       go false e = by_tests e
 
   -- what an answer says of the parts
-  module _ (r : Length) (a : saidLength r ≡ asked) where
-    pub measured-says : (k : ℕ) → r ≡ len.Bytes k → Fine f n profile count ids lens pads × (k ≡ taken)
-    measured-says k p = go tests refl
+  module _ (r : Length) (a : said_length r ≡ asked) where
+    pub measured_says : (k : ℕ) → r ≡ len.Bytes k → Fine f n profile count ids lens pads × (k ≡ taken)
+    measured_says k p = go tests refl
       where
         go : (t : Bool) → tests ≡ t → Fine f n profile count ids lens pads × (k ≡ taken)
         go true e =
-            let same : says k ≡ says taken = sym (ap saidLength p) ∙ a ∙ by_tests e in
+            let same : says k ≡ says taken = sym (ap said_length p) ∙ a ∙ by_tests e in
             (fine e, cc)
-        go false e = absurd (never (sym (ap saidLength p) ∙ a ∙ by_tests e))
+        go false e = absurd (never (sym (ap said_length p) ∙ a ∙ by_tests e))
 
-    pub measured-refuses : (k : Error) → r ≡ len.Refused k → Fine f n profile count ids lens pads → ⊥
-    measured-refuses k p w = never (sym (measured-fine w) ∙ sym a ∙ ap saidLength p)
+    pub measured_refuses : (k : Error) → r ≡ len.Refused k → Fine f n profile count ids lens pads → ⊥
+    measured_refuses k p w = never (sym (measured_fine w) ∙ sym a ∙ ap said_length p)
 
 -- the elements take 1,088 bytes at most
-pub taken-few : (n profile count : ℕ) (lens : List ℕ) (pads : ℕ) → Limits n count lens pads →
-    lengthFor profile count (sum (take count lens)) ≤ 1088
-taken-few n profile count lens pads l = omega (arith, l.bytes, heads-few profile count l.elements)
+pub taken_few : (n profile count : ℕ) (lens : List ℕ) (pads : ℕ) → Limits n count lens pads →
+    length_for profile count (sum (take count lens)) ≤ 1088
+taken_few n profile count lens pads l = omega (arith, l.bytes, heads_few profile count l.elements)

@@ -19,39 +19,39 @@ use lib.ListN.{length, get_or}
 use borrow.Author.Tests.{eq-eqb, eqb-true}
 use Rattle.error.specs.Said.{Said, refuse}
 use Rattle.elements.specs.Elements.{sum}
-use Rattle.block.specs.Form.{Form, one_byte, two-byte, other, form_of, perElement}
+use Rattle.block.specs.Form.{Form, one_byte, two_byte, other, form_of, per_element}
 use Rattle.header_write.specs.Judge.{judged}
 
 -- how many bytes elements of these lengths take with their heads
 abbrev pub total_of : Form → List ℕ → ℕ
-total_of form lens = sum lens + length lens * perElement form
+total_of form lens = sum lens + length lens * per_element form
 
 -- the Rust's tests, in their order
-abbrev pub rustJudged : {A : Type 0} → Form → List ℕ → Said A → Said A
-rustJudged one_byte lens next = next
-rustJudged two-byte lens next = next
-rustJudged other lens next =
+abbrev pub rust_judged : {A : Type 0} → Form → List ℕ → Said A → Said A
+rust_judged one_byte lens next = next
+rust_judged two_byte lens next = next
+rust_judged other lens next =
     cond (eqb (total_of other lens % 4) 0)
     (cond (eqb (length lens) 1) (cond (eqb (get_or lens 0 0 % 4) 0) next (refuse 9)) (refuse 10))
     (refuse 9)
 
 -- where the third test is reached, the one element is whole words
-pub never-9 : (lens : List ℕ) → total_of other lens % 4 ≡ 0 → length lens ≡ 1 → get_or lens 0 0 % 4 ≡ 0
-never-9 [] whole one = absurd (omega arith)
-never-9 (n ∷ []) whole one = omega arith
-never-9 (n ∷ m ∷ lens) whole one = absurd (omega arith)
+pub never_9 : (lens : List ℕ) → total_of other lens % 4 ≡ 0 → length lens ≡ 1 → get_or lens 0 0 % 4 ≡ 0
+never_9 [] whole one = absurd (omega arith)
+never_9 (n ∷ []) whole one = omega arith
+never_9 (n ∷ m ∷ lens) whole one = absurd (omega arith)
 
 -- so that with it and without it, whatever the elements are, the same is refused
-pub judges-alike : {A : Type 0} (form : Form) (lens : List ℕ) (next : Said A) →
-    rustJudged form lens next ≡ judged form (total_of form lens) (length lens) next
-judges-alike one_byte lens next = refl
-judges-alike two-byte lens next = refl
-judges-alike {A} other lens next = go (eqb (total_of other lens % 4) 0) (eqb (length lens) 1) refl refl
+pub judges_alike : {A : Type 0} (form : Form) (lens : List ℕ) (next : Said A) →
+    rust_judged form lens next ≡ judged form (total_of form lens) (length lens) next
+judges_alike one_byte lens next = refl
+judges_alike two_byte lens next = refl
+judges_alike {A} other lens next = go (eqb (total_of other lens % 4) 0) (eqb (length lens) 1) refl refl
   where
     go : (whole one : Bool) → eqb (total_of other lens % 4) 0 ≡ whole → eqb (length lens) 1 ≡ one →
         cond whole (cond one (cond (eqb (get_or lens 0 0 % 4) 0) next (refuse 9)) (refuse 10)) (refuse 9)
         ≡ cond whole (cond one next (refuse 10)) (refuse 9)
     go true true w o =
-        rw (eq-eqb (get_or lens 0 0 % 4) 0 (never-9 lens (eqb-true (total_of other lens % 4) 0 w) (eqb-true (length lens) 1 o)))
+        rw (eq-eqb (get_or lens 0 0 % 4) 0 (never_9 lens (eqb-true (total_of other lens % 4) 0 w) (eqb-true (length lens) 1 o)))
     go true false w o = refl
     go false one w o = refl

@@ -1,11 +1,11 @@
 // A header by its parts: the fixed fields by value, the arrays of its record lent.
 ghost use Rattle.std.specs.Prelude.{◌≡◌, true, [], ◌≤◌, length, take};
 ghost use Rattle.wire.specs.Part.{Put};
-ghost use Rattle.elements.specs.Elements.{Packed, elementsIn, sum};
-ghost use Rattle.block.specs.Form.{form_of, lengthFor};
-ghost use Rattle.block_write.specs.Write.{allWritable};
-ghost use Rattle.header_write.specs.Parts.{measured, octetsFor};
-ghost use Rattle.header_write.specs.Said.{saidLength};
+ghost use Rattle.elements.specs.Elements.{Packed, elements_in, sum};
+ghost use Rattle.block.specs.Form.{form_of, length_for};
+ghost use Rattle.block_write.specs.Write.{all_writable};
+ghost use Rattle.header_write.specs.Parts.{measured, octets_for};
+ghost use Rattle.header_write.specs.Said.{said_length};
 
 use crate::figure::{first_octet, put_csrcs, put_fixed, second_octet};
 use crate::{Fixed, Length};
@@ -23,7 +23,7 @@ pub fn measure<'a>(
     lens: &'a [u16; 32],
     padding: usize,
 ) -> Length
-    ensures { saidLength result ≡ measured fixed csrc_count profile count ids.now lens.now padding }
+    ensures { said_length result ≡ measured fixed csrc_count profile count ids.now lens.now padding }
 {
     if 15 < csrc_count || 32 < count || 262140 < padding {
         return Length::Refused(Error::OutsideDomain);
@@ -54,10 +54,10 @@ pub fn put_header<'a>(
     requires version_bound { (fixed.version ≤ 3) × (fixed.payload_type ≤ 127) }
     requires csrc_count_bound { (csrc_count ≤ 15) × (csrc_count ≤ length csrc.now) }
     requires packed { Packed count ids.now lens.now bytes.now }
-    requires bytes_value { allWritable (form_of profile) (elementsIn count ids.now lens.now bytes.now) ≡ true }
-    requires len_value { (len ≡ lengthFor profile count (sum (take count lens.now))) × (len ≤ 1088) }
-    requires bytes_in_bounds { length (octetsFor fixed (take csrc_count csrc.now) profile len (elementsIn count ids.now lens.now bytes.now)) ≤ length buf.old }
-    ensures { Put buf.old 0 (octetsFor fixed (take csrc_count csrc.now) profile len (elementsIn count ids.now lens.now bytes.now)) result buf.new }
+    requires bytes_value { all_writable (form_of profile) (elements_in count ids.now lens.now bytes.now) ≡ true }
+    requires len_value { (len ≡ length_for profile count (sum (take count lens.now))) × (len ≤ 1088) }
+    requires bytes_in_bounds { length (octets_for fixed (take csrc_count csrc.now) profile len (elements_in count ids.now lens.now bytes.now)) ≤ length buf.old }
+    ensures { Put buf.old 0 (octets_for fixed (take csrc_count csrc.now) profile len (elements_in count ids.now lens.now bytes.now)) result buf.new }
 {
     let b0 = first_octet(fixed.version, fixed.padding, fixed.extension, csrc_count);
     let b1 = second_octet(fixed.marker, fixed.payload_type);
@@ -79,8 +79,8 @@ pub fn put_header<'a>(
 // The same for a header without CSRCs and elements.
 pub fn put_bare(buf: &mut [u8], fixed: Fixed, profile: u16) -> usize
     requires version_bound { (fixed.version ≤ 3) × (fixed.payload_type ≤ 127) }
-    requires profile_in_bounds { length (octetsFor fixed [] profile 0 []) ≤ length buf.old }
-    ensures { Put buf.old 0 (octetsFor fixed [] profile 0 []) result buf.new }
+    requires profile_in_bounds { length (octets_for fixed [] profile 0 []) ≤ length buf.old }
+    ensures { Put buf.old 0 (octets_for fixed [] profile 0 []) result buf.new }
 {
     let b0 = first_octet(fixed.version, fixed.padding, fixed.extension, 0);
     let b1 = second_octet(fixed.marker, fixed.payload_type);

@@ -3,7 +3,7 @@ ghost use Rattle.std.specs.Prelude.{◌≡◌, cond};
 ghost use Rattle.error.specs.Said.{says};
 ghost use Rattle.block.specs.Form.{form_of};
 ghost use Rattle.header_write.specs.Judge.{judged};
-ghost use Rattle.header_write.specs.Said.{saidLength};
+ghost use Rattle.header_write.specs.Said.{said_length};
 
 use crate::Length;
 use block::{EXTENSION_PROFILE_ONE_BYTE, EXTENSION_PROFILE_TWO_BYTE};
@@ -11,7 +11,7 @@ use error::Error;
 
 // 9 and 10: the length of the elements with their heads, if `count` of them can stand in a block.
 pub fn judge(extension: bool, profile: u16, len: usize, count: usize) -> Length
-    ensures { saidLength result ≡ cond extension (judged (form_of profile) len count (says len)) (says len) }
+    ensures { said_length result ≡ cond extension (judged (form_of profile) len count (says len)) (says len) }
 {
     if !extension {
         return Length::Bytes(len);

@@ -9,8 +9,8 @@ use Rattle.join.specs.declared.units.Units.{Units}
 abbrev pub counted : ℕ → ℕ → ℕ
 counted n k = (n + k) % 2 ^ 64
 
-abbrev pub nothingYet : Account
-nothingYet =
+abbrev pub nothing_yet : Account
+nothing_yet =
     record {
       packets = 0;
       accepted = 0;
@@ -23,8 +23,8 @@ nothingYet =
     }
 
 -- an accepted packet, with what it handed out
-unfoldable pub acceptedBy : Units → ℕ → Account → Account
-acceptedBy units bytes a =
+unfoldable pub accepted_by : Units → ℕ → Account → Account
+accepted_by units bytes a =
     record {
       packets = counted a.packets 1;
       accepted = counted a.accepted 1;
@@ -37,8 +37,8 @@ acceptedBy units bytes a =
     }
 
 -- a late packet adds to nothing else
-unfoldable pub cameLate : Account → Account
-cameLate a =
+unfoldable pub came_late : Account → Account
+came_late a =
     record {
       packets = counted a.packets 1;
       accepted = a.accepted;
@@ -50,8 +50,8 @@ cameLate a =
       bytes = a.bytes;
     }
 
-abbrev pub ofAnother : Account → Account
-ofAnother a =
+abbrev pub of_another : Account → Account
+of_another a =
     record {
       packets = counted a.packets 1;
       accepted = a.accepted;
@@ -63,8 +63,8 @@ ofAnother a =
       bytes = a.bytes;
     }
 
-abbrev pub byNumber : ℕ → Account → Account
-byNumber n a =
+abbrev pub by_number : ℕ → Account → Account
+by_number n a =
     record {
       packets = counted a.packets 1;
       accepted = a.accepted;
@@ -77,5 +77,5 @@ byNumber n a =
     }
 
 -- a refused packet: of another source where the number is 20, else by its number
-unfoldable pub refusedBy : Error → Account → Account
-refusedBy e a = cond (number_of e == 20) (ofAnother a) (byNumber (number_of e) a)
+unfoldable pub refused_by : Error → Account → Account
+refused_by e a = cond (number_of e == 20) (of_another a) (by_number (number_of e) a)

@@ -1,6 +1,6 @@
 // The account of a show: what became of the packets, and what was handed out. All counts run modulo 2^64.
 ghost use Rattle.std.specs.Prelude.{◌≡◌, ◌+◌, ◌%◌, ◌^◌};
-ghost use Rattle.join.specs.Account.{nothingYet, counted, acceptedBy, cameLate, refusedBy};
+ghost use Rattle.join.specs.Account.{nothing_yet, counted, accepted_by, came_late, refused_by};
 
 use crate::units::Units;
 use error::Error;
@@ -32,7 +32,7 @@ fn more(n: u64, k: u64) -> u64
 
 impl Account {
     pub fn new() -> Account
-        ensures { result ≡ nothingYet }
+        ensures { result ≡ nothing_yet }
     {
         Account {
             packets: 0,
@@ -47,7 +47,7 @@ impl Account {
     }
 
     pub fn accept(mut self, units: Units, bytes: usize) -> Account
-        ensures { result ≡ acceptedBy units bytes self }
+        ensures { result ≡ accepted_by units bytes self }
     {
         self.packets = more(self.packets, 1);
         self.accepted = more(self.accepted, 1);
@@ -58,7 +58,7 @@ impl Account {
     }
 
     pub fn come_late(mut self) -> Account
-        ensures { result ≡ cameLate self }
+        ensures { result ≡ came_late self }
     {
         self.packets = more(self.packets, 1);
         self.late = more(self.late, 1);
@@ -66,7 +66,7 @@ impl Account {
     }
 
     pub fn refuse(mut self, e: Error) -> Account
-        ensures { result ≡ refusedBy e self }
+        ensures { result ≡ refused_by e self }
     {
         self.packets = more(self.packets, 1);
         let n = e.number() as usize;

@@ -6,16 +6,16 @@ use mathlib.Core.List.{List}
 use Prim.Native.Nat.{ℕ}
 use Rattle.error.specs.Said.{Said, says, refused}
 use Rattle.error.specs.Only.{Determined}
-use Rattle.error.proofs.Inverse.{errorOf, errorOf-refusalOf}
-use Rattle.error.proofs.Only.{by_value, by-view, spoken, Sayable, passed}
-use Rattle.packet.specs.Read.{PacketReading, readPacket}
-use Rattle.packet.proofs.Only.{packet-sayable}
+use Rattle.error.proofs.Inverse.{error_of, error_of_refusal_of}
+use Rattle.error.proofs.Only.{by_value, by_view, spoken, Sayable, passed}
+use Rattle.packet.specs.Read.{PacketReading, read_packet}
+use Rattle.packet.proofs.Only.{packet_sayable}
 use Rattle.sequence.specs.Number.{distance_of, next_of}
 use Rattle.joiner_step.specs.Step.{Accepted, Answer, accepted, late}
-use Rattle.joiner_step.proofs.Cases.{closing-cases}
-use Rattle.joiner_step.proofs.Sayable.{Speaks, step-sayable}
+use Rattle.joiner_step.proofs.Cases.{closing_cases}
+use Rattle.joiner_step.proofs.Sayable.{Speaks, step_sayable}
 use Rattle.joiner_feed.specs.H264.{check}
-use Rattle.joiner_feed.proofs.Sayable.{check-sayable, timed-sayable, fed-sayable}
+use Rattle.joiner_feed.proofs.Sayable.{check_sayable, timed_sayable, fed_sayable}
 use Rattle.joiner.specs.declared.Joiner.{Joiner}
 use Rattle.joiner.specs.declared.Prefix.{Prefix}
 use Rattle.joiner.specs.declared.Joined.{Joined}
@@ -24,131 +24,131 @@ use Rattle.joiner.specs.declared.Step.{Step}
 use Rattle.joiner.specs.declared.Closed.{Closed}
 use Rattle.joiner.specs.declared.Closed.TheVariants as closed
 use Rattle.joiner.specs.declared.Closing.{Closing}
-use Rattle.joiner.specs.Join.{keptOf, Stepped, ClosingStepped, asClosing, arrivedIn, choice, avcOf, choice_of, joinStep, closeStep, opened, openedWith}
-use Rattle.joiner.specs.Said.{saidJoined, stepHeard, placeHeard, saidClosed, closingHeard}
+use Rattle.joiner.specs.Join.{kept_of, Stepped, ClosingStepped, as_closing, arrived_in, choice, avc_of, choice_of, join_step, close_step, opened, opened_with}
+use Rattle.joiner.specs.Said.{said_joined, step_heard, place_heard, said_closed, closing_heard}
 
 -- ---- numbers, by the crate `sequence`
 
-pub distance-only : (number awaited : ℕ) → Determined (λ (r : ℕ). r ≡ distance_of number awaited)
-distance-only number awaited = by_value (distance_of number awaited)
+pub distance_only : (number awaited : ℕ) → Determined (λ (r : ℕ). r ≡ distance_of number awaited)
+distance_only number awaited = by_value (distance_of number awaited)
 
-pub after-only : (number : ℕ) → Determined (λ (r : ℕ). r ≡ next_of number)
-after-only number = by_value (next_of number)
+pub after_only : (number : ℕ) → Determined (λ (r : ℕ). r ≡ next_of number)
+after_only number = by_value (next_of number)
 
 -- ---- opening
 
-pub open-only : (ssrc first : ℕ) → Determined (λ (r : Joiner). r ≡ opened ssrc first)
-open-only ssrc first = by_value (opened ssrc first)
+pub open_only : (ssrc first : ℕ) → Determined (λ (r : Joiner). r ≡ opened ssrc first)
+open_only ssrc first = by_value (opened ssrc first)
 
-pub open-with-only : (ssrc first : ℕ) (p : Prefix) → Determined (λ (r : Joiner). r ≡ openedWith ssrc first p)
-open-with-only ssrc first p = by_value (openedWith ssrc first p)
+pub open_with_only : (ssrc first : ℕ) (p : Prefix) → Determined (λ (r : Joiner). r ≡ opened_with ssrc first p)
+open_with_only ssrc first p = by_value (opened_with ssrc first p)
 
 -- ---- what a call with a packet says
 
 -- the packet's reader and H.264's checks refuse by numbers of the paper
-reads-sayable : (packet : List ℕ) (x : Said PacketReading) → Sayable x → Sayable (arrivedIn packet x)
-reads-sayable packet (refused r) s = passed {A = PacketReading} {r = r} s
-reads-sayable packet (says r) s = refl
+reads_sayable : (packet : List ℕ) (x : Said PacketReading) → Sayable x → Sayable (arrived_in packet x)
+reads_sayable packet (refused r) s = passed {A = PacketReading} {r = r} s
+reads_sayable packet (says r) s = refl
 
 speaks : (avc : Bool) → Speaks (choice avc)
 speaks avc =
     record {
-      reads = λ packet. reads-sayable packet (readPacket packet) (packet-sayable packet);
-      checks = λ p. timed-sayable p.time (check p.payload) (check-sayable p.payload);
-      feeds = λ run x. fed-sayable run x.time x.content;
+      reads = λ packet. reads_sayable packet (read_packet packet) (packet_sayable packet);
+      checks = λ p. timed_sayable p.time (check p.payload) (check_sayable p.payload);
+      feeds = λ run x. fed_sayable run x.time x.content;
     }
 
 abbrev Fine : Stepped → Type 0
 Fine st = Sayable st.answer
 
-join-fine : (j : Joiner) (gather out packet : List ℕ) → Fine (joinStep j packet gather out)
-unfolding joinStep
-join-fine j gather out packet = step-sayable (choice_of j) (speaks (avcOf j)) (keptOf j) gather out packet
+join_fine : (j : Joiner) (gather out packet : List ℕ) → Fine (join_step j packet gather out)
+unfolding join_step
+join_fine j gather out packet = step_sayable (choice_of j) (speaks (avc_of j)) (kept_of j) gather out packet
 
 -- ---- joining
 
-abbrev joinedOf : Said Answer → Joined
-joinedOf (says (accepted a)) = joined.Accepted a.first a.count a.bytes
-joinedOf (says late) = joined.Late
-joinedOf (refused r) = joined.Refused (errorOf r)
+abbrev joined_of : Said Answer → Joined
+joined_of (says (accepted a)) = joined.Accepted a.first a.count a.bytes
+joined_of (says late) = joined.Late
+joined_of (refused r) = joined.Refused (error_of r)
 
-joinedOf-said : (a : Joined) → joinedOf (saidJoined a) ≡ a
-joinedOf-said (joined.Accepted first count bytes) = refl
-joinedOf-said joined.Late = refl
-joinedOf-said (joined.Refused e) = ap joined.Refused (errorOf-refusalOf e)
+joined_of_said : (a : Joined) → joined_of (said_joined a) ≡ a
+joined_of_said (joined.Accepted first count bytes) = refl
+joined_of_said joined.Late = refl
+joined_of_said (joined.Refused e) = ap joined.Refused (error_of_refusal_of e)
 
-said-joinedOf : (x : Said Answer) → saidJoined (joinedOf x) ≡ spoken x
-said-joinedOf (says (accepted a)) = refl
-said-joinedOf (says late) = refl
-said-joinedOf (refused r) = refl
+said_joined_of : (x : Said Answer) → said_joined (joined_of x) ≡ spoken x
+said_joined_of (says (accepted a)) = refl
+said_joined_of (says late) = refl
+said_joined_of (refused r) = refl
 
 -- the result beside both buffers as they are left
 abbrev pub Left : Type 0
 Left = Step × List ℕ × List ℕ
 
-abbrev pub heardLeft : Left → Stepped
-heardLeft a = stepHeard a.0 a.1 a.2
+abbrev pub heard_left : Left → Stepped
+heard_left a = step_heard a.0 a.1 a.2
 
 -- the same where the record is lent
 abbrev pub Placed : Type 0
 Placed = Joiner × Joined × List ℕ × List ℕ
 
-abbrev pub heardPlaced : Placed → Stepped
-heardPlaced a = placeHeard a.0 a.1 a.2 a.3
+abbrev pub heard_placed : Placed → Stepped
+heard_placed a = place_heard a.0 a.1 a.2 a.3
 
 abbrev placed_of : Stepped → Placed
-placed_of st = (st.joiner, joinedOf st.answer, st.gather, st.out)
+placed_of st = (st.joiner, joined_of st.answer, st.gather, st.out)
 
-placedOf-heard : (a : Placed) → placed_of (heardPlaced a) ≡ a
-placedOf-heard a = ap (λ (r : Joined). (a.0, r, a.2, a.3)) (joinedOf-said a.1)
+placed_of_heard : (a : Placed) → placed_of (heard_placed a) ≡ a
+placed_of_heard a = ap (λ (r : Joined). (a.0, r, a.2, a.3)) (joined_of_said a.1)
 
-heard-placedOf : (st : Stepped) → Fine st → heardPlaced (placed_of st) ≡ st
-heard-placedOf st s =
+heard_placed_of : (st : Stepped) → Fine st → heard_placed (placed_of st) ≡ st
+heard_placed_of st s =
     ap (λ (x : Said Answer). record { joiner = st.joiner; answer = x; gather = st.gather; out = st.out })
-    (said-joinedOf st.answer ∙ s)
+    (said_joined_of st.answer ∙ s)
 
 abbrev left_of : Stepped → Left
-left_of st = (record { joiner = st.joiner; answer = joinedOf st.answer }, st.gather, st.out)
+left_of st = (record { joiner = st.joiner; answer = joined_of st.answer }, st.gather, st.out)
 
-leftOf-heard : (a : Left) → left_of (heardLeft a) ≡ a
-leftOf-heard a =
-    ap (λ (r : Joined). (record { joiner = a.0.joiner; answer = r }, a.1, a.2)) (joinedOf-said a.0.answer)
+left_of_heard : (a : Left) → left_of (heard_left a) ≡ a
+left_of_heard a =
+    ap (λ (r : Joined). (record { joiner = a.0.joiner; answer = r }, a.1, a.2)) (joined_of_said a.0.answer)
 
 module _ (j : Joiner) (packet gather out : List ℕ) where
-  pub join-only : Determined (λ (a : Left). heardLeft a ≡ joinStep j packet gather out)
-  join-only =
-      by-view heardLeft left_of leftOf-heard (left_of (joinStep j packet gather out)) (joinStep j packet gather out)
-      (heard-placedOf (joinStep j packet gather out) (join-fine j gather out packet))
+  pub join_only : Determined (λ (a : Left). heard_left a ≡ join_step j packet gather out)
+  join_only =
+      by_view heard_left left_of left_of_heard (left_of (join_step j packet gather out)) (join_step j packet gather out)
+      (heard_placed_of (join_step j packet gather out) (join_fine j gather out packet))
 
-  pub join-by-value-only : Determined (λ (a : Left). heardLeft a ≡ joinStep j packet gather out)
-  join-by-value-only = join-only
+  pub join_by_value_only : Determined (λ (a : Left). heard_left a ≡ join_step j packet gather out)
+  join_by_value_only = join_only
 
-  pub join-in-place-only : Determined (λ (a : Placed). heardPlaced a ≡ joinStep j packet gather out)
-  join-in-place-only =
-      by-view heardPlaced placed_of placedOf-heard (placed_of (joinStep j packet gather out)) (joinStep j packet gather out)
-      (heard-placedOf (joinStep j packet gather out) (join-fine j gather out packet))
+  pub join_in_place_only : Determined (λ (a : Placed). heard_placed a ≡ join_step j packet gather out)
+  join_in_place_only =
+      by_view heard_placed placed_of placed_of_heard (placed_of (join_step j packet gather out)) (join_step j packet gather out)
+      (heard_placed_of (join_step j packet gather out) (join_fine j gather out packet))
 
 -- ---- closing
 
-abbrev closedOf : Said Accepted → Closed
-closedOf (says a) = closed.Closed a.first a.count
-closedOf (refused r) = closed.Refused (errorOf r)
+abbrev closed_of : Said Accepted → Closed
+closed_of (says a) = closed.Closed a.first a.count
+closed_of (refused r) = closed.Refused (error_of r)
 
-closedOf-said : (a : Closed) → closedOf (saidClosed a) ≡ a
-closedOf-said (closed.Closed first count) = refl
-closedOf-said (closed.Refused e) = ap closed.Refused (errorOf-refusalOf e)
+closed_of_said : (a : Closed) → closed_of (said_closed a) ≡ a
+closed_of_said (closed.Closed first count) = refl
+closed_of_said (closed.Refused e) = ap closed.Refused (error_of_refusal_of e)
 
-abbrev closingOf : ClosingStepped → Closing
-closingOf st = record { joiner = st.joiner; answer = closedOf st.answer }
+abbrev closing_of : ClosingStepped → Closing
+closing_of st = record { joiner = st.joiner; answer = closed_of st.answer }
 
-closingOf-heard : (a : Closing) → closingOf (closingHeard a) ≡ a
-closingOf-heard a = ap (λ (c : Closed). record { joiner = a.joiner; answer = c }) (closedOf-said a.answer)
+closing_of_heard : (a : Closing) → closing_of (closing_heard a) ≡ a
+closing_of_heard a = ap (λ (c : Closed). record { joiner = a.joiner; answer = c }) (closed_of_said a.answer)
 
-heard-closingOf : (j : Joiner) (number : ℕ) → closingHeard (closingOf (closeStep j number)) ≡ closeStep j number
-unfolding closeStep
-heard-closingOf j number =
-    closing-cases (choice_of j) (λ st. closingHeard (closingOf (asClosing j st)) ≡ asClosing j st) (keptOf j) number refl refl refl refl (λ d. refl)
+heard_closing_of : (j : Joiner) (number : ℕ) → closing_heard (closing_of (close_step j number)) ≡ close_step j number
+unfolding close_step
+heard_closing_of j number =
+    closing_cases (choice_of j) (λ st. closing_heard (closing_of (as_closing j st)) ≡ as_closing j st) (kept_of j) number refl refl refl refl (λ d. refl)
 
-pub close-only : (j : Joiner) (number : ℕ) → Determined (λ (r : Closing). closingHeard r ≡ closeStep j number)
-close-only j number =
-    by-view closingHeard closingOf closingOf-heard (closingOf (closeStep j number)) (closeStep j number) (heard-closingOf j number)
+pub close_only : (j : Joiner) (number : ℕ) → Determined (λ (r : Closing). closing_heard r ≡ close_step j number)
+close_only j number =
+    by_view closing_heard closing_of closing_of_heard (closing_of (close_step j number)) (close_step j number) (heard_closing_of j number)

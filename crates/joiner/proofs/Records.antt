@@ -37,8 +37,8 @@ slice x = slice_val x.ref_ptr (length x.now)
 abbrev pub step : Joiner → Joined → Step
 step h r = record { joiner = h; answer = r }
 
-abbrev pub step-val : Joiner → Joined → Val
-step-val h r = LL.val S.the_type S'.the_laws (step h r)
+abbrev pub step_val : Joiner → Joined → Val
+step_val h r = LL.val S.the_type S'.the_laws (step h r)
 
 -- what whoever holds a Step knows of its joiner and of its answer
 pub parts : (r : Step) (w : Val) → Is S.the_row r (w ∷ []) → Is J.the_row r.joiner (vals r.joiner) × Is R.the_row r.answer (answer r.answer ∷ [])
@@ -47,16 +47,16 @@ parts r w is =
     (fields.0, fields.1.0)
 
 -- and what whoever makes one owes
-pub made : (h : Joiner) (r : Joined) → Is J.the_row h (vals h) → Is R.the_row r (answer r ∷ []) → Is S.the_row (step h r) (step-val h r ∷ [])
-made h r is-h is-r = LL.owes S.the_type S'.the_laws (step h r) (is-h, (is-r, tt))
+pub made : (h : Joiner) (r : Joined) → Is J.the_row h (vals h) → Is R.the_row r (answer r ∷ []) → Is S.the_row (step h r) (step_val h r ∷ [])
+made h r is-h is_r = LL.owes S.the_type S'.the_laws (step h r) (is-h, (is_r, tt))
 
 -- what is held has its MIR type
 module _ {M : Type 1} {𝓤 : Ura M} (𝓛 : Logic 𝓤) where
   pub typed : (h : Joiner) → Is J.the_row h (vals h) → Holds (has_ty J'.mir (val h)) × WT (val h)
   typed h is = ((LL.lawful J.the_type J'.the_laws 𝓛).typed h (vals h) is).0
 
-  pub typed-step : (r : Step) (w : Val) → Is S.the_row r (w ∷ []) → Holds (has_ty S'.mir w) × WT w
-  typed-step r w is = ((LL.lawful S.the_type S'.the_laws 𝓛).typed r (w ∷ []) is).0
+  pub typed_step : (r : Step) (w : Val) → Is S.the_row r (w ∷ []) → Holds (has_ty S'.mir w) × WT w
+  typed_step r w is = ((LL.lawful S.the_type S'.the_laws 𝓛).typed r (w ∷ []) is).0
 
-  pub typed-answer : (r : Joined) (w : Val) → Is R.the_row r (w ∷ []) → Holds (has_ty R'.mir w) × WT w
-  typed-answer r w is = ((EL.lawful R.the_type R'.the_laws 𝓛 tt).typed r (w ∷ []) is).0
+  pub typed_answer : (r : Joined) (w : Val) → Is R.the_row r (w ∷ []) → Holds (has_ty R'.mir w) × WT w
+  typed_answer r w is = ((EL.lawful R.the_type R'.the_laws 𝓛 tt).typed r (w ∷ []) is).0

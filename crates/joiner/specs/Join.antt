@@ -2,7 +2,7 @@
 use Rattle.std.specs.Prelude.{Bool, true, false, List, ℕ}
 use Rattle.error.specs.Said.{Said, says, refused}
 use Rattle.wire.specs.Part.{part}
-use Rattle.packet.specs.Read.{PacketReading, readPacket}
+use Rattle.packet.specs.Read.{PacketReading, read_packet}
 use Rattle.joiner_step.specs.Choice.{Arrived, Choice}
 use Rattle.joiner_step.specs.Step.{Kept, step, closing, opening}
 use Rattle.joiner_step.specs.Step as any
@@ -14,8 +14,8 @@ use Rattle.joiner.specs.declared.Prefix.TheVariants as prefix
 
 -- ---- the record
 
-abbrev pub keptOf : Joiner → Kept Note
-keptOf j =
+abbrev pub kept_of : Joiner → Kept Note
+kept_of j =
     record {
       source = j.source;
       awaited = j.awaited;
@@ -25,8 +25,8 @@ keptOf j =
     }
 
 -- beside the prefix that it was opened with
-abbrev pub joinerOf : Bool → Kept Note → Joiner
-joinerOf avc k =
+abbrev pub joiner_of : Bool → Kept Note → Joiner
+joiner_of avc k =
     record {
       source = k.source;
       awaited = k.awaited;
@@ -46,11 +46,11 @@ abbrev pub ClosingStepped : Type 0
 ClosingStepped = any.ClosingStepped Joiner
 
 -- a call leaves the prefix of the record as it was
-abbrev pub asStep : Joiner → any.Stepped (Kept Note) → Stepped
-asStep j st = record { joiner = joinerOf j.is_avc st.joiner; answer = st.answer; gather = st.gather; out = st.out }
+abbrev pub as_step : Joiner → any.Stepped (Kept Note) → Stepped
+as_step j st = record { joiner = joiner_of j.is_avc st.joiner; answer = st.answer; gather = st.gather; out = st.out }
 
-abbrev pub asClosing : Joiner → any.ClosingStepped (Kept Note) → ClosingStepped
-asClosing j st = record { joiner = joinerOf j.is_avc st.joiner; answer = st.answer }
+abbrev pub as_closing : Joiner → any.ClosingStepped (Kept Note) → ClosingStepped
+as_closing j st = record { joiner = joiner_of j.is_avc st.joiner; answer = st.answer }
 
 -- ---- what it was opened with
 
@@ -63,9 +63,9 @@ pub record Known : Type 0 where
 abbrev pub known : ℕ → List ℕ → Known
 known time payload = record { time = time; payload = payload }
 
-abbrev pub arrivedIn : List ℕ → Said PacketReading → Said (Arrived Known)
-arrivedIn packet (refused r) = refused r
-arrivedIn packet (says r) =
+abbrev pub arrived_in : List ℕ → Said PacketReading → Said (Arrived Known)
+arrived_in packet (refused r) = refused r
+arrived_in packet (says r) =
     says
     (record {
       source = r.fields.source;
@@ -75,30 +75,30 @@ arrivedIn packet (says r) =
 
 -- by the packet's reader and H.264's checks, with this prefix
 abbrev pub choice : Bool → Choice Known Timed Note
-choice avc = choosing (λ packet. arrivedIn packet (readPacket packet)) (λ p. p.time) (λ p. check p.payload) avc
+choice avc = choosing (λ packet. arrived_in packet (read_packet packet)) (λ p. p.time) (λ p. check p.payload) avc
 
 -- "a four-byte length before each unit", or "start codes" (E2)
-abbrev pub avcFor : Prefix → Bool
-avcFor prefix.Length = true
-avcFor prefix.StartCode = false
+abbrev pub avc_for : Prefix → Bool
+avc_for prefix.Length = true
+avc_for prefix.StartCode = false
 
-abbrev pub avcOf : Joiner → Bool
-avcOf j = j.is_avc
+abbrev pub avc_of : Joiner → Bool
+avc_of j = j.is_avc
 
 abbrev pub choice_of : Joiner → Choice Known Timed Note
-choice_of j = choice (avcOf j)
+choice_of j = choice (avc_of j)
 
 -- ---- its calls
 
-unfoldable pub joinStep : Joiner → List ℕ → List ℕ → List ℕ → Stepped
-joinStep j packet gather out = asStep j (step (choice_of j) (keptOf j) packet gather out)
+unfoldable pub join_step : Joiner → List ℕ → List ℕ → List ℕ → Stepped
+join_step j packet gather out = as_step j (step (choice_of j) (kept_of j) packet gather out)
 
-unfoldable pub closeStep : Joiner → ℕ → ClosingStepped
-closeStep j number = asClosing j (closing (choice_of j) (keptOf j) number)
+unfoldable pub close_step : Joiner → ℕ → ClosingStepped
+close_step j number = as_closing j (closing (choice_of j) (kept_of j) number)
 
-unfoldable pub openedWith : ℕ → ℕ → Prefix → Joiner
-openedWith source first p = joinerOf (avcFor p) (opening (choice (avcFor p)) source first)
+unfoldable pub opened_with : ℕ → ℕ → Prefix → Joiner
+opened_with source first p = joiner_of (avc_for p) (opening (choice (avc_for p)) source first)
 
 -- "Make that the joiner's default"
 abbrev pub opened : ℕ → ℕ → Joiner
-opened source first = openedWith source first prefix.Length
+opened source first = opened_with source first prefix.Length

@@ -1,6 +1,6 @@
 -- What each answer says, in the paper's numbers and values. Assumes nothing.
 use Rattle.std.specs.Prelude.{false, cond, List, ℕ, eqb}
-use Rattle.error.specs.Refusal.{refusalOf}
+use Rattle.error.specs.Refusal.{refusal_of}
 use Rattle.error.specs.Said.{Said, says, refused}
 use Rattle.sequence.specs.Number.{next_of}
 use Rattle.nal.specs.Ran.{RanOn}
@@ -14,27 +14,27 @@ use Rattle.joiner.specs.declared.Step.{Step}
 use Rattle.joiner.specs.declared.Closed.{Closed}
 use Rattle.joiner.specs.declared.Closed.TheVariants as closed
 use Rattle.joiner.specs.declared.Closing.{Closing}
-use Rattle.joiner.specs.Join.{keptOf, Stepped, ClosingStepped}
+use Rattle.joiner.specs.Join.{kept_of, Stepped, ClosingStepped}
 
-abbrev pub saidJoined : Joined → Said Answer
-saidJoined (joined.Accepted first count bytes) = says (accepted (record { first = first; count = count; bytes = bytes }))
-saidJoined joined.Late = says late
-saidJoined (joined.Refused e) = refused (refusalOf e)
+abbrev pub said_joined : Joined → Said Answer
+said_joined (joined.Accepted first count bytes) = says (accepted (record { first = first; count = count; bytes = bytes }))
+said_joined joined.Late = says late
+said_joined (joined.Refused e) = refused (refusal_of e)
 
-abbrev pub stepHeard : Step → List ℕ → List ℕ → Stepped
-stepHeard s gather out = record { joiner = s.joiner; answer = saidJoined s.answer; gather = gather; out = out }
+abbrev pub step_heard : Step → List ℕ → List ℕ → Stepped
+step_heard s gather out = record { joiner = s.joiner; answer = said_joined s.answer; gather = gather; out = out }
 
 -- the same where the record is lent
-abbrev pub placeHeard : Joiner → Joined → List ℕ → List ℕ → Stepped
-placeHeard j r gather out = record { joiner = j; answer = saidJoined r; gather = gather; out = out }
+abbrev pub place_heard : Joiner → Joined → List ℕ → List ℕ → Stepped
+place_heard j r gather out = record { joiner = j; answer = said_joined r; gather = gather; out = out }
 
 -- "d > 0 drops the open run": the run that a payload is fed to
 abbrev pub held_at : Joiner → ℕ → Run
-held_at j d = cond (eqb d 0) (run_from (keptOf j).run) no_run
+held_at j d = cond (eqb d 0) (run_from (kept_of j).run) no_run
 
 -- what an accepted packet's fate makes of the record and of the answer
-abbrev pub acceptedJoiner : Joiner → ℕ → ℕ → Said (RanOn Run) → Joiner
-acceptedJoiner j number missed (says r) =
+abbrev pub accepted_joiner : Joiner → ℕ → ℕ → Said (RanOn Run) → Joiner
+accepted_joiner j number missed (says r) =
     record {
       source = j.source;
       awaited = next_of number;
@@ -46,15 +46,15 @@ acceptedJoiner j number missed (says r) =
       closed = false;
       is_avc = j.is_avc;
     }
-acceptedJoiner j number missed (refused r) = j
+accepted_joiner j number missed (refused r) = j
 
-abbrev pub acceptedAnswer : Joiner → ℕ → Said (RanOn Run) → Said Answer
-acceptedAnswer j d (says r) = says (accepted (record { first = j.awaited; count = d; bytes = r.bytes }))
-acceptedAnswer j d (refused r) = refused r
+abbrev pub accepted_answer : Joiner → ℕ → Said (RanOn Run) → Said Answer
+accepted_answer j d (says r) = says (accepted (record { first = j.awaited; count = d; bytes = r.bytes }))
+accepted_answer j d (refused r) = refused r
 
-abbrev pub saidClosed : Closed → Said Accepted
-saidClosed (closed.Closed first count) = says (record { first = first; count = count; bytes = 0 })
-saidClosed (closed.Refused e) = refused (refusalOf e)
+abbrev pub said_closed : Closed → Said Accepted
+said_closed (closed.Closed first count) = says (record { first = first; count = count; bytes = 0 })
+said_closed (closed.Refused e) = refused (refusal_of e)
 
-abbrev pub closingHeard : Closing → ClosingStepped
-closingHeard c = record { joiner = c.joiner; answer = saidClosed c.answer }
+abbrev pub closing_heard : Closing → ClosingStepped
+closing_heard c = record { joiner = c.joiner; answer = said_closed c.answer }

@@ -1,11 +1,11 @@
 // The joiner's calls.
 ghost use Rattle.std.specs.Prelude.{◌≡◌, true, false, ◌+◌, ◌≤◌, length};
-ghost use Rattle.error.specs.Refusal.{refusalOf};
+ghost use Rattle.error.specs.Refusal.{refusal_of};
 ghost use Rattle.error.specs.Said.{refused};
-ghost use Rattle.joiner_step.specs.Step.{bySource, stray};
-ghost use Rattle.joiner_feed.specs.Ran.{ranSaid};
-ghost use Rattle.joiner.specs.Join.{keptOf, asStep, known, choice_of, opened, openedWith, joinStep, closeStep};
-ghost use Rattle.joiner.specs.Said.{saidJoined, stepHeard, held_at, acceptedJoiner, acceptedAnswer, closingHeard};
+ghost use Rattle.joiner_step.specs.Step.{by_source, stray};
+ghost use Rattle.joiner_feed.specs.Ran.{ran_said};
+ghost use Rattle.joiner.specs.Join.{kept_of, as_step, known, choice_of, opened, opened_with, join_step, close_step};
+ghost use Rattle.joiner.specs.Said.{said_joined, step_heard, held_at, accepted_joiner, accepted_answer, closing_heard};
 
 use crate::{Closed, Closing, Joined, Joiner, Prefix, Step};
 use error::Error;
@@ -28,7 +28,7 @@ impl Joiner {
 
     // "with start codes as the named choice"
     pub fn open_with(ssrc: u32, first: u16, prefix: Prefix) -> Self
-        ensures { result ≡ openedWith ssrc first prefix }
+        ensures { result ≡ opened_with ssrc first prefix }
     {
         let is_avc = match prefix {
             Prefix::Length => true,
@@ -49,7 +49,7 @@ impl Joiner {
 
     // Something of a run is said where none is open: no call makes such a record.
     fn strays(self) -> bool
-        ensures { result ≡ stray (choice_of self) (keptOf self).run }
+        ensures { result ≡ stray (choice_of self) (kept_of self).run }
     {
         if self.running {
             return false;
@@ -90,7 +90,7 @@ impl Joiner {
 
     // A packet of the sender's was accepted after `d` numbers were passed over.
     fn accept(self, d: u16, number: u16, missed: u32, ran: Ran) -> Step
-        ensures { (result.joiner ≡ acceptedJoiner self number missed (ranSaid ran)) × (saidJoined result.answer ≡ acceptedAnswer self d (ranSaid ran)) }
+        ensures { (result.joiner ≡ accepted_joiner self number missed (ran_said ran)) × (said_joined result.answer ≡ accepted_answer self d (ran_said ran)) }
     {
         match ran {
             Ran::On { run, bytes } => Step {
@@ -126,7 +126,7 @@ impl Joiner {
         out: &mut [u8],
     ) -> Step
         requires { (length payload.now ≤ 65535) × (self.gathered ≤ length gather.old) × (self.closed ≡ false) }
-        ensures { stepHeard result gather.new out.new ≡ asStep self (bySource (choice_of self) (keptOf self) (record { source = source; number = number; known = known time payload.now }) gather.old out.old) }
+        ensures { step_heard result gather.new out.new ≡ as_step self (by_source (choice_of self) (kept_of self) (record { source = source; number = number; known = known time payload.now }) gather.old out.old) }
     {
         if source != self.source {
             return self.unchanged(Joined::Refused(Error::OtherSource));
@@ -144,7 +144,7 @@ impl Joiner {
     }
 
     pub fn join(self, packet: &[u8], gather: &mut [u8], out: &mut [u8]) -> Step
-        ensures { stepHeard result gather.new out.new ≡ joinStep self packet.now gather.old out.old }
+        ensures { step_heard result gather.new out.new ≡ join_step self packet.now gather.old out.old }
     {
         if self.closed {
             return self.unchanged(Joined::Refused(Error::AlreadyClosed));
@@ -173,7 +173,7 @@ impl Joiner {
     }
 
     pub fn close(self, number: u16) -> Closing
-        ensures { closingHeard result ≡ closeStep self number }
+        ensures { closing_heard result ≡ close_step self number }
     {
         if self.closed {
             return still_open(self, Error::AlreadyClosed);
@@ -213,7 +213,7 @@ impl Joiner {
 }
 
 fn still_open(joiner: Joiner, e: Error) -> Closing
-    ensures { closingHeard result ≡ record { joiner = joiner; answer = refused (refusalOf e) } }
+    ensures { closing_heard result ≡ record { joiner = joiner; answer = refused (refusal_of e) } }
 {
     Closing {
         joiner,

@@ -15,17 +15,17 @@ pub record Fragment : Type 0 where
   pub marked : Bool
   pub part : List ℕ
 
-abbrev pub partIn : Fragment → List ℕ
-partIn f = f.part
+abbrev pub part_in : Fragment → List ℕ
+part_in f = f.part
 
 -- one behind the other
 abbrev pub together : Fragment → Fragment → Fragment
 together a b = record { marked = a.marked || b.marked; part = a.part ++ b.part }
 
 -- one of them has its top bit set
-abbrev pub markedIn : List Fragment → Bool
-markedIn [] = false
-markedIn (f ∷ fs) = f.marked || markedIn fs
+abbrev pub marked_in : List Fragment → Bool
+marked_in [] = false
+marked_in (f ∷ fs) = f.marked || marked_in fs
 
 pub data Content : Type 0 where
   -- units by themselves
@@ -57,8 +57,8 @@ pub record Note : Type 0 where
 abbrev pub blank : Note
 blank = record { marked = false; time = 0 }
 
-abbrev pub isNoted : Note → Bool
-isNoted note = note.marked || not (eqb note.time 0)
+abbrev pub is_noted : Note → Bool
+is_noted note = note.marked || not (eqb note.time 0)
 
 -- with a further fragment
 abbrev pub onward : Note → Fragment → Note
@@ -76,17 +76,17 @@ topped set [] = []
 topped set (b ∷ bytes) = top_bit set b ∷ bytes
 
 -- "25: fragment of another time"
-abbrev pub inTime : Note → ℕ → Does Note → Said (Does Note)
-inTime note time x = cond (eqb time note.time) (says x) (refuse 25)
+abbrev pub in_time : Note → ℕ → Does Note → Said (Does Note)
+in_time note time x = cond (eqb time note.time) (says x) (refuse 25)
 
 abbrev pub fed : Run Note → ℕ → Content → Said (Does Note)
 fed run time (whole units) = says (hands units)
 fed run time (start f) = says (gathers (record { marked = f.marked; time = time }) f.part)
 fed none time (middle f) = says (hands [])
-fed (gathering note bytes) time (middle f) = inTime note time (gathers (onward note f) (bytes ++ f.part))
+fed (gathering note bytes) time (middle f) = in_time note time (gathers (onward note f) (bytes ++ f.part))
 fed none time (end head f) = says (hands [])
 fed (gathering note bytes) time (end head f) =
-    inTime note time (ends (bytes ++ f.part) (topped (onward note f).marked head ++ (bytes ++ f.part)))
+    in_time note time (ends (bytes ++ f.part) (topped (onward note f).marked head ++ (bytes ++ f.part)))
 
 -- a joiner of this reader, these checks and this prefix; `time` is a packet's timestamp
 abbrev pub choosing : {P : Type 0} → (List ℕ → Said (Arrived P)) → (time : P → ℕ) → (P → Said Content) → Bool → Choice P Timed Note
@@ -97,11 +97,11 @@ choosing reads time check avc =
       feed = λ run x. fed run x.time x.content;
       avc = avc;
       blank = blank;
-      noted = isNoted;
-      blank-says-nothing = refl;
+      noted = is_noted;
+      blank_says_nothing = refl;
     }
 
 -- after the checks
-abbrev pub fedAfter : Run Note → ℕ → Said Content → Said (Does Note)
-fedAfter run time (says x) = fed run time x
-fedAfter run time (refused r) = refused r
+abbrev pub fed_after : Run Note → ℕ → Said Content → Said (Does Note)
+fed_after run time (says x) = fed run time x
+fed_after run time (refused r) = refused r

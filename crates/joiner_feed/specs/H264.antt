@@ -7,17 +7,17 @@ use Rattle.nal_read.specs.Unpack.{unpack}
 use Rattle.joiner_step.specs.Run.{Units}
 use Rattle.joiner_feed.specs.Content.{Fragment, Content, whole, start, middle, end}
 
-abbrev pub wholeSaid : Said Units → Said Content
-wholeSaid (says units) = says (whole units)
-wholeSaid (refused r) = refused r
+abbrev pub whole_said : Said Units → Said Content
+whole_said (says units) = says (whole units)
+whole_said (refused r) = refused r
 
 -- RFC 6184, section 5.3: F, the top bit of a payload's first byte
 abbrev pub forbidden : List ℕ → Bool
 forbidden payload = bit (get_or payload 0 0 / 128)
 
 -- an FU-A, whose part of the unit stands behind two bytes
-abbrev pub fragmentIn : List ℕ → Fragment
-fragmentIn payload = record { marked = forbidden payload; part = drop 2 payload }
+abbrev pub fragment_in : List ℕ → Fragment
+fragment_in payload = record { marked = forbidden payload; part = drop 2 payload }
 
 -- "21: FU-A with start and end both set"; "its first byte being NRI and type as in 002"
 abbrev pub fragmented : Bool → Bool → ℕ → Fragment → Said Content
@@ -27,12 +27,12 @@ fragmented false false head f = says (middle f)
 fragmented false true head f = says (end (head ∷ []) f)
 
 -- by the payload's shape; "21 before 17"
-abbrev pub checkBy : Shape → List ℕ → Said Content
-checkBy short payload = refuse 4
-checkBy (unknown t) payload = refused (record { number = 19; carried = t ∷ [] })
-checkBy plain payload = says (whole (payload ∷ []))
-checkBy aggregate payload = wholeSaid (unpack payload)
-checkBy (fragment first last head) payload = fragmented first last head (fragmentIn payload)
+abbrev pub check_by : Shape → List ℕ → Said Content
+check_by short payload = refuse 4
+check_by (unknown t) payload = refused (record { number = 19; carried = t ∷ [] })
+check_by plain payload = says (whole (payload ∷ []))
+check_by aggregate payload = whole_said (unpack payload)
+check_by (fragment first last head) payload = fragmented first last head (fragment_in payload)
 
 unfoldable pub check : List ℕ → Said Content
-check payload = checkBy (shape payload) payload
+check payload = check_by (shape payload) payload

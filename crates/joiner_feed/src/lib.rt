@@ -2,11 +2,11 @@
 //
 // Only proved code calls this crate, so its function may ask that the run lies in the gather buffer.
 ghost use Rattle.std.specs.Prelude.{◌≡◌, true, false, ◌&&◌, ◌||◌, ◌≤◌, length};
-ghost use Rattle.nal.specs.Said.{saidHanded};
+ghost use Rattle.nal.specs.Said.{said_handed};
 ghost use Rattle.nal.specs.Ran.{with_run};
-ghost use Rattle.joiner_feed.specs.Content.{top_bit, fedAfter};
-ghost use Rattle.joiner_feed.specs.H264.{forbidden, fragmentIn, fragmented, check};
-ghost use Rattle.joiner_feed.specs.Ran.{no_run, run_of, ranSaid, ranHeard, layDoes};
+ghost use Rattle.joiner_feed.specs.Content.{top_bit, fed_after};
+ghost use Rattle.joiner_feed.specs.H264.{forbidden, fragment_in, fragmented, check};
+ghost use Rattle.joiner_feed.specs.Ran.{no_run, run_of, ran_said, ran_heard, lay_does};
 
 use error::Error;
 use nal::Handed;
@@ -57,7 +57,7 @@ fn open_run(gathered: usize, marked: bool, time: u32) -> Run
 
 // The answer of gathering or handing out, where this run is open afterwards.
 fn with_run(handed: Handed, run: Run) -> Ran
-    ensures { ranSaid result ≡ with_run run (saidHanded handed) }
+    ensures { ran_said result ≡ with_run run (said_handed handed) }
 {
     match handed {
         Handed::Bytes(bytes) => Ran::On { run, bytes },
@@ -117,7 +117,7 @@ fn feed_later(
     out: &mut [u8],
 ) -> Ran
     requires { (2 ≤ length payload.now) × (length payload.now ≤ 65535) × (run.gathered ≤ length gather.old) }
-    ensures { ranHeard result gather.new out.new ≡ layDoes avc gather.old out.old (fedAfter (run_of run gather.old) run.time (fragmented false last head (fragmentIn payload.now))) }
+    ensures { ran_heard result gather.new out.new ≡ lay_does avc gather.old out.old (fed_after (run_of run gather.old) run.time (fragmented false last head (fragment_in payload.now))) }
 {
     let at = run.gathered;
     let n = payload.len() - 2;
@@ -154,7 +154,7 @@ fn feed_fragment(
     out: &mut [u8],
 ) -> Ran
     requires { (2 ≤ length payload.now) × (length payload.now ≤ 65535) × (run.gathered ≤ length gather.old) }
-    ensures { ranHeard result gather.new out.new ≡ layDoes avc gather.old out.old (fedAfter (run_of run gather.old) time (fragmented first last head (fragmentIn payload.now))) }
+    ensures { ran_heard result gather.new out.new ≡ lay_does avc gather.old out.old (fed_after (run_of run gather.old) time (fragmented first last head (fragment_in payload.now))) }
 {
     let n = payload.len() - 2;
     let marked = is_marked(payload);
@@ -184,7 +184,7 @@ pub fn feed(
     out: &mut [u8],
 ) -> Ran
     requires { (length payload.now ≤ 65535) × (run.gathered ≤ length gather.old) }
-    ensures { ranHeard result gather.new out.new ≡ layDoes avc gather.old out.old (fedAfter (run_of run gather.old) time (check payload.now)) }
+    ensures { ran_heard result gather.new out.new ≡ lay_does avc gather.old out.old (fed_after (run_of run gather.old) time (check payload.now)) }
 {
     let none = no_run();
     let kind = nal_read::kind_of(payload);

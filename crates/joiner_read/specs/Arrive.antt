@@ -1,6 +1,6 @@
 -- What the joiner needs of a packet, by the packet's reader. Assumes nothing.
 use Rattle.std.specs.Prelude.{ℕ}
-use Rattle.error.specs.Refusal.{refusalOf}
+use Rattle.error.specs.Refusal.{refusal_of}
 use Rattle.error.specs.Said.{Said, says, refused}
 use Rattle.packet.specs.Read.{PacketReading}
 use Rattle.joiner_read.specs.declared.Arrival.{Arrival}
@@ -13,13 +13,13 @@ pub record Arrived : Type 0 where
   pub place : ℕ
   pub len : ℕ
 
-abbrev pub arrivalSaid : Arrival → Said Arrived
-arrivalSaid (arrival.Packet source number time at len) =
+abbrev pub arrival_said : Arrival → Said Arrived
+arrival_said (arrival.Packet source number time at len) =
     says (record { source = source; number = number; time = time; place = at; len = len })
-arrivalSaid (arrival.Refused e) = refused (refusalOf e)
+arrival_said (arrival.Refused e) = refused (refusal_of e)
 
-abbrev pub arrivedBy : PacketReading → Arrived
-arrivedBy r =
+abbrev pub arrived_by : PacketReading → Arrived
+arrived_by r =
     record {
       source = r.fields.source;
       number = r.fields.number;
@@ -28,6 +28,6 @@ arrivedBy r =
       len = r.payload.len;
     }
 
-abbrev pub arrivalOf : Said PacketReading → Said Arrived
-arrivalOf (says r) = says (arrivedBy r)
-arrivalOf (refused r) = refused r
+abbrev pub arrival_of : Said PacketReading → Said Arrived
+arrival_of (says r) = says (arrived_by r)
+arrival_of (refused r) = refused r

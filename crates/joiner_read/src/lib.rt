@@ -1,7 +1,7 @@
 // What the joiner needs of a packet: its source, its number, its timestamp, and where its payload is.
 ghost use Rattle.std.specs.Prelude.{◌≡◌};
-ghost use Rattle.packet.specs.Read.{readPacket};
-ghost use Rattle.joiner_read.specs.Arrive.{arrivalSaid, arrivalOf};
+ghost use Rattle.packet.specs.Read.{read_packet};
+ghost use Rattle.joiner_read.specs.Arrive.{arrival_said, arrival_of};
 
 use error::Error;
 use packet::PacketRead;
@@ -21,7 +21,7 @@ pub enum Arrival {
 
 // By the packet's reader.
 fn read(packet: &[u8]) -> Arrival
-    ensures { arrivalSaid result ≡ arrivalOf (readPacket packet.now) }
+    ensures { arrival_said result ≡ arrival_of (read_packet packet.now) }
 {
     let answer = packet::unmarshal_front(packet);
     let read = answer.read;
@@ -39,7 +39,7 @@ fn read(packet: &[u8]) -> Arrival
 
 // Of a packet without padding and extensions all that is needed stands at fixed places.
 pub fn arrive(packet: &[u8]) -> Arrival
-    ensures { arrivalSaid result ≡ arrivalOf (readPacket packet.now) }
+    ensures { arrival_said result ≡ arrival_of (read_packet packet.now) }
 {
     if packet.len() < 12 {
         return read(packet);

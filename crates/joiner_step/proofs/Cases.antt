@@ -6,21 +6,21 @@ use Prim.Native.Nat.{ℕ, ◌+◌}
 use lib.Dec.{ltb, leb, eqb}
 use Rattle.error.specs.Refusal.{Refusal}
 use Rattle.error.specs.Said.{Said, says, refused, refuse}
-use Rattle.nal.specs.Fed.{Laid, layBoth}
+use Rattle.nal.specs.Fed.{Laid, lay_both}
 use Rattle.sequence.specs.Number.{distance_of}
-use Rattle.joiner_step.specs.Run.{Run, Does, fedBy}
+use Rattle.joiner_step.specs.Run.{Run, Does, fed_by}
 use Rattle.joiner_step.specs.Choice.{Arrived, Choice}
-use Rattle.joiner_step.specs.Step.{Kept, late, Stepped, unchanged, ClosingStepped, stillOpen, outside, wrong, laidBy, fedTo, runAt, byCheck, byDistance, bySource, byReading, step, shut, closing}
+use Rattle.joiner_step.specs.Step.{Kept, late, Stepped, unchanged, ClosingStepped, still_open, outside, wrong, laid_by, fed_to, run_at, by_check, by_distance, by_source, by_reading, step, shut, closing}
 
 -- by a test, whichever way it goes
-by-test : {A : Type 0} (Q : A → Type 0) {x y : A} (b : Bool) → Q x → Q y → Q (cond b x y)
-by-test Q true p q = p
-by-test Q false p q = q
+by_test : {A : Type 0} (Q : A → Type 0) {x y : A} (b : Bool) → Q x → Q y → Q (cond b x y)
+by_test Q true p q = p
+by_test Q false p q = q
 
 module _ {P C N : Type 0} (c : Choice P C N) (Q : Stepped (Kept N) → Type 0) (j : Kept N) (packet gather out : List ℕ) where
   -- the packet's bytes and units laid into the buffers, or 6 or 5
   abbrev laid : Does N → Laid ℕ
-  laid x = layBoth c.avc gather out (fedBy x).kept (fedBy x).handed
+  laid x = lay_both c.avc gather out (fed_by x).kept (fed_by x).handed
 
   pub record Outcomes : Type 0 where
     -- "22", 8, "20", Late, "24"
@@ -35,39 +35,39 @@ module _ {P C N : Type 0} (c : Choice P C N) (Q : Stepped (Kept N) → Type 0) (
     pub unfit : (run : Run N) (x : C) (r : Refusal) → c.feed run x ≡ refused r → Q (unchanged j gather out (refused r))
     -- the packet was fed to the run
     pub fed : (a : Arrived P) → c.reads packet ≡ says a → (x : C) → c.check a.known ≡ says x → (run : Run N) (y : Does N) → c.feed run x ≡ says y →
-        (d : ℕ) → Q (laidBy c j d a.number (fedBy y).run (laid y) (laid y).answer)
+        (d : ℕ) → Q (laid_by c j d a.number (fed_by y).run (laid y) (laid y).answer)
 
   module _ (o : Outcomes) where
-    by-feed : (a : Arrived P) → c.reads packet ≡ says a → (x : C) → c.check a.known ≡ says x → (run : Run N) (d : ℕ) →
-        (y : Said (Does N)) → c.feed run x ≡ y → Q (fedTo c j d a.number gather out y)
-    by-feed a e x f run d (refused r) g = o.unfit run x r g
-    by-feed a e x f run d (says y) g = o.fed a e x f run y g d
+    by_feed : (a : Arrived P) → c.reads packet ≡ says a → (x : C) → c.check a.known ≡ says x → (run : Run N) (d : ℕ) →
+        (y : Said (Does N)) → c.feed run x ≡ y → Q (fed_to c j d a.number gather out y)
+    by_feed a e x f run d (refused r) g = o.unfit run x r g
+    by_feed a e x f run d (says y) g = o.fed a e x f run y g d
 
-    by-check : (a : Arrived P) → c.reads packet ≡ says a → (d : ℕ) → (x : Said C) → c.check a.known ≡ x →
-        Q (byCheck c j d a.number gather out x)
-    by-check a e d (refused r) f = o.bad a e r f
-    by-check a e d (says x) f = by-feed a e x f (runAt c j d gather) d (c.feed (runAt c j d gather) x) refl
+    by_check_lem : (a : Arrived P) → c.reads packet ≡ says a → (d : ℕ) → (x : Said C) → c.check a.known ≡ x →
+        Q (by_check c j d a.number gather out x)
+    by_check_lem a e d (refused r) f = o.bad a e r f
+    by_check_lem a e d (says x) f = by_feed a e x f (run_at c j d gather) d (c.feed (run_at c j d gather) x) refl
 
-    by-reading : (x : Said (Arrived P)) → c.reads packet ≡ x → Q (byReading c j gather out x)
-    unfolding bySource
-    by-reading (refused r) e = o.unread r e
-    by-reading (says a) e =
+    by_reading_lem : (x : Said (Arrived P)) → c.reads packet ≡ x → Q (by_reading c j gather out x)
+    unfolding by_source
+    by_reading_lem (refused r) e = o.unread r e
+    by_reading_lem (says a) e =
         let d : ℕ = distance_of a.number j.awaited in
-        by-test Q (eqb a.source j.source)
-        (by-test Q (leb 32768 d) o.behind (by-test Q (ltb 4294967295 (j.missed + d)) o.full (by-check a e d (c.check a.known) refl)))
+        by_test Q (eqb a.source j.source)
+        (by_test Q (leb 32768 d) o.behind (by_test Q (ltb 4294967295 (j.missed + d)) o.full (by_check_lem a e d (c.check a.known) refl)))
         o.foreign
 
-    pub step-cases : Q (step c j packet gather out)
+    pub step_cases : Q (step c j packet gather out)
     unfolding step
-    step-cases =
-        by-test Q j.closed o.closed (by-test Q (outside c j.run gather) o.outside (by-reading (c.reads packet) refl))
+    step_cases =
+        by_test Q j.closed o.closed (by_test Q (outside c j.run gather) o.outside (by_reading_lem (c.reads packet) refl))
 
 module _ {P C N : Type 0} (c : Choice P C N) (Q : ClosingStepped (Kept N) → Type 0) (j : Kept N) (number : ℕ) where
-  pub closing-cases : Q (stillOpen j 22) → Q (stillOpen j 8) → Q (stillOpen j 23) → Q (stillOpen j 24) →
+  pub closing_cases : Q (still_open j 22) → Q (still_open j 8) → Q (still_open j 23) → Q (still_open j 24) →
       ((d : ℕ) → Q (record { joiner = shut c j d; answer = says (record { first = j.awaited; count = d; bytes = 0 }) })) →
       Q (closing c j number)
   unfolding closing
-  closing-cases closed outside far full ends =
+  closing_cases closed outside far full ends =
       let d : ℕ = distance_of number j.awaited in
-      by-test Q j.closed closed
-      (by-test Q (wrong c j.run) outside (by-test Q (leb 32768 d) far (by-test Q (ltb 4294967295 (j.missed + d)) full (ends d))))
+      by_test Q j.closed closed
+      (by_test Q (wrong c j.run) outside (by_test Q (leb 32768 d) far (by_test Q (ltb 4294967295 (j.missed + d)) full (ends d))))

@@ -11,15 +11,15 @@ use borrow.Author.Tests.{ltb-false, le-ltb}
 use Rattle.error.specs.Refusal.{Refusal}
 use Rattle.error.specs.Said.{Said, says, refused}
 use Rattle.wire.specs.Part.{splice}
-use Rattle.wire.proofs.Bools.{or-false-left, or-false-right}
-use Rattle.wire.proofs.Part.{part-of-splice, length-splice}
-use Rattle.nal.specs.Fed.{is_over, tooLong}
+use Rattle.wire.proofs.Bools.{or_false_left, or_false_right}
+use Rattle.wire.proofs.Part.{part_of_splice, length_splice}
+use Rattle.nal.specs.Fed.{is_over, too_long}
 use Rattle.sequence.specs.Codec.{Fed, refusal, fed}
-use Rattle.sequence.specs.Refines.{fedAs, Refines}
-use Rattle.joiner_step.specs.Run.{Units, Run, gathering, Does, hands, gathers, ends, fedBy, nothing, held_of}
+use Rattle.sequence.specs.Refines.{fed_as, Refines}
+use Rattle.joiner_step.specs.Run.{Units, Run, gathering, Does, hands, gathers, ends, fed_by, nothing, held_of}
 use Rattle.joiner_step.specs.Choice.{Choice}
 use Rattle.joiner_step.specs.Step.{wrong, outside}
-use Rattle.joiner_step.specs.General.{Room, refusing, groupIn, Lying, within, codec, lain, lyingCodec, runIn}
+use Rattle.joiner_step.specs.General.{Room, refusing, group_in, Lying, within, codec, lain, lying_codec, run_in}
 
 -- what is gathered has room
 pub record Roomy (n most : ℕ) : Type 0 where
@@ -29,8 +29,8 @@ pub record Roomy (n most : ℕ) : Type 0 where
 pub roomy : (n most : ℕ) → is_over most n ≡ false → Roomy n most
 roomy n most e =
     record {
-      fits = ltb-false most n (or-false-left (ltb most n) (ltb 16777215 n) e);
-      few = ltb-false 16777215 n (or-false-right (ltb most n) (ltb 16777215 n) e);
+      fits = ltb-false most n (or_false_left (ltb most n) (ltb 16777215 n) e);
+      few = ltb-false 16777215 n (or_false_right (ltb most n) (ltb 16777215 n) e);
     }
 
 module _ {P C N : Type 0} (c : Choice P C N) where
@@ -40,69 +40,69 @@ module _ {P C N : Type 0} (c : Choice P C N) where
     pub inside : outside c l.held l.gather ≡ false
 
   -- no run is open
-  nothing-inside : (gather : List ℕ) → outside c (nothing c.blank) gather ≡ false
-  nothing-inside gather = rw (le-ltb (length gather) 0 (omega arith)) c.blank-says-nothing
+  nothing_inside : (gather : List ℕ) → outside c (nothing c.blank) gather ≡ false
+  nothing_inside gather = rw (le-ltb (length gather) 0 (omega arith)) c.blank_says_nothing
 
   -- ---- what a packet leaves
 
   abbrev laid : List ℕ → Does N → Lying N
-  laid gather x = record { held = held_of c.blank (fedBy x).run; gather = splice gather 0 (fedBy x).kept }
+  laid gather x = record { held = held_of c.blank (fed_by x).run; gather = splice gather 0 (fed_by x).kept }
 
   -- the record's length and the gather buffer stand for the run
-  run-stands : (gather : List ℕ) (x : Does N) → length (fedBy x).kept ≤ length gather → runIn (laid gather x) ≡ (fedBy x).run
-  run-stands gather (hands us) h = refl
-  run-stands gather (gathers note bytes) h = ap (gathering note) (part-of-splice gather 0 bytes (omega arith))
-  run-stands gather (ends bytes unit) h = refl
+  run_stands : (gather : List ℕ) (x : Does N) → length (fed_by x).kept ≤ length gather → run_in (laid gather x) ≡ (fed_by x).run
+  run_stands gather (hands us) h = refl
+  run_stands gather (gathers note bytes) h = ap (gathering note) (part_of_splice gather 0 bytes (omega arith))
+  run_stands gather (ends bytes unit) h = refl
 
-  pub laid-fits : (k : Room) (gather : List ℕ) (x : Does N) → length gather ≡ k.gather → tooLong gather (fedBy x).kept ≡ false → Fit k (laid gather x)
-  laid-fits k gather x same e = record { same_length = length-splice gather 0 (fedBy x).kept (omega (arith, room.fits)) ∙ same; inside = go x refl }
+  pub laid_fits : (k : Room) (gather : List ℕ) (x : Does N) → length gather ≡ k.gather → too_long gather (fed_by x).kept ≡ false → Fit k (laid gather x)
+  laid_fits k gather x same e = record { same_length = length_splice gather 0 (fed_by x).kept (omega (arith, room.fits)) ∙ same; inside = go x refl }
     where
-      room : Roomy (length (fedBy x).kept) (length gather)
-      room = roomy (length (fedBy x).kept) (length gather) e
+      room : Roomy (length (fed_by x).kept) (length gather)
+      room = roomy (length (fed_by x).kept) (length gather) e
 
-      go : (y : Does N) → x ≡ y → outside c (held_of c.blank (fedBy y).run) (splice gather 0 (fedBy y).kept) ≡ false
-      go (hands us) is = nothing-inside (splice gather 0 [])
+      go : (y : Does N) → x ≡ y → outside c (held_of c.blank (fed_by y).run) (splice gather 0 (fed_by y).kept) ≡ false
+      go (hands us) is = nothing_inside (splice gather 0 [])
       go (gathers note bytes) is =
-          let lies : length (splice gather 0 bytes) ≡ length gather = length-splice gather 0 bytes (omega (arith, room.fits, ap (λ (z : Does N). length (fedBy z).kept) is)) in
+          let lies : length (splice gather 0 bytes) ≡ length gather = length_splice gather 0 bytes (omega (arith, room.fits, ap (λ (z : Does N). length (fed_by z).kept) is)) in
           rw (
-            le-ltb (length (splice gather 0 bytes)) (length bytes) (omega (arith, room.fits, ap (λ (z : Does N). length (fedBy z).kept) is)),
-            le-ltb 16777215 (length bytes) (omega (arith, room.few, ap (λ (z : Does N). length (fedBy z).kept) is)),
+            le-ltb (length (splice gather 0 bytes)) (length bytes) (omega (arith, room.fits, ap (λ (z : Does N). length (fed_by z).kept) is)),
+            le-ltb 16777215 (length bytes) (omega (arith, room.few, ap (λ (z : Does N). length (fed_by z).kept) is)),
           )
-      go (ends bytes unit) is = nothing-inside (splice gather 0 bytes)
+      go (ends bytes unit) is = nothing_inside (splice gather 0 bytes)
 
   -- ---- the refinement
 
-  feeds-alike : (k : Room) (gather : List ℕ) (x : Said (Does N)) → length gather ≡ k.gather → fedAs runIn (lain c gather x) ≡ within c k x
-  feeds-alike k gather (refused r) same = refl
-  feeds-alike k gather (says x) same =
-      go (tooLong gather (fedBy x).kept) refl
-      ∙ ap (λ (n : ℕ). cond (is_over n (length (fedBy x).kept)) (refusal (refusing 6)) (fed (fedBy x).run (groupIn (fedBy x).handed))) same
+  feeds_alike : (k : Room) (gather : List ℕ) (x : Said (Does N)) → length gather ≡ k.gather → fed_as run_in (lain c gather x) ≡ within c k x
+  feeds_alike k gather (refused r) same = refl
+  feeds_alike k gather (says x) same =
+      go (too_long gather (fed_by x).kept) refl
+      ∙ ap (λ (n : ℕ). cond (is_over n (length (fed_by x).kept)) (refusal (refusing 6)) (fed (fed_by x).run (group_in (fed_by x).handed))) same
     where
-      go : (long : Bool) → tooLong gather (fedBy x).kept ≡ long →
-          fedAs runIn (cond {A = Fed Refusal (Lying N) Units} long (refusal (refusing 6)) (fed (laid gather x) (groupIn (fedBy x).handed)))
-          ≡ cond long (refusal (refusing 6)) (fed (fedBy x).run (groupIn (fedBy x).handed))
+      go : (long : Bool) → too_long gather (fed_by x).kept ≡ long →
+          fed_as run_in (cond {A = Fed Refusal (Lying N) Units} long (refusal (refusing 6)) (fed (laid gather x) (group_in (fed_by x).handed)))
+          ≡ cond long (refusal (refusing 6)) (fed (fed_by x).run (group_in (fed_by x).handed))
       go true e = refl
-      go false e = ap (λ (r : Run N). fed r (groupIn (fedBy x).handed)) (run-stands gather x (roomy (length (fedBy x).kept) (length gather) e).fits)
+      go false e = ap (λ (r : Run N). fed r (group_in (fed_by x).handed)) (run_stands gather x (roomy (length (fed_by x).kept) (length gather) e).fits)
 
-  not-fed : {r : Refusal} (next : Lying N) (out : List Units) → ◌≡◌ {A = Fed Refusal (Lying N) Units} (refusal r) (fed next out) → ⊥
-  not-fed next out e = let z : ◌≡◌ {A = ℕ} 0 1 = cc in omega arith
+  not_fed : {r : Refusal} (next : Lying N) (out : List Units) → ◌≡◌ {A = Fed Refusal (Lying N) Units} (refusal r) (fed next out) → ⊥
+  not_fed next out e = let z : ◌≡◌ {A = ℕ} 0 1 = cc in omega arith
 
   fits_on : (k : Room) (gather : List ℕ) (x : Said (Does N)) → length gather ≡ k.gather → (next : Lying N) (out : List Units) →
       lain c gather x ≡ fed next out → Fit k next
-  fits_on k gather (refused r) same next out e = absurd (not-fed next out e)
-  fits_on k gather (says x) same next out e = go (tooLong gather (fedBy x).kept) refl e
+  fits_on k gather (refused r) same next out e = absurd (not_fed next out e)
+  fits_on k gather (says x) same next out e = go (too_long gather (fed_by x).kept) refl e
     where
-      go : (long : Bool) → tooLong gather (fedBy x).kept ≡ long →
-          cond long (refusal (refusing 6)) (fed (laid gather x) (groupIn (fedBy x).handed)) ≡ fed next out → Fit k next
-      go true is q = absurd (not-fed next out q)
-      go false is q = let same-run : laid gather x ≡ next = cc in subst (Fit k) same-run (laid-fits k gather x same is)
+      go : (long : Bool) → too_long gather (fed_by x).kept ≡ long →
+          cond long (refusal (refusing 6)) (fed (laid gather x) (group_in (fed_by x).handed)) ≡ fed next out → Fit k next
+      go true is q = absurd (not_fed next out q)
+      go false is q = let same_run : laid gather x ≡ next = cc in subst (Fit k) same_run (laid_fits k gather x same is)
 
-  pub lies : Refines (lyingCodec c) (codec c) runIn Fit
+  pub lies : Refines (lying_codec c) (codec c) run_in Fit
   lies =
       record {
         checks = λ p. refl;
         drops = λ l. refl;
-        feeds = λ k l x f. feeds-alike k l.gather (c.feed (runIn l) x) f.same_length;
-        drop-fits = λ k l f. record { same_length = f.same_length; inside = nothing-inside l.gather };
-        feed-fits = λ k l x f next out e. fits_on k l.gather (c.feed (runIn l) x) f.same_length next out e;
+        feeds = λ k l x f. feeds_alike k l.gather (c.feed (run_in l) x) f.same_length;
+        drop_fits = λ k l f. record { same_length = f.same_length; inside = nothing_inside l.gather };
+        feed_fits = λ k l x f next out e. fits_on k l.gather (c.feed (run_in l) x) f.same_length next out e;
       }

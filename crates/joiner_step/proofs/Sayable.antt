@@ -4,12 +4,12 @@ use mathlib.Core.List.{List}
 use Prim.Native.Nat.{ℕ}
 use Rattle.error.specs.Said.{Said, says, refused}
 use Rattle.error.proofs.Only.{Sayable, passed}
-use Rattle.nal.specs.Fed.{Laid, layBoth}
-use Rattle.nal.proofs.Sayable.{both-sayable}
-use Rattle.joiner_step.specs.Run.{Run, Does, fedBy}
+use Rattle.nal.specs.Fed.{Laid, lay_both}
+use Rattle.nal.proofs.Sayable.{both_sayable}
+use Rattle.joiner_step.specs.Run.{Run, Does, fed_by}
 use Rattle.joiner_step.specs.Choice.{Arrived, Choice}
-use Rattle.joiner_step.specs.Step.{Kept, Stepped, laidBy, step}
-use Rattle.joiner_step.proofs.Cases.{step-cases}
+use Rattle.joiner_step.specs.Step.{Kept, Stepped, laid_by, step}
+use Rattle.joiner_step.proofs.Cases.{step_cases}
 
 -- the reader's and the codec's refusals can be said
 pub record Speaks {P C N : Type 0} (c : Choice P C N) : Type 0 where
@@ -21,13 +21,13 @@ module _ {P C N : Type 0} (c : Choice P C N) (speaks : Speaks c) (j : Kept N) (g
   abbrev Fine : Stepped (Kept N) → Type 0
   Fine st = Sayable st.answer
 
-  laid-fine : (d number : ℕ) (run : Run N) (l : Laid ℕ) (a : Said ℕ) → Sayable a → Fine (laidBy c j d number run l a)
-  laid-fine d number run l (says n) s = refl
-  laid-fine d number run l (refused r) s = passed {A = ℕ} {r = r} s
+  laid_fine : (d number : ℕ) (run : Run N) (l : Laid ℕ) (a : Said ℕ) → Sayable a → Fine (laid_by c j d number run l a)
+  laid_fine d number run l (says n) s = refl
+  laid_fine d number run l (refused r) s = passed {A = ℕ} {r = r} s
 
-  pub step-sayable : (packet : List ℕ) → Fine (step c j packet gather out)
-  step-sayable packet =
-      step-cases c Fine j packet gather out
+  pub step_sayable : (packet : List ℕ) → Fine (step c j packet gather out)
+  step_sayable packet =
+      step_cases c Fine j packet gather out
       (record {
         closed = refl;
         outside = refl;
@@ -38,7 +38,7 @@ module _ {P C N : Type 0} (c : Choice P C N) (speaks : Speaks c) (j : Kept N) (g
         bad = λ a e r f. passed {A = C} {r = r} (subst Sayable f (speaks.checks a.known));
         unfit = λ run x r f. passed {A = Does N} {r = r} (subst Sayable f (speaks.feeds run x));
         fed =
-            λ a e x f run y g d. laid-fine d a.number (fedBy y).run (layBoth c.avc gather out (fedBy y).kept (fedBy y).handed)
-            (layBoth c.avc gather out (fedBy y).kept (fedBy y).handed).answer
-            (both-sayable c.avc gather out (fedBy y).kept (fedBy y).handed);
+            λ a e x f run y g d. laid_fine d a.number (fed_by y).run (lay_both c.avc gather out (fed_by y).kept (fed_by y).handed)
+            (lay_both c.avc gather out (fed_by y).kept (fed_by y).handed).answer
+            (both_sayable c.avc gather out (fed_by y).kept (fed_by y).handed);
       })

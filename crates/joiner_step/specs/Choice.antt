@@ -22,4 +22,4 @@ pub record Choice (P C N : Type 0) : Type 0 where
   -- what is noted where no run is open, and whether something else is
   pub blank : N
   pub noted : N → Bool
-  pub blank-says-nothing : noted blank ≡ false
+  pub blank_says_nothing : noted blank ≡ false

@@ -5,12 +5,12 @@ use Rattle.error.specs.Refusal.{Refusal}
 use Rattle.error.specs.Said.{Said, says, refused}
 use Rattle.wire.specs.Part.{splice}
 use Rattle.wire.specs.Packets.{joined}
-use Rattle.nal.specs.Fed.{prefixed, is_over, tooLong}
+use Rattle.nal.specs.Fed.{prefixed, is_over, too_long}
 use Rattle.sequence.specs.Rule.{Rule}
 use Rattle.sequence.specs.Codec.{Checked, bad, good, Fed, refusal, fed, Codec}
-use Rattle.sequence.specs.Joiner.{Heard, turnedAway, numbered, Parts, State, refuses, tooLate, takes, notShut, shut}
+use Rattle.sequence.specs.Joiner.{Heard, turned_away, numbered, Parts, State, refuses, too_late, takes, not_shut, shut}
 use Rattle.sequence.specs.Joiner as any
-use Rattle.joiner_step.specs.Run.{Units, Run, none, Does, fedBy, Held, nothing, held_of, run_of}
+use Rattle.joiner_step.specs.Run.{Units, Run, none, Does, fed_by, Held, nothing, held_of, run_of}
 use Rattle.joiner_step.specs.Choice.{Arrived, Choice}
 use Rattle.joiner_step.specs.Step.{Kept, Accepted, Answer, accepted, late, ClosingStepped}
 
@@ -28,13 +28,13 @@ abbrev pub refusing : ℕ → Refusal
 refusing n = record { number = n; carried = [] }
 
 -- a packet hands out one group of units, or nothing
-abbrev pub groupIn : Units → List Units
-groupIn [] = []
-groupIn (u ∷ us) = (u ∷ us) ∷ []
+abbrev pub group_in : Units → List Units
+group_in [] = []
+group_in (u ∷ us) = (u ∷ us) ∷ []
 
-abbrev pub checkedAs : {C : Type 0} → Said C → Checked Refusal C
-checkedAs (refused r) = bad r
-checkedAs (says x) = good x
+abbrev pub checked_as : {C : Type 0} → Said C → Checked Refusal C
+checked_as (refused r) = bad r
+checked_as (says x) = good x
 
 -- a run as the record and the gather buffer have it
 pub record Lying (N : Type 0) : Type 0 where
@@ -47,13 +47,13 @@ module _ {P C N : Type 0} (c : Choice P C N) where
   abbrev pub within : Room → Said (Does N) → Fed Refusal (Run N) Units
   within k (refused r) = refusal r
   within k (says x) =
-      cond (is_over k.gather (length (fedBy x).kept)) (refusal (refusing 6)) (fed (fedBy x).run (groupIn (fedBy x).handed))
+      cond (is_over k.gather (length (fed_by x).kept)) (refusal (refusing 6)) (fed (fed_by x).run (group_in (fed_by x).handed))
 
   -- of runs without buffers
   abbrev pub codec : Codec Room Refusal P C (Run N) Units
   codec =
       record {
-        check = λ p. checkedAs (c.check p);
+        check = λ p. checked_as (c.check p);
         drop = λ run. none;
         feed = λ k run x. within k (c.feed run x);
       }
@@ -61,14 +61,14 @@ module _ {P C N : Type 0} (c : Choice P C N) where
   abbrev pub lain : List ℕ → Said (Does N) → Fed Refusal (Lying N) Units
   lain gather (refused r) = refusal r
   lain gather (says x) =
-      cond (tooLong gather (fedBy x).kept) (refusal (refusing 6))
-      (fed (record { held = held_of c.blank (fedBy x).run; gather = splice gather 0 (fedBy x).kept }) (groupIn (fedBy x).handed))
+      cond (too_long gather (fed_by x).kept) (refusal (refusing 6))
+      (fed (record { held = held_of c.blank (fed_by x).run; gather = splice gather 0 (fed_by x).kept }) (group_in (fed_by x).handed))
 
   -- of runs in record and gather buffer
-  abbrev pub lyingCodec : Codec Room Refusal P C (Lying N) Units
-  lyingCodec =
+  abbrev pub lying_codec : Codec Room Refusal P C (Lying N) Units
+  lying_codec =
       record {
-        check = λ p. checkedAs (c.check p);
+        check = λ p. checked_as (c.check p);
         drop = λ l. record { held = nothing c.blank; gather = l.gather };
         feed = λ k l x. lain l.gather (c.feed (run_of l.held l.gather) x);
       }
@@ -76,18 +76,18 @@ module _ {P C N : Type 0} (c : Choice P C N) where
   -- ---- the reader
 
   -- "20: other SSRC"
-  abbrev pub heardFrom : ℕ → Said (Arrived P) → Heard Refusal P
-  heardFrom source (refused r) = turnedAway r
-  heardFrom source (says a) = cond (eqb a.source source) (numbered a.number a.known) (turnedAway (refusing 20))
+  abbrev pub heard_from : ℕ → Said (Arrived P) → Heard Refusal P
+  heard_from source (refused r) = turned_away r
+  heard_from source (says a) = cond (eqb a.source source) (numbered a.number a.known) (turned_away (refusing 20))
 
   abbrev pub reader : ℕ → List ℕ → Heard Refusal P
-  reader source packet = heardFrom source (c.reads packet)
+  reader source packet = heard_from source (c.reads packet)
 
   -- ---- the joiner
 
   -- "5: output buffer .. too small"
-  abbrev pub tooMuch : Room → List Units → Bool
-  tooMuch k out = ltb k.out (length (joined (map (prefixed c.avc) out)))
+  abbrev pub too_much : Room → List Units → Bool
+  too_much k out = ltb k.out (length (joined (map (prefixed c.avc) out)))
 
   abbrev pub parts_of : {R : Type 0} → Codec Room Refusal P C R Units → Rule P → ℕ → Parts (List ℕ) Room Refusal P C R Units
   parts_of codec rule source =
@@ -95,11 +95,11 @@ module _ {P C N : Type 0} (c : Choice P C N) where
         rule = rule;
         reader = reader source;
         codec = codec;
-        tooMuch = tooMuch;
-        overRoom = refusing 5;
+        too_much = too_much;
+        over_room = refusing 5;
         limit = 4294967295;
-        overLimit = refusing 24;
-        overClosing = refusing 23;
+        over_limit = refusing 24;
+        over_closing = refusing 23;
       }
 
   abbrev pub parts : Rule P → ℕ → Parts (List ℕ) Room Refusal P C (Run N) Units
@@ -107,8 +107,8 @@ module _ {P C N : Type 0} (c : Choice P C N) where
 
 -- ---- the state that record and gather buffer stand for
 
-abbrev pub runIn : {N : Type 0} → Lying N → Run N
-runIn l = run_of l.held l.gather
+abbrev pub run_in : {N : Type 0} → Lying N → Run N
+run_in l = run_of l.held l.gather
 
 abbrev pub lying : {N : Type 0} → Kept N → List ℕ → State ℕ (Lying N)
 lying j gather = record { seq = j.awaited; run = record { held = j.run; gather = gather }; missed = j.missed }
@@ -119,24 +119,24 @@ standing j gather = record { seq = j.awaited; run = run_of j.run gather; missed 
 -- ---- the answers, with the bytes handed out
 
 -- what a call that handed out n bytes left in the output
-abbrev pub handedBytes : ℕ → List ℕ → List (List ℕ)
-handedBytes n out = cond (eqb n 0) [] (take n out ∷ [])
+abbrev pub handed_bytes : ℕ → List ℕ → List (List ℕ)
+handed_bytes n out = cond (eqb n 0) [] (take n out ∷ [])
 
-abbrev pub seenBy : Said Answer → List ℕ → any.Answer Refusal (List ℕ)
-seenBy (refused r) out = refuses r
-seenBy (says late) out = tooLate
-seenBy (says (accepted a)) out = takes a.count (handedBytes a.bytes out)
+abbrev pub seen_by : Said Answer → List ℕ → any.Answer Refusal (List ℕ)
+seen_by (refused r) out = refuses r
+seen_by (says late) out = too_late
+seen_by (says (accepted a)) out = takes a.count (handed_bytes a.bytes out)
 
 -- units as the bytes that are handed out for them
-abbrev pub asBytes : Bool → any.Answer Refusal Units → any.Answer Refusal (List ℕ)
-asBytes avc (refuses r) = refuses r
-asBytes avc tooLate = tooLate
-asBytes avc (takes count out) = takes count (map (prefixed avc) out)
+abbrev pub as_bytes : Bool → any.Answer Refusal Units → any.Answer Refusal (List ℕ)
+as_bytes avc (refuses r) = refuses r
+as_bytes avc too_late = too_late
+as_bytes avc (takes count out) = takes count (map (prefixed avc) out)
 
 -- closing: the count and the missed total; nothing is handed out
-abbrev pub closingSaid : Said Accepted → ℕ → any.Shut Refusal Units
-closingSaid (refused r) missed = notShut r
-closingSaid (says a) missed = shut a.count missed []
+abbrev pub closing_said : Said Accepted → ℕ → any.Shut Refusal Units
+closing_said (refused r) missed = not_shut r
+closing_said (says a) missed = shut a.count missed []
 
-abbrev pub closingSeen : {N : Type 0} → ClosingStepped (Kept N) → any.Shut Refusal Units
-closingSeen st = closingSaid st.answer st.joiner.missed
+abbrev pub closing_seen : {N : Type 0} → ClosingStepped (Kept N) → any.Shut Refusal Units
+closing_seen st = closing_said st.answer st.joiner.missed

@@ -6,9 +6,9 @@ use Rattle.error.specs.Said.{says, refused, refuse}
 use Rattle.wire.specs.Part.{splice}
 use Rattle.nal.specs.Fed.{prefixed}
 use Rattle.sequence.specs.Number.{distance_of, next_of}
-use Rattle.joiner_step.specs.Run.{Run, none, Does, fedBy, Held, nothing, held_of, run_of}
+use Rattle.joiner_step.specs.Run.{Run, none, Does, fed_by, Held, nothing, held_of, run_of}
 use Rattle.joiner_step.specs.Choice.{Arrived, Choice}
-use Rattle.joiner_step.specs.Step.{Kept, accepted, late, Stepped, unchanged, ClosingStepped, stillOpen}
+use Rattle.joiner_step.specs.Step.{Kept, accepted, late, Stepped, unchanged, ClosingStepped, still_open}
 
 -- what a record must say: "counts and lengths in a record that lie within .. the lent buffers", and nothing of a run where none is open
 pub record InDomain {P C N : Type 0} (c : Choice P C N) (h : Held N) : Type 0 where
@@ -20,7 +20,7 @@ module _ {P C N : Type 0} (c : Choice P C N) (j : Kept N) (packet gather out : L
 
   -- past 22 and 8
   pub record Open : Type 0 where
-    pub not-closed : j.closed ≡ false
+    pub not_closed : j.closed ≡ false
     pub domain : InDomain c j.run
     pub lies : j.run.gathered ≤ length gather
 
@@ -61,8 +61,8 @@ module _ {P C N : Type 0} (c : Choice P C N) (j : Kept N) (packet gather out : L
   -- past 6
   pub record Gathered (a : Arrived P) (x : Does N) : Type 0 where
     pub passed : Passed a x
-    pub fits : length (fedBy x).kept ≤ length gather
-    pub few : length (fedBy x).kept ≤ 16777215
+    pub fits : length (fed_by x).kept ≤ length gather
+    pub few : length (fed_by x).kept ≤ 16777215
 
   -- ---- what it leaves
 
@@ -74,24 +74,24 @@ module _ {P C N : Type 0} (c : Choice P C N) (j : Kept N) (packet gather out : L
   RefusesBy st n = st ≡ unchanged j gather out (refuse n)
 
   -- the bytes that are handed out
-  abbrev pub bytesFor : Does N → List ℕ
-  bytesFor x = prefixed c.avc (fedBy x).handed
+  abbrev pub bytes_for : Does N → List ℕ
+  bytes_for x = prefixed c.avc (fed_by x).handed
 
   -- "the packet is accepted: missed grows by d, awaited is the number plus 1"
-  abbrev pub acceptedWith : Arrived P → Does N → Stepped (Kept N)
-  acceptedWith a x =
+  abbrev pub accepted_with : Arrived P → Does N → Stepped (Kept N)
+  accepted_with a x =
       record {
         joiner =
             record {
               source = j.source;
               awaited = next_of a.number;
               missed = j.missed + distance a;
-              run = held_of c.blank (fedBy x).run;
+              run = held_of c.blank (fed_by x).run;
               closed = false;
             };
-        answer = says (accepted (record { first = j.awaited; count = distance a; bytes = length (bytesFor x) }));
-        gather = splice gather 0 (fedBy x).kept;
-        out = splice out 0 (bytesFor x);
+        answer = says (accepted (record { first = j.awaited; count = distance a; bytes = length (bytes_for x) }));
+        gather = splice gather 0 (fed_by x).kept;
+        out = splice out 0 (bytes_for x);
       }
 
   -- "Each call does, in order: .."
@@ -112,20 +112,20 @@ module _ {P C N : Type 0} (c : Choice P C N) (j : Kept N) (packet gather out : L
     pub bad : (a : Arrived P) → Ahead a → (r : Refusal) → c.check a.known ≡ refused r → Refuses st r
     pub unfit : (a : Arrived P) (x : C) (run : Run N) → Checked a x run → (r : Refusal) → c.feed run x ≡ refused r → Refuses st r
     -- "6", "5"
-    pub long : (a : Arrived P) (x : Does N) → Passed a x → (length gather < length (fedBy x).kept) ⊎ (16777215 < length (fedBy x).kept) → RefusesBy st 6
-    pub small : (a : Arrived P) (x : Does N) → Gathered a x → length out < length (bytesFor x) → RefusesBy st 5
+    pub long : (a : Arrived P) (x : Does N) → Passed a x → (length gather < length (fed_by x).kept) ⊎ (16777215 < length (fed_by x).kept) → RefusesBy st 6
+    pub small : (a : Arrived P) (x : Does N) → Gathered a x → length out < length (bytes_for x) → RefusesBy st 5
     -- "If nothing refuses, the packet is accepted"
-    pub accepts : (a : Arrived P) (x : Does N) → Gathered a x → length (bytesFor x) ≤ length out → st ≡ acceptedWith a x
+    pub accepts : (a : Arrived P) (x : Does N) → Gathered a x → length (bytes_for x) ≤ length out → st ≡ accepted_with a x
 
 -- "Closing takes the number after the last sent, checks 22, 23, 24 in that order, drops the open run and adds the distance to missed."
 pub record ClosingParagraph {P C N : Type 0} (c : Choice P C N) (j : Kept N) (number : ℕ) (st : ClosingStepped (Kept N)) : Type 0 where
   -- "22"; 8
-  pub closed : j.closed ≡ true → st ≡ stillOpen j 22
-  pub outside : j.closed ≡ false → (InDomain c j.run → ⊥) → st ≡ stillOpen j 8
+  pub closed : j.closed ≡ true → st ≡ still_open j 22
+  pub outside : j.closed ≡ false → (InDomain c j.run → ⊥) → st ≡ still_open j 8
   -- "23", "24"
-  pub far : j.closed ≡ false → InDomain c j.run → 32768 ≤ distance_of number j.awaited → st ≡ stillOpen j 23
+  pub far : j.closed ≡ false → InDomain c j.run → 32768 ≤ distance_of number j.awaited → st ≡ still_open j 23
   pub full : j.closed ≡ false → InDomain c j.run → distance_of number j.awaited < 32768 →
-      4294967295 < j.missed + distance_of number j.awaited → st ≡ stillOpen j 24
+      4294967295 < j.missed + distance_of number j.awaited → st ≡ still_open j 24
   -- the record is closed, and keeps its source and the awaited number
   pub ends : j.closed ≡ false → InDomain c j.run → distance_of number j.awaited < 32768 →
       j.missed + distance_of number j.awaited ≤ 4294967295 →

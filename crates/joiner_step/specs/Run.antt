@@ -23,14 +23,14 @@ pub data Does (N : Type 0) : Type 0 where
 
 module _ {N : Type 0} where
   -- with what then stands in front of the gather buffer: an end fragment's bytes are gathered too
-  abbrev pub fedBy : Does N → Fed (Run N)
-  fedBy (hands units) = record { run = none; kept = []; handed = units }
-  fedBy (gathers note bytes) = record { run = gathering note bytes; kept = bytes; handed = [] }
-  fedBy (ends bytes unit) = record { run = none; kept = bytes; handed = unit ∷ [] }
+  abbrev pub fed_by : Does N → Fed (Run N)
+  fed_by (hands units) = record { run = none; kept = []; handed = units }
+  fed_by (gathers note bytes) = record { run = gathering note bytes; kept = bytes; handed = [] }
+  fed_by (ends bytes unit) = record { run = none; kept = bytes; handed = unit ∷ [] }
 
-  abbrev pub fedSaid : Said (Does N) → Said (Fed (Run N))
-  fedSaid (says x) = says (fedBy x)
-  fedSaid (refused r) = refused r
+  abbrev pub fed_said : Said (Does N) → Said (Fed (Run N))
+  fed_said (says x) = says (fed_by x)
+  fed_said (refused r) = refused r
 
 -- what a record keeps of a run, whose bytes stand in front of the gather buffer
 pub record Held (N : Type 0) : Type 0 where

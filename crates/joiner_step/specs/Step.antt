@@ -3,9 +3,9 @@
 -- drops the open run." Assumes nothing.
 use Rattle.std.specs.Prelude.{Bool, true, false, cond, ◌||◌, not, List, ℕ, ◌+◌, ltb, leb, eqb, length}
 use Rattle.error.specs.Said.{Said, says, refused, refuse}
-use Rattle.nal.specs.Fed.{Laid, layBoth}
+use Rattle.nal.specs.Fed.{Laid, lay_both}
 use Rattle.sequence.specs.Number.{distance_of, next_of}
-use Rattle.joiner_step.specs.Run.{Run, none, Does, fedBy, Held, nothing, held_of, run_of}
+use Rattle.joiner_step.specs.Run.{Run, none, Does, fed_by, Held, nothing, held_of, run_of}
 use Rattle.joiner_step.specs.Choice.{Arrived, Choice}
 
 -- ---- the record
@@ -50,8 +50,8 @@ pub record ClosingStepped (J : Type 0) : Type 0 where
   pub joiner : J
   pub answer : Said Accepted
 
-abbrev pub stillOpen : {J : Type 0} → J → ℕ → ClosingStepped J
-stillOpen j n = record { joiner = j; answer = refuse n }
+abbrev pub still_open : {J : Type 0} → J → ℕ → ClosingStepped J
+still_open j n = record { joiner = j; answer = refuse n }
 
 module _ {P C N : Type 0} (c : Choice P C N) where
   -- ---- what a record may say
@@ -82,9 +82,9 @@ module _ {P C N : Type 0} (c : Choice P C N) where
       }
 
   -- room: 6, then 5
-  abbrev pub laidBy : Kept N → ℕ → ℕ → Run N → Laid ℕ → Said ℕ → Stepped (Kept N)
-  laidBy j d number run l (refused r) = unchanged j l.gather l.out (refused r)
-  laidBy j d number run l (says n) =
+  abbrev pub laid_by : Kept N → ℕ → ℕ → Run N → Laid ℕ → Said ℕ → Stepped (Kept N)
+  laid_by j d number run l (refused r) = unchanged j l.gather l.out (refused r)
+  laid_by j d number run l (says n) =
       record {
         joiner = moved j d number run;
         answer = says (accepted (record { first = j.awaited; count = d; bytes = n }));
@@ -93,42 +93,42 @@ module _ {P C N : Type 0} (c : Choice P C N) where
       }
 
   -- what the packet does to the run
-  abbrev pub fedTo : Kept N → ℕ → ℕ → List ℕ → List ℕ → Said (Does N) → Stepped (Kept N)
-  fedTo j d number gather out (refused r) = unchanged j gather out (refused r)
-  fedTo j d number gather out (says x) =
-      laidBy j d number (fedBy x).run (layBoth c.avc gather out (fedBy x).kept (fedBy x).handed)
-      (layBoth c.avc gather out (fedBy x).kept (fedBy x).handed).answer
+  abbrev pub fed_to : Kept N → ℕ → ℕ → List ℕ → List ℕ → Said (Does N) → Stepped (Kept N)
+  fed_to j d number gather out (refused r) = unchanged j gather out (refused r)
+  fed_to j d number gather out (says x) =
+      laid_by j d number (fed_by x).run (lay_both c.avc gather out (fed_by x).kept (fed_by x).handed)
+      (lay_both c.avc gather out (fed_by x).kept (fed_by x).handed).answer
 
   -- "d > 0 drops the open run"
-  abbrev pub runAt : Kept N → ℕ → List ℕ → Run N
-  runAt j d gather = cond (eqb d 0) (run_of j.run gather) none
+  abbrev pub run_at : Kept N → ℕ → List ℕ → Run N
+  run_at j d gather = cond (eqb d 0) (run_of j.run gather) none
 
   -- the packet's own checks
-  abbrev pub byCheck : Kept N → ℕ → ℕ → List ℕ → List ℕ → Said C → Stepped (Kept N)
-  byCheck j d number gather out (refused r) = unchanged j gather out (refused r)
-  byCheck j d number gather out (says x) = fedTo j d number gather out (c.feed (runAt j d gather) x)
+  abbrev pub by_check : Kept N → ℕ → ℕ → List ℕ → List ℕ → Said C → Stepped (Kept N)
+  by_check j d number gather out (refused r) = unchanged j gather out (refused r)
+  by_check j d number gather out (says x) = fed_to j d number gather out (c.feed (run_at j d gather) x)
 
   -- "d of 32,768 or more answers Late, unchanged; 24"
-  abbrev pub byDistance : Kept N → ℕ → ℕ → P → List ℕ → List ℕ → Stepped (Kept N)
-  byDistance j d number p gather out =
+  abbrev pub by_distance : Kept N → ℕ → ℕ → P → List ℕ → List ℕ → Stepped (Kept N)
+  by_distance j d number p gather out =
       cond (leb 32768 d) (unchanged j gather out (says late))
       (cond (ltb 4294967295 (j.missed + d)) (unchanged j gather out (refuse 24))
-      (byCheck j d number gather out (c.check p)))
+      (by_check j d number gather out (c.check p)))
 
   -- "20: other SSRC"
-  unfoldable pub bySource : Kept N → Arrived P → List ℕ → List ℕ → Stepped (Kept N)
-  bySource j a gather out =
-      cond (eqb a.source j.source) (byDistance j (distance_of a.number j.awaited) a.number a.known gather out)
+  unfoldable pub by_source : Kept N → Arrived P → List ℕ → List ℕ → Stepped (Kept N)
+  by_source j a gather out =
+      cond (eqb a.source j.source) (by_distance j (distance_of a.number j.awaited) a.number a.known gather out)
       (unchanged j gather out (refuse 20))
 
-  abbrev pub byReading : Kept N → List ℕ → List ℕ → Said (Arrived P) → Stepped (Kept N)
-  byReading j gather out (refused r) = unchanged j gather out (refused r)
-  byReading j gather out (says a) = bySource j a gather out
+  abbrev pub by_reading : Kept N → List ℕ → List ℕ → Said (Arrived P) → Stepped (Kept N)
+  by_reading j gather out (refused r) = unchanged j gather out (refused r)
+  by_reading j gather out (says a) = by_source j a gather out
 
   unfoldable pub step : Kept N → List ℕ → List ℕ → List ℕ → Stepped (Kept N)
   step j packet gather out =
       cond j.closed (unchanged j gather out (refuse 22))
-      (cond (outside j.run gather) (unchanged j gather out (refuse 8)) (byReading j gather out (c.reads packet)))
+      (cond (outside j.run gather) (unchanged j gather out (refuse 8)) (by_reading j gather out (c.reads packet)))
 
   -- ---- closing
 
@@ -137,16 +137,16 @@ module _ {P C N : Type 0} (c : Choice P C N) where
       record { source = j.source; awaited = j.awaited; missed = j.missed + d; run = nothing c.blank; closed = true }
 
   -- "Closing takes the number after the last sent, checks 22, 23, 24 in that order, drops the open run and adds the distance to missed."
-  abbrev pub closeBy : Kept N → ℕ → ClosingStepped (Kept N)
-  closeBy j d =
-      cond (leb 32768 d) (stillOpen j 23)
-      (cond (ltb 4294967295 (j.missed + d)) (stillOpen j 24)
+  abbrev pub close_by : Kept N → ℕ → ClosingStepped (Kept N)
+  close_by j d =
+      cond (leb 32768 d) (still_open j 23)
+      (cond (ltb 4294967295 (j.missed + d)) (still_open j 24)
       (record { joiner = shut j d; answer = says (record { first = j.awaited; count = d; bytes = 0 }) }))
 
   -- 8 after 22, as for a packet: no record in the domain says otherwise
   unfoldable pub closing : Kept N → ℕ → ClosingStepped (Kept N)
   closing j number =
-      cond j.closed (stillOpen j 22) (cond (wrong j.run) (stillOpen j 8) (closeBy j (distance_of number j.awaited)))
+      cond j.closed (still_open j 22) (cond (wrong j.run) (still_open j 8) (close_by j (distance_of number j.awaited)))
 
   -- ---- opening
 

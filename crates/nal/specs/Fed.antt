@@ -26,12 +26,12 @@ module _ {Run : Type 0} where
 -- ---- the bytes handed out
 
 -- "Each unit follows 00 00 00 01, or a 4-byte length where `is_avc`."
-abbrev pub prefixFor : Bool → ℕ → List ℕ
-prefixFor false len = 0 ∷ 0 ∷ 0 ∷ 1 ∷ []
-prefixFor true len = be32 len
+abbrev pub prefix_for : Bool → ℕ → List ℕ
+prefix_for false len = 0 ∷ 0 ∷ 0 ∷ 1 ∷ []
+prefix_for true len = be32 len
 
 abbrev pub prefix_of : Bool → List ℕ → List ℕ
-prefix_of avc unit = prefixFor avc (length unit)
+prefix_of avc unit = prefix_for avc (length unit)
 
 abbrev pub prefixed : Bool → List (List ℕ) → List ℕ
 prefixed avc [] = []
@@ -45,15 +45,15 @@ pub record OutLaid : Type 0 where
   pub out : List ℕ
 
 -- "5: output buffer .. too small"; the answer is how many bytes are handed out
-unfoldable pub layBytes : List ℕ → List ℕ → OutLaid
-layBytes out bytes =
+unfoldable pub lay_bytes : List ℕ → List ℕ → OutLaid
+lay_bytes out bytes =
     cond (ltb (length out) (length bytes)) (record { answer = refuse 5; out = out })
     (record { answer = says (length bytes); out = splice out 0 bytes })
 
 -- units, or why there are none
-abbrev pub layUnits : Bool → List ℕ → Said (List (List ℕ)) → OutLaid
-layUnits avc out (says units) = layBytes out (prefixed avc units)
-layUnits avc out (refused r) = record { answer = refused r; out = out }
+abbrev pub lay_units : Bool → List ℕ → Said (List (List ℕ)) → OutLaid
+lay_units avc out (says units) = lay_bytes out (prefixed avc units)
+lay_units avc out (refused r) = record { answer = refused r; out = out }
 
 -- the answer, and both buffers afterwards
 pub record Laid (A : Type 0) : Type 0 where
@@ -65,30 +65,30 @@ pub record Laid (A : Type 0) : Type 0 where
 abbrev pub is_over : (room n : ℕ) → Bool
 is_over room n = ltb room n || ltb 16777215 n
 
-abbrev pub tooLong : (gather kept : List ℕ) → Bool
-tooLong gather kept = is_over (length gather) (length kept)
+abbrev pub too_long : (gather kept : List ℕ) → Bool
+too_long gather kept = is_over (length gather) (length kept)
 
 -- what is gathered stays only where nothing is refused
-abbrev pub gatherAfter : List ℕ → List ℕ → Said ℕ → List ℕ
-gatherAfter gather kept (says n) = splice gather 0 kept
-gatherAfter gather kept (refused r) = gather
+abbrev pub gather_after : List ℕ → List ℕ → Said ℕ → List ℕ
+gather_after gather kept (says n) = splice gather 0 kept
+gather_after gather kept (refused r) = gather
 
 -- the answer, and the gather buffer afterwards, where nothing is handed out
 pub record GatherLaid : Type 0 where
   pub answer : Said ℕ
   pub gather : List ℕ
 
-unfoldable pub layGather : List ℕ → List ℕ → GatherLaid
-layGather gather kept =
-    cond (tooLong gather kept) (record { answer = refuse 6; gather = gather })
+unfoldable pub lay_gather : List ℕ → List ℕ → GatherLaid
+lay_gather gather kept =
+    cond (too_long gather kept) (record { answer = refuse 6; gather = gather })
     (record { answer = says 0; gather = splice gather 0 kept })
 
 -- these bytes are gathered and these units handed out: 6, then 5; "a refusal .. changes no buffer"
-unfoldable pub layBoth : Bool → List ℕ → List ℕ → (kept : List ℕ) (handed : List (List ℕ)) → Laid ℕ
-layBoth avc gather out kept handed =
-    cond (tooLong gather kept) (record { answer = refuse 6; gather = gather; out = out })
+unfoldable pub lay_both : Bool → List ℕ → List ℕ → (kept : List ℕ) (handed : List (List ℕ)) → Laid ℕ
+lay_both avc gather out kept handed =
+    cond (too_long gather kept) (record { answer = refuse 6; gather = gather; out = out })
     (record {
-      answer = (layBytes out (prefixed avc handed)).answer;
-      gather = gatherAfter gather kept (layBytes out (prefixed avc handed)).answer;
-      out = (layBytes out (prefixed avc handed)).out;
+      answer = (lay_bytes out (prefixed avc handed)).answer;
+      gather = gather_after gather kept (lay_bytes out (prefixed avc handed)).answer;
+      out = (lay_bytes out (prefixed avc handed)).out;
     })

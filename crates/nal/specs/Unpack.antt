@@ -25,34 +25,34 @@ sized size rest units =
     cond (ltb (length rest) size) (done (past size (length rest)))
     (more (record { rest = drop size rest; units = units ++ (take size rest ∷ []) }))
 
-abbrev pub unpackBy : List ℕ → List (List ℕ) → Turn Unpacking (Unpacked (List (List ℕ)))
-unpackBy [] units = done (right units)
-unpackBy (a ∷ []) units = done lone
-unpackBy (a ∷ b ∷ rest) units = sized (a * 256 + b) rest units
+abbrev pub unpack_by : List ℕ → List (List ℕ) → Turn Unpacking (Unpacked (List (List ℕ)))
+unpack_by [] units = done (right units)
+unpack_by (a ∷ []) units = done lone
+unpack_by (a ∷ b ∷ rest) units = sized (a * 256 + b) rest units
 
-unfoldable pub unpackTurn : Unpacking → Turn Unpacking (Unpacked (List (List ℕ)))
-unpackTurn u = unpackBy u.rest u.units
+unfoldable pub unpack_turn : Unpacking → Turn Unpacking (Unpacked (List (List ℕ)))
+unpack_turn u = unpack_by u.rest u.units
 
 -- each turn reads two bytes at least, so that one more than the length is enough
 unfoldable pub unpack : List ℕ → Unpacked (List (List ℕ))
-unpack s = run unpackTurn lone (length s + 1) (record { rest = s; units = [] })
+unpack s = run unpack_turn lone (length s + 1) (record { rest = s; units = [] })
 
 -- a codec's refusals of the two
-abbrev pub saidBy : {A : Type 0} → (ℕ → ℕ → Refusal) → Refusal → Unpacked A → Said A
-saidBy atPast atLone (right a) = says a
-saidBy atPast atLone (past size left) = refused (atPast size left)
-saidBy atPast atLone lone = refused atLone
+abbrev pub said_by : {A : Type 0} → (ℕ → ℕ → Refusal) → Refusal → Unpacked A → Said A
+said_by atPast atLone (right a) = says a
+said_by atPast atLone (past size left) = refused (atPast size left)
+said_by atPast atLone lone = refused atLone
 
 -- the units, where the sizes are right
-abbrev pub unitsIn : Unpacked (List (List ℕ)) → List (List ℕ)
-unitsIn (right units) = units
-unitsIn (past size left) = []
-unitsIn lone = []
+abbrev pub units_in : Unpacked (List (List ℕ)) → List (List ℕ)
+units_in (right units) = units
+units_in (past size left) = []
+units_in lone = []
 
 -- the other way round: units, each behind its size
-abbrev pub sizedUnits : List (List ℕ) → List ℕ
-sizedUnits [] = []
-sizedUnits (u ∷ us) = be16 (length u) ++ (u ++ sizedUnits us)
+abbrev pub sized_units : List (List ℕ) → List ℕ
+sized_units [] = []
+sized_units (u ∷ us) = be16 (length u) ++ (u ++ sized_units us)
 
 -- each unit's length can be said in two bytes
 abbrev pub Sized : List (List ℕ) → Type 0

@@ -1,8 +1,8 @@
 // Gathering fragments, and handing units out behind their prefix.
 ghost use Rattle.std.specs.Prelude.{◌≡◌, [], ◌∷◌, ◌++◌, ◌<◌, ◌≤◌, ◌+◌, length, take};
 ghost use Rattle.wire.specs.Part.{splice};
-ghost use Rattle.nal.specs.Fed.{prefixFor, prefix_of, prefixed, layBytes, layGather, layBoth};
-ghost use Rattle.nal.specs.Said.{outHeard, gatherHeard, heard};
+ghost use Rattle.nal.specs.Fed.{prefix_for, prefix_of, prefixed, lay_bytes, lay_gather, lay_both};
+ghost use Rattle.nal.specs.Said.{out_heard, gather_heard, heard};
 
 use crate::Handed;
 use error::Error;
@@ -12,7 +12,7 @@ pub const ANNEXB_NALUSTART_CODE: [u8; 4] = *b"\x00\x00\x00\x01";
 // The four bytes in front of a unit of `len` bytes.
 fn put_prefix(avc: bool, len: usize, out: &mut [u8], at: usize)
     requires { (at + 4 ≤ length out.old) × (len < 4294967296) }
-    ensures { out.new ≡ splice out.old at (prefixFor avc len) }
+    ensures { out.new ≡ splice out.old at (prefix_for avc len) }
 {
     if avc {
         wire::put_u32(out, at, len as u32);
@@ -43,7 +43,7 @@ fn put_joined(avc: bool, head: &[u8], body: &[u8], out: &mut [u8])
 // Hands out a unit that stands as it is in a payload.
 pub fn hand_plain(unit: &[u8], avc: bool, out: &mut [u8]) -> Handed
     requires { length unit.now ≤ 65535 }
-    ensures { outHeard result out.new ≡ layBytes out.old (prefixed avc (unit.now ∷ [])) }
+    ensures { out_heard result out.new ≡ lay_bytes out.old (prefixed avc (unit.now ∷ [])) }
 {
     let n = unit.len() + 4;
     if out.len() < n {
@@ -56,7 +56,7 @@ pub fn hand_plain(unit: &[u8], avc: bool, out: &mut [u8]) -> Handed
 // Puts a fragment's part of its unit behind the `at` bytes gathered before it.
 pub fn gather_on(part: &[u8], at: usize, gather: &mut [u8]) -> Handed
     requires { (length part.now ≤ 65535) × (at ≤ length gather.old) }
-    ensures { gatherHeard result gather.new ≡ layGather gather.old (take at gather.old ++ part.now) }
+    ensures { gather_heard result gather.new ≡ lay_gather gather.old (take at gather.old ++ part.now) }
 {
     let end = at + part.len();
     if gather.len() < end {
@@ -79,7 +79,7 @@ pub fn finish(
     out: &mut [u8],
 ) -> Handed
     requires { (length part.now ≤ 65535) × (at ≤ length gather.old) × (length head.now ≤ 65535) }
-    ensures { heard result gather.new out.new ≡ layBoth avc gather.old out.old (take at gather.old ++ part.now) ((head.now ++ (take at gather.old ++ part.now)) ∷ []) }
+    ensures { heard result gather.new out.new ≡ lay_both avc gather.old out.old (take at gather.old ++ part.now) ((head.now ++ (take at gather.old ++ part.now)) ∷ []) }
 {
     let end = at + part.len();
     if gather.len() < end {

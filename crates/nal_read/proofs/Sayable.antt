@@ -6,13 +6,13 @@ use lib.ListN.{drop}
 use Rattle.error.proofs.Only.{Sayable}
 use Rattle.nal.specs.Unpack.{Unpacked, right, past, lone}
 use Rattle.nal.specs.Unpack as any
-use Rattle.nal_read.specs.Unpack.{stapSaid, unpack}
+use Rattle.nal_read.specs.Unpack.{stap_said, unpack}
 
-stap-sayable : (x : Unpacked (List (List ℕ))) → Sayable (stapSaid x)
-stap-sayable (right units) = refl
-stap-sayable (past size left) = refl
-stap-sayable lone = refl
+stap_sayable : (x : Unpacked (List (List ℕ))) → Sayable (stap_said x)
+stap_sayable (right units) = refl
+stap_sayable (past size left) = refl
+stap_sayable lone = refl
 
-pub unpack-sayable : (s : List ℕ) → Sayable (unpack s)
+pub unpack_sayable : (s : List ℕ) → Sayable (unpack s)
 unfolding unpack
-unpack-sayable s = stap-sayable (any.unpack (drop 1 s))
+unpack_sayable s = stap_sayable (any.unpack (drop 1 s))

@@ -1,6 +1,6 @@
 -- What the answers inside say. Assumes nothing.
 use Rattle.std.specs.Prelude.{List, ℕ, length}
-use Rattle.error.specs.Refusal.{refusalOf}
+use Rattle.error.specs.Refusal.{refusal_of}
 use Rattle.error.specs.Said.{Said, says, refused}
 use Rattle.wire.specs.Packets.{joined}
 use Rattle.nal.specs.Said.{Measure}
@@ -10,19 +10,19 @@ use Rattle.nal_read.specs.declared.Measured.{Measured}
 use Rattle.nal_read.specs.declared.Measured.TheVariants as measured
 use Rattle.nal_read.specs.Kind.{Shape, short, unknown, plain, aggregate, fragment}
 
-abbrev pub shapeSaid : Kind → Shape
-shapeSaid kind.Short = short
-shapeSaid (kind.Unknown t) = unknown t
-shapeSaid kind.Plain = plain
-shapeSaid kind.Aggregate = aggregate
-shapeSaid (kind.Fragment first last head) = fragment first last head
+abbrev pub shape_said : Kind → Shape
+shape_said kind.Short = short
+shape_said (kind.Unknown t) = unknown t
+shape_said kind.Plain = plain
+shape_said kind.Aggregate = aggregate
+shape_said (kind.Fragment first last head) = fragment first last head
 
 -- ---- a STAP-A
 
-abbrev pub measureSaid : Measured → Said Measure
-measureSaid (measured.Units count bytes) = says (record { count = count; bytes = bytes })
-measureSaid (measured.Refused e) = refused (refusalOf e)
+abbrev pub measure_said : Measured → Said Measure
+measure_said (measured.Units count bytes) = says (record { count = count; bytes = bytes })
+measure_said (measured.Refused e) = refused (refusal_of e)
 
-abbrev pub measureOf : Said (List (List ℕ)) → Said Measure
-measureOf (says units) = says (record { count = length units; bytes = length (joined units) })
-measureOf (refused r) = refused r
+abbrev pub measure_of : Said (List (List ℕ)) → Said Measure
+measure_of (says units) = says (record { count = length units; bytes = length (joined units) })
+measure_of (refused r) = refused r

@@ -1,8 +1,8 @@
 // The units of a STAP-A.
 ghost use Rattle.std.specs.Prelude.{◌≡◌, ◌≤◌, length};
-ghost use Rattle.nal.specs.Fed.{layUnits};
-ghost use Rattle.nal.specs.Said.{outHeard};
-ghost use Rattle.nal_read.specs.Said.{measureSaid, measureOf};
+ghost use Rattle.nal.specs.Fed.{lay_units};
+ghost use Rattle.nal.specs.Said.{out_heard};
+ghost use Rattle.nal_read.specs.Said.{measure_said, measure_of};
 ghost use Rattle.nal_read.specs.Unpack.{unpack};
 
 use crate::Measured;
@@ -20,7 +20,7 @@ use nal::Handed;
 // +-+-+-+-+-+-+-+-+-+-+-+-+-+-+-+-+-+-+-+-+-+-+-+-+-+-+-+-+-+-+-+-+
 pub fn measure(payload: &[u8]) -> Measured
     requires { 1 ≤ length payload.now }
-    ensures { measureSaid result ≡ measureOf (unpack payload.now) }
+    ensures { measure_said result ≡ measure_of (unpack payload.now) }
 {
     let measured = nal::measure(&payload[1..]);
     match measured {
@@ -35,7 +35,7 @@ pub fn measure(payload: &[u8]) -> Measured
 // Hands out the units of a STAP-A.
 pub fn hand_stap_a(payload: &[u8], avc: bool, out: &mut [u8]) -> Handed
     requires { (1 ≤ length payload.now) × (length payload.now ≤ 65535) }
-    ensures { outHeard result out.new ≡ layUnits avc out.old (unpack payload.now) }
+    ensures { out_heard result out.new ≡ lay_units avc out.old (unpack payload.now) }
 {
     let measured = measure(payload);
     match measured {

@@ -1,7 +1,7 @@
 // The kind of a payload.
 ghost use Rattle.std.specs.Prelude.{◌≡◌, ◌<◌};
 ghost use Rattle.nal_read.specs.Kind.{shape};
-ghost use Rattle.nal_read.specs.Said.{shapeSaid};
+ghost use Rattle.nal_read.specs.Said.{shape_said};
 
 use crate::Kind;
 
@@ -19,7 +19,7 @@ pub const FUA_NALU_TYPE: u8 = 28;
 // |F|NRI|  Type   |   |S|E|R|  Type   |
 // +---------------+   +---------------+
 pub fn kind_of(payload: &[u8]) -> Kind
-    ensures { shapeSaid result ≡ shape payload.now }
+    ensures { shape_said result ≡ shape payload.now }
 {
     if payload.len() <= 1 {
         return Kind::Short;

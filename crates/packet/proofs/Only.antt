@@ -9,142 +9,142 @@ use lib.ListN.{length, get_or}
 use Rattle.error.specs.Refusal.{Refusal}
 use Rattle.error.specs.Said.{Said, says, refused, refuse}
 use Rattle.error.specs.Only.{Determined}
-use Rattle.error.proofs.Inverse.{errorOf, errorOf-refusalOf}
-use Rattle.error.proofs.Only.{by_value, by-view, by_both, Sayable, either-sayable, known, passed}
+use Rattle.error.proofs.Inverse.{error_of, error_of_refusal_of}
+use Rattle.error.proofs.Only.{by_value, by_view, by_both, Sayable, either_sayable, known, passed}
 use Rattle.elements.specs.declared.Extensions.{Extensions}
 use Rattle.block.specs.Form.{Form, form_of}
 use Rattle.header.specs.declared.Header.{Header}
 use Rattle.header_write.specs.declared.Fixed.{Fixed}
 use Rattle.header_write.specs.declared.Length.{Length}
-use Rattle.header.specs.Fields.{Fields, fields_of, blank, inDomain}
-use Rattle.header.specs.Parts.{together, bare, frontOf, Lent}
-use Rattle.header.specs.Read.{Reading, readHeader}
-use Rattle.header.specs.Size.{payloadLength}
+use Rattle.header.specs.Fields.{Fields, fields_of, blank, in_domain}
+use Rattle.header.specs.Parts.{together, bare, front_of, Lent}
+use Rattle.header.specs.Read.{Reading, read_header}
+use Rattle.header.specs.Size.{payload_length}
 use Rattle.header_write.specs.Judge.{judged}
-use Rattle.header.specs.Write.{inWritingDomain}
-use Rattle.header_write.specs.Said.{saidLength}
+use Rattle.header.specs.Write.{in_writing_domain}
+use Rattle.header_write.specs.Said.{said_length}
 use Rattle.header.specs.Said.{written}
-use Rattle.header.proofs.Only.{length-only, Left, heardLeft, written-only, judged-sayable, read-sayable}
+use Rattle.header.proofs.Only.{length_only, Left, heard_left, written_only, judged_sayable, read_sayable}
 use Rattle.packet.specs.declared.PacketRead.{PacketRead}
 use Rattle.packet.specs.declared.PacketRead.TheVariants as read
 use Rattle.packet.specs.declared.Unmarshalled.{Unmarshalled}
 use Rattle.packet.specs.declared.FrontRead.{FrontRead}
-use Rattle.packet.specs.Fronts.{FrontHeard, heardFront, frontHeard, lentRead}
-use Rattle.packet.specs.Read.{Payload, stripped, payloadAt, PacketReading, with-fields, behind, readPacket}
-use Rattle.packet.specs.Write.{packetOctets, packetSize, shortEnough, packetSizeAsked, writePacket}
-use Rattle.packet.specs.Said.{saidRead, Heard, heard, readingHeard}
-use Rattle.packet.proofs.Reading.{saidFront}
+use Rattle.packet.specs.Fronts.{FrontHeard, heard_front, front_heard, lent_read}
+use Rattle.packet.specs.Read.{Payload, stripped, payload_at, PacketReading, with_fields, behind, read_packet}
+use Rattle.packet.specs.Write.{packet_octets, packet_size, short_enough, packet_size_asked, write_packet}
+use Rattle.packet.specs.Said.{said_read, Heard, heard, reading_heard}
+use Rattle.packet.proofs.Reading.{said_front}
 
 -- ---- size and writing
 
-pub marshal-size-only : (h : Header) (payload : List ℕ) → Determined (λ (r : Length). saidLength r ≡ packetSizeAsked h payload)
-unfolding packetSizeAsked
-marshal-size-only h payload =
-    length-only (packetSizeAsked h payload)
-    (either-sayable {x = says (packetSize (fields_of h) payload)} {y = refuse 8} (inDomain h && shortEnough payload) refl refl)
+pub marshal_size_only : (h : Header) (payload : List ℕ) → Determined (λ (r : Length). said_length r ≡ packet_size_asked h payload)
+unfolding packet_size_asked
+marshal_size_only h payload =
+    length_only (packet_size_asked h payload)
+    (either_sayable {x = says (packet_size (fields_of h) payload)} {y = refuse 8} (in_domain h && short_enough payload) refl refl)
 
 -- .. of the header's record put together
-pub marshal-size-parts-only : (f : Fixed) (count : ℕ) (csrc : List ℕ) (profile : ℕ) (x : Extensions) (pads : ℕ) (payload : List ℕ) →
-    Determined (λ (r : Length). saidLength r ≡ packetSizeAsked (together f count csrc profile x pads) payload)
-marshal-size-parts-only f count csrc profile x pads payload = marshal-size-only (together f count csrc profile x pads) payload
+pub marshal_size_parts_only : (f : Fixed) (count : ℕ) (csrc : List ℕ) (profile : ℕ) (x : Extensions) (pads : ℕ) (payload : List ℕ) →
+    Determined (λ (r : Length). said_length r ≡ packet_size_asked (together f count csrc profile x pads) payload)
+marshal_size_parts_only f count csrc profile x pads payload = marshal_size_only (together f count csrc profile x pads) payload
 
-write-sayable : (h : Header) (payload : List ℕ) (room : ℕ) → Sayable (writePacket h payload room)
-unfolding writePacket
-write-sayable h payload room =
+write_sayable : (h : Header) (payload : List ℕ) (room : ℕ) → Sayable (write_packet h payload room)
+unfolding write_packet
+write_sayable h payload room =
     let form : Form = form_of h.extension_profile in
-    let n : ℕ = payloadLength (fields_of h) in
+    let n : ℕ = payload_length (fields_of h) in
     let count : ℕ = length (fields_of h).elements in
-    let octets : List ℕ = packetOctets (fields_of h) payload in
-    let size : ℕ = packetSize (fields_of h) payload in
+    let octets : List ℕ = packet_octets (fields_of h) payload in
+    let size : ℕ = packet_size (fields_of h) payload in
     let asked : Said (List ℕ) = cond h.extension (judged form n count (says octets)) (says octets) in
-    either-sayable {x = cond (ltb room size) (refuse 5) asked} {y = refuse 8} (inWritingDomain h && shortEnough payload)
-    (either-sayable {x = refuse 5} {y = asked} (ltb room size) refl (judged-sayable h.extension form n count octets)) refl
+    either_sayable {x = cond (ltb room size) (refuse 5) asked} {y = refuse 8} (in_writing_domain h && short_enough payload)
+    (either_sayable {x = refuse 5} {y = asked} (ltb room size) refl (judged_sayable h.extension form n count octets)) refl
 
-pub marshal-to-only : (h : Header) (payload buf : List ℕ) →
-    Determined (λ (a : Left). heardLeft a ≡ written buf (writePacket h payload (length buf)))
-marshal-to-only h payload buf =
-    written-only buf (writePacket h payload (length buf)) (write-sayable h payload (length buf))
+pub marshal_to_only : (h : Header) (payload buf : List ℕ) →
+    Determined (λ (a : Left). heard_left a ≡ written buf (write_packet h payload (length buf)))
+marshal_to_only h payload buf =
+    written_only buf (write_packet h payload (length buf)) (write_sayable h payload (length buf))
 
 -- of the header's record put together, and of the bare one
-pub marshal-parts-only : (f : Fixed) (count : ℕ) (csrc : List ℕ) (profile : ℕ) (x : Extensions) (pads : ℕ) (payload buf : List ℕ) →
-    Determined (λ (a : Left). heardLeft a ≡ written buf (writePacket (together f count csrc profile x pads) payload (length buf)))
-marshal-parts-only f count csrc profile x pads payload buf = marshal-to-only (together f count csrc profile x pads) payload buf
+pub marshal_parts_only : (f : Fixed) (count : ℕ) (csrc : List ℕ) (profile : ℕ) (x : Extensions) (pads : ℕ) (payload buf : List ℕ) →
+    Determined (λ (a : Left). heard_left a ≡ written buf (write_packet (together f count csrc profile x pads) payload (length buf)))
+marshal_parts_only f count csrc profile x pads payload buf = marshal_to_only (together f count csrc profile x pads) payload buf
 
-pub marshal-bare-only : (f : Fixed) (profile pads : ℕ) (payload buf : List ℕ) →
-    Determined (λ (a : Left). heardLeft a ≡ written buf (writePacket (bare f profile pads) payload (length buf)))
-marshal-bare-only f profile pads payload buf = marshal-to-only (bare f profile pads) payload buf
+pub marshal_bare_only : (f : Fixed) (profile pads : ℕ) (payload buf : List ℕ) →
+    Determined (λ (a : Left). heard_left a ≡ written buf (write_packet (bare f profile pads) payload (length buf)))
+marshal_bare_only f profile pads payload buf = marshal_to_only (bare f profile pads) payload buf
 
 -- ---- reading
 
-stripped-sayable : (s : List ℕ) (at : ℕ) → Sayable (stripped s at)
+stripped_sayable : (s : List ℕ) (at : ℕ) → Sayable (stripped s at)
 unfolding stripped
-stripped-sayable s at =
+stripped_sayable s at =
     let left : ℕ = length s - at in
     let n : ℕ = get_or s (length s - 1) 0 in
     let whole : Said Payload = says (record { place = at; len = left - n }) in
-    either-sayable {x = refuse 4} {y = cond (ltb left n) (refuse 4) whole} (eqb left 0) refl
-    (either-sayable {x = refuse 4} {y = whole} (ltb left n) refl refl)
+    either_sayable {x = refuse 4} {y = cond (ltb left n) (refuse 4) whole} (eqb left 0) refl
+    (either_sayable {x = refuse 4} {y = whole} (ltb left n) refl refl)
 
-payload-sayable : (s : List ℕ) (r : Reading) → Sayable (payloadAt s r)
-payload-sayable s r =
-    either-sayable {x = stripped s r.place} {y = says (record { place = r.place; len = length s - r.place })} r.fields.padding
-    (stripped-sayable s r.place) refl
+payload_sayable : (s : List ℕ) (r : Reading) → Sayable (payload_at s r)
+payload_sayable s r =
+    either_sayable {x = stripped s r.place} {y = says (record { place = r.place; len = length s - r.place })} r.fields.padding
+    (stripped_sayable s r.place) refl
 
-fields-sayable : (f : Fields) (x : Said Payload) → Sayable x → Sayable (with-fields f x)
-fields-sayable f (says p) e = refl
-fields-sayable f (refused r) e = passed {A = Payload} {r = r} e
+fields_sayable : (f : Fields) (x : Said Payload) → Sayable x → Sayable (with_fields f x)
+fields_sayable f (says p) e = refl
+fields_sayable f (refused r) e = passed {A = Payload} {r = r} e
 
-behind-sayable : (s : List ℕ) (x : Said Reading) → Sayable x → Sayable (behind s x)
-behind-sayable s (says r) e = fields-sayable r.fields (payloadAt s r) (payload-sayable s r)
-behind-sayable s (refused r) e = passed {A = Reading} {r = r} e
+behind_sayable : (s : List ℕ) (x : Said Reading) → Sayable x → Sayable (behind s x)
+behind_sayable s (says r) e = fields_sayable r.fields (payload_at s r) (payload_sayable s r)
+behind_sayable s (refused r) e = passed {A = Reading} {r = r} e
 
-pub packet-sayable : (s : List ℕ) → Sayable (readPacket s)
-unfolding readPacket
-packet-sayable s = behind-sayable s (readHeader s) (read-sayable s)
+pub packet_sayable : (s : List ℕ) → Sayable (read_packet s)
+unfolding read_packet
+packet_sayable s = behind_sayable s (read_header s) (read_sayable s)
 
 abbrev read_of : Said Payload → PacketRead
 read_of (says p) = read.Payload p.place p.len
-read_of (refused r) = read.Refused (errorOf r)
+read_of (refused r) = read.Refused (error_of r)
 
-readOf-said : (a : PacketRead) → read_of (saidRead a) ≡ a
-readOf-said (read.Payload place len) = refl
-readOf-said (read.Refused e) = ap read.Refused (errorOf-refusalOf e)
+read_of_said : (a : PacketRead) → read_of (said_read a) ≡ a
+read_of_said (read.Payload place len) = refl
+read_of_said (read.Refused e) = ap read.Refused (error_of_refusal_of e)
 
-abbrev unmarshalledOf : Heard → Unmarshalled
-unmarshalledOf h = record { read = read_of h.answer; header = h.header }
+abbrev unmarshalled_of : Heard → Unmarshalled
+unmarshalled_of h = record { read = read_of h.answer; header = h.header }
 
-unmarshalledOf-heard : (a : Unmarshalled) → unmarshalledOf (heard a) ≡ a
-unmarshalledOf-heard a = ap (λ (r : PacketRead). record { read = r; header = a.header }) (readOf-said a.read)
+unmarshalled_of_heard : (a : Unmarshalled) → unmarshalled_of (heard a) ≡ a
+unmarshalled_of_heard a = ap (λ (r : PacketRead). record { read = r; header = a.header }) (read_of_said a.read)
 
-heard-unmarshalledOf : (x : Said PacketReading) → Sayable x → heard (unmarshalledOf (readingHeard x)) ≡ readingHeard x
-heard-unmarshalledOf (says r) s = refl
-heard-unmarshalledOf (refused r) s =
+heard_unmarshalled_of : (x : Said PacketReading) → Sayable x → heard (unmarshalled_of (reading_heard x)) ≡ reading_heard x
+heard_unmarshalled_of (says r) s = refl
+heard_unmarshalled_of (refused r) s =
     ap (λ (k : Refusal). record { answer = refused k; header = blank }) (known {A = PacketReading} {r = r} s)
 
-pub unmarshal-only : (s : List ℕ) → Determined (λ (r : Unmarshalled). heard r ≡ readingHeard (readPacket s))
-unmarshal-only s =
-    by-view heard unmarshalledOf unmarshalledOf-heard (unmarshalledOf (readingHeard (readPacket s))) (readingHeard (readPacket s))
-    (heard-unmarshalledOf (readPacket s) (packet-sayable s))
+pub unmarshal_only : (s : List ℕ) → Determined (λ (r : Unmarshalled). heard r ≡ reading_heard (read_packet s))
+unmarshal_only s =
+    by_view heard unmarshalled_of unmarshalled_of_heard (unmarshalled_of (reading_heard (read_packet s))) (reading_heard (read_packet s))
+    (heard_unmarshalled_of (read_packet s) (packet_sayable s))
 
 -- .. without the arrays
-abbrev frontReadOf : FrontHeard → FrontRead
-frontReadOf h = record { read = read_of h.answer; front = h.front }
+abbrev front_read_of : FrontHeard → FrontRead
+front_read_of h = record { read = read_of h.answer; front = h.front }
 
-frontReadOf-heard : (a : FrontRead) → frontReadOf (heardFront a) ≡ a
-frontReadOf-heard a = ap (λ (r : PacketRead). record { read = r; front = a.front }) (readOf-said a.read)
+front_read_of_heard : (a : FrontRead) → front_read_of (heard_front a) ≡ a
+front_read_of_heard a = ap (λ (r : PacketRead). record { read = r; front = a.front }) (read_of_said a.read)
 
-heard-frontReadOf : (x : Said PacketReading) → Sayable x → heardFront (frontReadOf (saidFront x)) ≡ saidFront x
-heard-frontReadOf (says r) s = refl
-heard-frontReadOf (refused r) s =
-    ap (λ (k : Refusal). record { answer = refused k; front = frontOf blank }) (known {A = PacketReading} {r = r} s)
+heard_front_read_of : (x : Said PacketReading) → Sayable x → heard_front (front_read_of (said_front x)) ≡ said_front x
+heard_front_read_of (says r) s = refl
+heard_front_read_of (refused r) s =
+    ap (λ (k : Refusal). record { answer = refused k; front = front_of blank }) (known {A = PacketReading} {r = r} s)
 
-pub unmarshal-front-only : (s : List ℕ) → Determined (λ (r : FrontRead). heardFront r ≡ frontHeard (readingHeard (readPacket s)))
-unmarshal-front-only s =
-    let said : FrontHeard = saidFront (readPacket s) in
-    by-view heardFront frontReadOf frontReadOf-heard (frontReadOf said) said (heard-frontReadOf (readPacket s) (packet-sayable s))
+pub unmarshal_front_only : (s : List ℕ) → Determined (λ (r : FrontRead). heard_front r ≡ front_heard (reading_heard (read_packet s)))
+unmarshal_front_only s =
+    let said : FrontHeard = said_front (read_packet s) in
+    by_view heard_front front_read_of front_read_of_heard (front_read_of said) said (heard_front_read_of (read_packet s) (packet_sayable s))
 
-pub unmarshal-parts-only : (s : List ℕ) (old : Lent) →
+pub unmarshal_parts_only : (s : List ℕ) (old : Lent) →
     Determined
     (λ (a : FrontRead × Lent).
-    (heardFront a.0 ≡ frontHeard (readingHeard (readPacket s))) × (a.1 ≡ lentRead old (readPacket s)))
-unmarshal-parts-only s old = by_both (unmarshal-front-only s) (by_value (lentRead old (readPacket s)))
+    (heard_front a.0 ≡ front_heard (reading_heard (read_packet s))) × (a.1 ≡ lent_read old (read_packet s)))
+unmarshal_parts_only s old = by_both (unmarshal_front_only s) (by_value (lent_read old (read_packet s)))

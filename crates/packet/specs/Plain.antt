@@ -1,7 +1,7 @@
 -- A packet with the plainest header. Assumes nothing.
 use Rattle.std.specs.Prelude.{Bool, false, List, [], ℕ, ◌<◌}
 use Rattle.header.specs.Fields.{Fields}
-use Rattle.packet.specs.Write.{packetOctets}
+use Rattle.packet.specs.Write.{packet_octets}
 
 -- what a sender may choose for each packet
 pub record Stamp : Type 0 where
@@ -15,8 +15,8 @@ pub record Stampable (x : Stamp) : Type 0 where
   pub time : x.time < 4294967296
 
 -- "version 2, no padding, extensions or CSRCs"
-abbrev pub plainFields : Stamp → ℕ → ℕ → Fields
-plainFields x number source =
+abbrev pub plain_fields : Stamp → ℕ → ℕ → Fields
+plain_fields x number source =
     record {
       version = 2;
       padding = false;
@@ -33,5 +33,5 @@ plainFields x number source =
     }
 
 -- the octets that the packet writer writes
-unfoldable pub plainPacket : Stamp → ℕ → ℕ → List ℕ → List ℕ
-plainPacket x number source payload = packetOctets (plainFields x number source) payload
+unfoldable pub plain_packet : Stamp → ℕ → ℕ → List ℕ → List ℕ
+plain_packet x number source payload = packet_octets (plain_fields x number source) payload

@@ -1,9 +1,9 @@
 // Reading a packet: it is judged before the arrays of its record are filled; without the padding bit, by its header alone.
 ghost use Rattle.std.specs.Prelude.{◌≡◌, ◌/◌, ◌≤◌, length, get_or};
 ghost use Rattle.wire.specs.Net.{bit};
-ghost use Rattle.packet.specs.Read.{stripped, readPacket};
-ghost use Rattle.packet.specs.Fronts.{heardFront, frontHeard, lentRead};
-ghost use Rattle.packet.specs.Said.{saidRead, heard, readingHeard, Begins, unpadded};
+ghost use Rattle.packet.specs.Read.{stripped, read_packet};
+ghost use Rattle.packet.specs.Fronts.{heard_front, front_heard, lent_read};
+ghost use Rattle.packet.specs.Said.{said_read, heard, reading_heard, Begins, unpadded};
 
 use crate::{FrontRead, PacketRead, Unmarshalled};
 use error::Error;
@@ -12,7 +12,7 @@ use header::{Front, HeaderRead};
 // The header's answer as that of a packet without padding: its refusal, or all from the payload's place on.
 fn unpadded(read: HeaderRead, len: usize) -> PacketRead
     requires { Begins len read }
-    ensures { saidRead result ≡ unpadded len read }
+    ensures { said_read result ≡ unpadded len read }
 {
     match read {
         HeaderRead::Payload(at) => PacketRead::Payload { at, len: len - at },
@@ -24,7 +24,7 @@ fn unpadded(read: HeaderRead, len: usize) -> PacketRead
 // itself."
 fn strip(packet: &[u8], at: usize) -> PacketRead
     requires { at ≤ length packet.now }
-    ensures { saidRead result ≡ stripped packet.now at }
+    ensures { said_read result ≡ stripped packet.now at }
 {
     let left = packet.len() - at;
     if left == 0 {
@@ -39,7 +39,7 @@ fn strip(packet: &[u8], at: usize) -> PacketRead
 
 // The record's front: all but its arrays.
 pub fn unmarshal_front(packet: &[u8]) -> FrontRead
-    ensures { heardFront result ≡ frontHeard (readingHeard (readPacket packet.now)) }
+    ensures { heard_front result ≡ front_heard (reading_heard (read_packet packet.now)) }
 {
     let seen = header::unmarshal_front(packet);
     let read = seen.read;
@@ -84,9 +84,9 @@ fn unmarshal_padded(
     lens: &mut [u16; 32],
     bytes: &mut [u8; 1024],
 ) -> FrontRead
-    ensures result_value { heardFront result ≡ frontHeard (readingHeard (readPacket packet.now)) }
+    ensures result_value { heard_front result ≡ front_heard (reading_heard (read_packet packet.now)) }
     ensures bytes_after { record { csrc = csrc.exit.now; ids = ids.new; lens = lens.new; bytes = bytes.new }
-        ≡ lentRead (record { csrc = csrc.entry.now; ids = ids.old; lens = lens.old; bytes = bytes.old }) (readPacket packet.now) }
+        ≡ lent_read (record { csrc = csrc.entry.now; ids = ids.old; lens = lens.old; bytes = bytes.old }) (read_packet packet.now) }
 {
     let seen = unmarshal_front(packet);
     let read = seen.read;
@@ -105,9 +105,9 @@ pub fn unmarshal_parts(
     lens: &mut [u16; 32],
     bytes: &mut [u8; 1024],
 ) -> FrontRead
-    ensures result_value { heardFront result ≡ frontHeard (readingHeard (readPacket packet.now)) }
+    ensures result_value { heard_front result ≡ front_heard (reading_heard (read_packet packet.now)) }
     ensures bytes_after { record { csrc = csrc.exit.now; ids = ids.new; lens = lens.new; bytes = bytes.new }
-        ≡ lentRead (record { csrc = csrc.entry.now; ids = ids.old; lens = lens.old; bytes = bytes.old }) (readPacket packet.now) }
+        ≡ lent_read (record { csrc = csrc.entry.now; ids = ids.old; lens = lens.old; bytes = bytes.old }) (read_packet packet.now) }
 {
     if is_padded(packet) {
         return unmarshal_padded(packet, csrc, ids, lens, bytes);
@@ -122,7 +122,7 @@ pub fn unmarshal_parts(
 }
 
 pub fn unmarshal(packet: &[u8]) -> Unmarshalled
-    ensures { heard result ≡ readingHeard (readPacket packet.now) }
+    ensures { heard result ≡ reading_heard (read_packet packet.now) }
 {
     let mut csrc = [0u32; 15];
     let mut ids = [0u8; 32];

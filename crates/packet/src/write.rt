@@ -1,10 +1,10 @@
 // Writing a packet. Everything is judged before the first byte is written.
 ghost use Rattle.std.specs.Prelude.{◌≡◌, ◌++◌, ◌+◌, ◌%◌, ◌<◌, ◌≤◌, length};
 ghost use Rattle.wire.specs.Part.{splice};
-ghost use Rattle.header_write.specs.Said.{saidLength};
+ghost use Rattle.header_write.specs.Said.{said_length};
 ghost use Rattle.header.specs.Parts.{together, bare};
-ghost use Rattle.header.specs.Said.{heardWritten, written};
-ghost use Rattle.packet.specs.Write.{paddingLength, paddingOctets, packetSizeAsked, writePacket};
+ghost use Rattle.header.specs.Said.{heard_written, written};
+ghost use Rattle.packet.specs.Write.{padding_length, padding_octets, packet_size_asked, write_packet};
 
 use error::Error;
 use header::{Fixed, Header, Length};
@@ -20,7 +20,7 @@ fn get_padding(len: usize) -> usize
 
 // How many bytes of padding a payload gets: with the padding bit never none.
 fn padding_len(padding: bool, len: usize) -> usize
-    ensures { (result ≡ paddingLength padding len) × (result ≤ 4) }
+    ensures { (result ≡ padding_length padding len) × (result ≤ 4) }
 {
     if !padding {
         return 0;
@@ -41,7 +41,7 @@ pub fn marshal_size_parts<'a>(
     extensions_padding: usize,
     payload: &[u8],
 ) -> Length
-    ensures { saidLength result ≡ packetSizeAsked (together fixed csrc_count csrc.now profile (record { count = count; ids = ids.now; lens = lens.now; bytes = bytes.now }) extensions_padding) payload.now }
+    ensures { said_length result ≡ packet_size_asked (together fixed csrc_count csrc.now profile (record { count = count; ids = ids.now; lens = lens.now; bytes = bytes.now }) extensions_padding) payload.now }
 {
     let size = header::marshal_size_parts(
         fixed,
@@ -65,7 +65,7 @@ pub fn marshal_size_parts<'a>(
 }
 
 pub fn marshal_size(header: Header, payload: &[u8]) -> Length
-    ensures { saidLength result ≡ packetSizeAsked header payload.now }
+    ensures { said_length result ≡ packet_size_asked header payload.now }
 {
     marshal_size_parts(
         header.fixed(),
@@ -86,7 +86,7 @@ pub fn marshal_size(header: Header, payload: &[u8]) -> Length
 fn put_padding(rest: &mut [u8], at: usize, n: usize)
     requires n_in_bounds { at + n ≤ length rest.old }
     requires n_bound { n ≤ 4 }
-    ensures { rest.new ≡ splice rest.old at (paddingOctets n) }
+    ensures { rest.new ≡ splice rest.old at (padding_octets n) }
 {
     if n == 0 {
         return;
@@ -99,7 +99,7 @@ fn put_padding(rest: &mut [u8], at: usize, n: usize)
 fn put_payload(payload: &[u8], padding: usize, rest: &mut [u8]) -> usize
     requires padding_in_bounds { length payload.now + padding ≤ length rest.old }
     requires padding_bound { padding ≤ 4 }
-    ensures { (result ≡ length payload.now + padding) × (rest.new ≡ splice rest.old 0 (payload.now ++ paddingOctets padding)) }
+    ensures { (result ≡ length payload.now + padding) × (rest.new ≡ splice rest.old 0 (payload.now ++ padding_octets padding)) }
 {
     let len = payload.len();
     wire::copy_at(payload, rest, 0);
@@ -121,8 +121,8 @@ pub fn marshal_parts<'a>(
     payload: &[u8],
     buf: &mut [u8],
 ) -> Length
-    ensures { heardWritten result buf.new
-        ≡ written buf.old (writePacket (together fixed csrc_count csrc.now profile (record { count = count; ids = ids.now; lens = lens.now; bytes = bytes.now }) extensions_padding) payload.now (length buf.old)) }
+    ensures { heard_written result buf.new
+        ≡ written buf.old (write_packet (together fixed csrc_count csrc.now profile (record { count = count; ids = ids.now; lens = lens.now; bytes = bytes.now }) extensions_padding) payload.now (length buf.old)) }
 {
     // a slice tells its length
     let sources: &[u32] = csrc;
@@ -160,7 +160,7 @@ pub fn marshal_bare(
     payload: &[u8],
     buf: &mut [u8],
 ) -> Length
-    ensures { heardWritten result buf.new ≡ written buf.old (writePacket (bare fixed profile extensions_padding) payload.now (length buf.old)) }
+    ensures { heard_written result buf.new ≡ written buf.old (write_packet (bare fixed profile extensions_padding) payload.now (length buf.old)) }
 {
     if 3 < fixed.version || 127 < fixed.payload_type || 262140 < extensions_padding {
         return Length::Refused(Error::OutsideDomain);
@@ -182,7 +182,7 @@ pub fn marshal_bare(
 }
 
 pub fn marshal_to(header: Header, payload: &[u8], buf: &mut [u8]) -> Length
-    ensures { heardWritten result buf.new ≡ written buf.old (writePacket header payload.now (length buf.old)) }
+    ensures { heard_written result buf.new ≡ written buf.old (write_packet header payload.now (length buf.old)) }
 {
     marshal_parts(
         header.fixed(),

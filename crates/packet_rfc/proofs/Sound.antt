@@ -10,31 +10,31 @@ use native.Mathlib.Omega.{arith}
 use lib.ListN.{length, drop, length-append}
 use lib.Seq.{drop_at}
 use Rattle.error.specs.Said.{Said, says, refused}
-use Rattle.header.specs.Read.{Reading, readHeader}
+use Rattle.header.specs.Read.{Reading, read_header}
 use Rattle.rfc3550.specs.Rfc3550.{Octets, present}
 use Rattle.rfc3550.specs.Rfc8285.{Plan, Lawful, octets}
-use Rattle.rfc3550.specs.Packet.{Padding, Packet, LawfulEnd, endOctets, packetOctets, IsRtpPacket, lastOctet}
-use Rattle.rfc3550.proofs.Packets.{unambiguous-packets, length-padded, count-last, padded-counted}
-use Rattle.header_rfc.specs.Says.{fieldsWith, fieldsSaid, Within, Plain, Fits}
+use Rattle.rfc3550.specs.Packet.{Padding, Packet, LawfulEnd, end_octets, packet_octets, IsRtpPacket, last_octet}
+use Rattle.rfc3550.proofs.Packets.{unambiguous_packets, length_padded, count_last, padded_counted}
+use Rattle.header_rfc.specs.Says.{fields_with, fields_said, Within, Plain, Fits}
 use Rattle.header_rfc.specs.Says as header
-use Rattle.header_rfc.specs.Accepted.{payloadLeft}
+use Rattle.header_rfc.specs.Accepted.{payload_left}
 use Rattle.header_rfc.specs.Accepted as header-told
 use Rattle.header_rfc.proofs.Sound as header_read
 use Rattle.packet.specs.declared.PacketRead.TheVariants as read
 use Rattle.packet.specs.declared.Unmarshalled.{Unmarshalled}
-use Rattle.packet.specs.Read.{Payload, PacketReading, readPacket}
-use Rattle.packet.specs.Said.{saidRead, Heard, heard, readingHeard}
-use Rattle.packet_rfc.specs.Says.{headerOf, Measured, all, without-padding, uncounted, Conforming, ZeroCount, Straying, Told, Sound, CodeTold}
-use Rattle.packet_rfc.proofs.Behind.{readingAt, Accepted, accepted, read_all, read-padded, read-uncounted}
-use Rattle.packet_rfc.proofs.Deviations.{zero-no-packet}
+use Rattle.packet.specs.Read.{Payload, PacketReading, read_packet}
+use Rattle.packet.specs.Said.{said_read, Heard, heard, reading_heard}
+use Rattle.packet_rfc.specs.Says.{header_of, Measured, all, without_padding, uncounted, Conforming, ZeroCount, Straying, Told, Sound, CodeTold}
+use Rattle.packet_rfc.proofs.Behind.{reading_at, Accepted, accepted, read_all, read_padded, read_uncounted}
+use Rattle.packet_rfc.proofs.Deviations.{zero_no_packet}
 
 -- a well-formed header, and the octets behind it as they were measured
-module _ (s : List ℕ) (r : PacketReading) (c : header.Conforming s (headerOf r)) where
+module _ (s : List ℕ) (r : PacketReading) (c : header.Conforming s (header_of r)) where
   abbrev h : Plan
   h = c.plan
 
   bit : r.fields.padding ≡ h.fixed.padding
-  unfolding fieldsWith
+  unfolding fields_with
   bit = ap (λ (t : Reading). t.fields.padding) c.said
 
   rest : drop r.payload.place s ≡ c.payload
@@ -43,11 +43,11 @@ module _ (s : List ℕ) (r : PacketReading) (c : header.Conforming s (headerOf r
       ∙ ap (drop (length (octets h))) (sym c.same)
       ∙ drop_at (octets h) c.payload (length (octets h)) refl
 
-  said : (n : ℕ) → r.payload.len ≡ n → r ≡ readingAt (fieldsSaid h) (length (octets h)) n
+  said : (n : ℕ) → r.payload.len ≡ n → r ≡ reading_at (fields_said h) (length (octets h)) n
   said n e i = record { fields = (c.said i).fields; payload = record { place = (c.said i).place; len = e i } }
 
   conforms : Measured r.fields.padding c.payload r.payload.len → Conforming s r ⊎ ZeroCount s r
-  unfolding packetOctets
+  unfolding packet_octets
   conforms (all off e) =
       inl
       (record {
@@ -57,7 +57,7 @@ module _ (s : List ℕ) (r : PacketReading) (c : header.Conforming s (headerOf r
         same = ap (λ (t : List ℕ). octets h ++ t) (append-nil c.payload) ∙ c.same;
         said = said (length c.payload) e;
       })
-  conforms (without-padding on p e) =
+  conforms (without_padding on p e) =
       inl
       (record {
         plan = record { header = h; payload = p.payload; padding = some p.padding };
@@ -78,37 +78,37 @@ module _ (s : List ℕ) (r : PacketReading) (c : header.Conforming s (headerOf r
         said = said (length u.before + 1) (e ∙ sym (ap length u.same) ∙ length-append u.before (0 ∷ []));
       })
 
-pub sound : Sound readPacket
-sound s r o e = go (header_read.sound s (headerOf r) o a.header)
+pub sound : Sound read_packet
+sound s r o e = go (header_read.sound s (header_of r) o a.header)
   where
     a : Accepted s r
     a = accepted s r o e
 
-    told-by : Conforming s r ⊎ ZeroCount s r → Told s r
-    told-by (inl c) = inl c
-    told-by (inr z) = inr (inl z)
+    told_by : Conforming s r ⊎ ZeroCount s r → Told s r
+    told_by (inl c) = inl c
+    told_by (inr z) = inr (inl z)
 
     measured : (t : List ℕ) → drop r.payload.place s ≡ t → Measured r.fields.padding t r.payload.len
     measured t q = subst (λ (u : List ℕ). Measured r.fields.padding u r.payload.len) q a.payload
 
-    go : header-told.Told s (headerOf r) → Told s r
-    go (inl c) = told-by (conforms s r c (measured c.payload (rest s r c)))
-    go (inr d) = inr (inr (record { header = d; payload = measured (payloadLeft d) (header_read.left-told s (headerOf r) d) }))
+    go : header-told.Told s (header_of r) → Told s r
+    go (inl c) = told_by (conforms s r c (measured c.payload (rest s r c)))
+    go (inr d) = inr (inr (record { header = d; payload = measured (payload_left d) (header_read.left_told s (header_of r) d) }))
 
 -- ---- the code
 
 -- whatever `unmarshal` accepts under its contract
-pub code-sound : (u : Unmarshalled) (s : List ℕ) → Octets s → heard u ≡ readingHeard (readPacket s) → (place len : ℕ) → u.read ≡ read.Payload place len →
+pub code_sound : (u : Unmarshalled) (s : List ℕ) → Octets s → heard u ≡ reading_heard (read_packet s) → (place len : ℕ) → u.read ≡ read.Payload place len →
     CodeTold s u place len
-code-sound u s o contract place len answer = go (readPacket s) refl
+code_sound u s o contract place len answer = go (read_packet s) refl
   where
     at : Payload
     at = record { place = place; len = len }
 
-    said : (a : Said PacketReading) → readPacket s ≡ a → says at ≡ (readingHeard a).answer
-    said a e = sym (ap saidRead answer) ∙ ap (λ (x : Heard). x.answer) (contract ∙ ap readingHeard e)
+    said : (a : Said PacketReading) → read_packet s ≡ a → says at ≡ (reading_heard a).answer
+    said a e = sym (ap said_read answer) ∙ ap (λ (x : Heard). x.answer) (contract ∙ ap reading_heard e)
 
-    go : (a : Said PacketReading) → readPacket s ≡ a → CodeTold s u place len
+    go : (a : Said PacketReading) → read_packet s ≡ a → CodeTold s u place len
     go (says r) e =
         let p : says at ≡ says r.payload = said (says r) e in
         let same : r.payload ≡ at = cc in
@@ -116,7 +116,7 @@ code-sound u s o contract place len answer = go (readPacket s) refl
           reading = r;
           told = sound s r o e;
           payload = same;
-          header = ap (λ (x : Heard). x.header) (contract ∙ ap readingHeard e);
+          header = ap (λ (x : Heard). x.header) (contract ∙ ap reading_heard e);
         }
     go (refused w) e =
         let p : says at ≡ refused w = said (refused w) e in
@@ -125,79 +125,79 @@ code-sound u s o contract place len answer = go (readPacket s) refl
 -- ---- what is told is a header that is told, and octets behind it that are measured
 
 record Parts (s : List ℕ) (r : PacketReading) : Type 0 where
-  front : header-told.Told s (headerOf r)
+  front : header-told.Told s (header_of r)
   payload : Measured r.fields.padding (drop r.payload.place s) r.payload.len
 
 -- a lawful header in a form that is read as such, before the octets `body`
 module _ (s : List ℕ) (r : PacketReading) (h : Plan) (l : Lawful h) (plain : Plain h.content) (body : List ℕ) (same : octets h ++ body ≡ s) (n : ℕ)
-    (said : r ≡ readingAt (fieldsSaid h) (length (octets h)) n) where
-  plan-front : header.Conforming s (headerOf r)
-  plan-front = record { plan = h; lawful = l; plain = plain; payload = body; same = same; said = ap headerOf said }
+    (said : r ≡ reading_at (fields_said h) (length (octets h)) n) where
+  plan_front : header.Conforming s (header_of r)
+  plan_front = record { plan = h; lawful = l; plain = plain; payload = body; same = same; said = ap header_of said }
 
-  of-plan : Measured h.fixed.padding body n → Parts s r
-  unfolding fieldsWith
-  of-plan m =
+  of_plan : Measured h.fixed.padding body n → Parts s r
+  unfolding fields_with
+  of_plan m =
       record {
-        front = inl plan-front;
+        front = inl plan_front;
         payload = subst (λ (t : PacketReading). Measured t.fields.padding (drop t.payload.place s) t.payload.len) (sym said)
             (subst (λ (t : List ℕ). Measured h.fixed.padding t n)
             (sym (ap (drop (length (octets h))) (sym same) ∙ drop_at (octets h) body (length (octets h)) refl)) m);
       }
 
 -- the header of a well-formed packet, and that before a padding count of 0
-well-formed-front : (s : List ℕ) (r : PacketReading) → Conforming s r → header.Conforming s (headerOf r)
-unfolding packetOctets
-well-formed-front s r c =
-    plan-front s r c.plan.header c.lawful.header c.plain (c.plan.payload ++ endOctets c.plan.padding) c.same (length c.plan.payload) c.said
+well_formed_front : (s : List ℕ) (r : PacketReading) → Conforming s r → header.Conforming s (header_of r)
+unfolding packet_octets
+well_formed_front s r c =
+    plan_front s r c.plan.header c.lawful.header c.plain (c.plan.payload ++ end_octets c.plan.padding) c.same (length c.plan.payload) c.said
 
-zero-front : (s : List ℕ) (r : PacketReading) → ZeroCount s r → header.Conforming s (headerOf r)
-zero-front s r z = plan-front s r z.plan z.lawful z.plain (z.before ++ (0 ∷ [])) z.same (length z.before + 1) z.said
+zero_front : (s : List ℕ) (r : PacketReading) → ZeroCount s r → header.Conforming s (header_of r)
+zero_front s r z = plan_front s r z.plan z.lawful z.plain (z.before ++ (0 ∷ [])) z.same (length z.before + 1) z.said
 
-end-measured : (b : Bool) (payload : List ℕ) (e : Option Padding) → LawfulEnd e → b ≡ present e → Measured b (payload ++ endOctets e) (length payload)
-end-measured b payload none l q = all q (sym (ap length (append-nil payload)))
-end-measured b payload (some p) l q = without-padding q (record { payload = payload; padding = p; lawful = l; same = refl }) refl
+end_measured : (b : Bool) (payload : List ℕ) (e : Option Padding) → LawfulEnd e → b ≡ present e → Measured b (payload ++ end_octets e) (length payload)
+end_measured b payload none l q = all q (sym (ap length (append-nil payload)))
+end_measured b payload (some p) l q = without_padding q (record { payload = payload; padding = p; lawful = l; same = refl }) refl
 
 parts : (s : List ℕ) (r : PacketReading) → Told s r → Parts s r
-unfolding packetOctets
+unfolding packet_octets
 parts s r (inl c) =
-    of-plan s r c.plan.header c.lawful.header c.plain (c.plan.payload ++ endOctets c.plan.padding) c.same (length c.plan.payload) c.said
-    (end-measured c.plan.header.fixed.padding c.plan.payload c.plan.padding c.lawful.padding c.lawful.bit)
+    of_plan s r c.plan.header c.lawful.header c.plain (c.plan.payload ++ end_octets c.plan.padding) c.same (length c.plan.payload) c.said
+    (end_measured c.plan.header.fixed.padding c.plan.payload c.plan.padding c.lawful.padding c.lawful.bit)
 parts s r (inr (inl z)) =
-    of-plan s r z.plan z.lawful z.plain (z.before ++ (0 ∷ [])) z.same (length z.before + 1) z.said
+    of_plan s r z.plan z.lawful z.plain (z.before ++ (0 ∷ [])) z.same (length z.before + 1) z.said
     (uncounted z.bit (record { before = z.before; same = refl }) (sym (length-append z.before (0 ∷ []))))
 parts s r (inr (inr y)) =
     record {
       front = inr y.header;
-      payload = subst (λ (t : List ℕ). Measured r.fields.padding t r.payload.len) (sym (header_read.left-told s (headerOf r) y.header)) y.payload;
+      payload = subst (λ (t : List ℕ). Measured r.fields.padding t r.payload.len) (sym (header_read.left_told s (header_of r) y.header)) y.payload;
     }
 
 -- the octets tell how many of them are payload
-measured-once : (b : Bool) (rest : List ℕ) (m n : ℕ) → Measured b rest m → Measured b rest n → m ≡ n
-measured-once b rest m n (all off e) (all off' d) = e ∙ sym d
-measured-once b rest m n (all off e) (without-padding on p d) = absurd (let z : ◌≡◌ {A = ℕ} 0 1 = cc in omega arith)
-measured-once b rest m n (all off e) (uncounted on u d) = absurd (let z : ◌≡◌ {A = ℕ} 0 1 = cc in omega arith)
-measured-once b rest m n (without-padding on p e) (all off d) = absurd (let z : ◌≡◌ {A = ℕ} 0 1 = cc in omega arith)
-measured-once b rest m n (without-padding on p e) (without-padding on' q d) =
+measured_once : (b : Bool) (rest : List ℕ) (m n : ℕ) → Measured b rest m → Measured b rest n → m ≡ n
+measured_once b rest m n (all off e) (all off' d) = e ∙ sym d
+measured_once b rest m n (all off e) (without_padding on p d) = absurd (let z : ◌≡◌ {A = ℕ} 0 1 = cc in omega arith)
+measured_once b rest m n (all off e) (uncounted on u d) = absurd (let z : ◌≡◌ {A = ℕ} 0 1 = cc in omega arith)
+measured_once b rest m n (without_padding on p e) (all off d) = absurd (let z : ◌≡◌ {A = ℕ} 0 1 = cc in omega arith)
+measured_once b rest m n (without_padding on p e) (without_padding on' q d) =
     omega
-    (arith, sym (ap length p.same) ∙ length-padded p.payload p.padding, sym (ap length q.same) ∙ length-padded q.payload q.padding, sym (ap lastOctet p.same) ∙ count-last p.payload p.padding, sym (ap lastOctet q.same) ∙ count-last q.payload q.padding)
-measured-once b rest m n (without-padding on p e) (uncounted on' u d) = absurd (padded-counted rest p u)
-measured-once b rest m n (uncounted on u e) (all off d) = absurd (let z : ◌≡◌ {A = ℕ} 0 1 = cc in omega arith)
-measured-once b rest m n (uncounted on u e) (without-padding on' p d) = absurd (padded-counted rest p u)
-measured-once b rest m n (uncounted on u e) (uncounted on' v d) = e ∙ sym d
+    (arith, sym (ap length p.same) ∙ length_padded p.payload p.padding, sym (ap length q.same) ∙ length_padded q.payload q.padding, sym (ap last_octet p.same) ∙ count_last p.payload p.padding, sym (ap last_octet q.same) ∙ count_last q.payload q.padding)
+measured_once b rest m n (without_padding on p e) (uncounted on' u d) = absurd (padded_counted rest p u)
+measured_once b rest m n (uncounted on u e) (all off d) = absurd (let z : ◌≡◌ {A = ℕ} 0 1 = cc in omega arith)
+measured_once b rest m n (uncounted on u e) (without_padding on' p d) = absurd (padded_counted rest p u)
+measured_once b rest m n (uncounted on u e) (uncounted on' v d) = e ∙ sym d
 
 -- so the octets alone determine what is told ..
-pub told-once : (s : List ℕ) (r t : PacketReading) → Told s r → Told s t → r ≡ t
-told-once s r t a b =
+pub told_once : (s : List ℕ) (r t : PacketReading) → Told s r → Told s t → r ≡ t
+told_once s r t a b =
     let x : Parts s r = parts s r a in
     let y : Parts s t = parts s t b in
-    let fields : headerOf r ≡ headerOf t = header_read.told-once s (headerOf r) (headerOf t) x.front y.front in
+    let fields : header_of r ≡ header_of t = header_read.told_once s (header_of r) (header_of t) x.front y.front in
     let len : r.payload.len ≡ t.payload.len =
-    measured-once t.fields.padding (drop t.payload.place s) r.payload.len t.payload.len
+    measured_once t.fields.padding (drop t.payload.place s) r.payload.len t.payload.len
     (subst (λ (h : Reading). Measured h.fields.padding (drop h.place s) r.payload.len) fields x.payload) y.payload in
     λ i. record { fields = (fields i).fields; payload = record { place = (fields i).place; len = len i } }
 
 -- .. and within the limits it is what is read ..
-pub exact : (s : List ℕ) (r : PacketReading) → Fits s → Within r.fields.elements → Told s r → readPacket s ≡ says r
+pub exact : (s : List ℕ) (r : PacketReading) → Fits s → Within r.fields.elements → Told s r → read_packet s ≡ says r
 exact s r fits w a = go x.payload
   where
     x : Parts s r
@@ -206,40 +206,40 @@ exact s r fits w a = go x.payload
     rest : List ℕ
     rest = drop r.payload.place s
 
-    read : readHeader s ≡ says (headerOf r)
-    read = header_read.exact s (headerOf r) fits w x.front
+    read : read_header s ≡ says (header_of r)
+    read = header_read.exact s (header_of r) fits w x.front
 
-    said : (n : ℕ) → r.payload.len ≡ n → readPacket s ≡ says (readingAt r.fields r.payload.place n) → readPacket s ≡ says r
-    said n e q = q ∙ ap (λ (k : ℕ). says (readingAt r.fields r.payload.place k)) (sym e)
+    said : (n : ℕ) → r.payload.len ≡ n → read_packet s ≡ says (reading_at r.fields r.payload.place n) → read_packet s ≡ says r
+    said n e q = q ∙ ap (λ (k : ℕ). says (reading_at r.fields r.payload.place k)) (sym e)
 
-    go : Measured r.fields.padding rest r.payload.len → readPacket s ≡ says r
+    go : Measured r.fields.padding rest r.payload.len → read_packet s ≡ says r
     go (all off e) = said (length rest) e (read_all s rest r.payload.place refl r.fields read off)
-    go (without-padding on p e) = said (length p.payload) e (read-padded s rest r.payload.place refl r.fields read on p.payload p.padding p.same)
-    go (uncounted on u e) = said (length rest) e (read-uncounted s rest r.payload.place refl r.fields read on u.before u.same)
+    go (without_padding on p e) = said (length p.payload) e (read_padded s rest r.payload.place refl r.fields read on p.payload p.padding p.same)
+    go (uncounted on u e) = said (length rest) e (read_uncounted s rest r.payload.place refl r.fields read on u.before u.same)
 
 -- .. where whatever is read stands
-pub limits : (s : List ℕ) (r : PacketReading) → Octets s → readPacket s ≡ says r → Fits s × Within r.fields.elements
-limits s r o e = header_read.limits s (headerOf r) o (accepted s r o e).header
+pub limits : (s : List ℕ) (r : PacketReading) → Octets s → read_packet s ≡ says r → Fits s × Within r.fields.elements
+limits s r o e = header_read.limits s (header_of r) o (accepted s r o e).header
 
 -- ---- the three never meet
 
 -- what is well-formed neither has a padding count of 0 nor strays ..
-pub well-formed-alone : (s : List ℕ) (r t : PacketReading) → Conforming s r → ZeroCount s t ⊎ Straying s t → ⊥
-well-formed-alone s r t c (inl z) = zero-no-packet z.plan z.before z.lawful z.bit c.plan c.lawful (c.same ∙ sym z.same)
-well-formed-alone s r t c (inr y) = header_read.well-formed-alone s (headerOf r) (headerOf t) (well-formed-front s r c) y.header
+pub well_formed_alone : (s : List ℕ) (r t : PacketReading) → Conforming s r → ZeroCount s t ⊎ Straying s t → ⊥
+well_formed_alone s r t c (inl z) = zero_no_packet z.plan z.before z.lawful z.bit c.plan c.lawful (c.same ∙ sym z.same)
+well_formed_alone s r t c (inr y) = header_read.well_formed_alone s (header_of r) (header_of t) (well_formed_front s r c) y.header
 
 -- .. and where the padding count is 0 the header does not
-pub zero-alone : (s : List ℕ) (r t : PacketReading) → ZeroCount s r → Straying s t → ⊥
-zero-alone s r t z y = header_read.well-formed-alone s (headerOf r) (headerOf t) (zero-front s r z) y.header
+pub zero_alone : (s : List ℕ) (r t : PacketReading) → ZeroCount s r → Straying s t → ⊥
+zero_alone s r t z y = header_read.well_formed_alone s (header_of r) (header_of t) (zero_front s r z) y.header
 
 -- ---- version 2
 
 -- a well-formed packet is one of the RFC exactly where what was read says version 2
-pub of-version-2 : (s : List ℕ) (r : PacketReading) → Conforming s r → (r.fields.version ≡ 2 → IsRtpPacket s) × (IsRtpPacket s → r.fields.version ≡ 2)
-unfolding fieldsWith
-of-version-2 s r c = (
+pub of_version_2 : (s : List ℕ) (r : PacketReading) → Conforming s r → (r.fields.version ≡ 2 → IsRtpPacket s) × (IsRtpPacket s → r.fields.version ≡ 2)
+unfolding fields_with
+of_version_2 s r c = (
   λ v. record { plan = c.plan; lawful = c.lawful; version = sym told ∙ v; same = c.same },
-  λ p. told ∙ ap (λ (q : Packet). q.header.fixed.version) (unambiguous-packets c.plan p.plan c.lawful p.lawful (c.same ∙ sym p.same)) ∙ p.version,
+  λ p. told ∙ ap (λ (q : Packet). q.header.fixed.version) (unambiguous_packets c.plan p.plan c.lawful p.lawful (c.same ∙ sym p.same)) ∙ p.version,
 )
   where
     told : r.fields.version ≡ c.plan.header.fixed.version

@@ -4,10 +4,10 @@ use Prim.Native.Nat.{ℕ, zero, suc}
 use lib.ListN.{drop}
 use Rattle.rfc3550.specs.Rfc3550.{AllBelow}
 
-pub below-drop : (k n : ℕ) (s : List ℕ) → AllBelow k s → AllBelow k (drop n s)
-below-drop k zero s h = h
-below-drop k (suc n) [] h = h
-below-drop k (suc n) (x ∷ s) h = below-drop k n s h.1
+pub below_drop : (k n : ℕ) (s : List ℕ) → AllBelow k s → AllBelow k (drop n s)
+below_drop k zero s h = h
+below_drop k (suc n) [] h = h
+below_drop k (suc n) (x ∷ s) h = below_drop k n s h.1
 
 pub below_left : (k : ℕ) (a b : List ℕ) → AllBelow k (a ++ b) → AllBelow k a
 below_left k [] b h = tt

@@ -16,16 +16,16 @@ pub record Padding : Type 0 where
   pub before : List ℕ
 
 -- the last octet of the padding is the count of its octets, itself included
-abbrev pub countIn : Padding → ℕ
-countIn p = length p.before + 1
+abbrev pub count_in : Padding → ℕ
+count_in p = length p.before + 1
 
 -- the count is one octet, so that there are 1 to 255 octets of padding
 abbrev pub LawfulPadding : Padding → Type 0
-LawfulPadding p = countIn p < 256
+LawfulPadding p = count_in p < 256
 
 -- the count stands at the padding's end
-abbrev pub paddingOctets : Padding → List ℕ
-paddingOctets p = p.before ++ (countIn p ∷ [])
+abbrev pub padding_octets : Padding → List ℕ
+padding_octets p = p.before ++ (count_in p ∷ [])
 
 -- ---- the packet
 
@@ -48,20 +48,20 @@ pub record LawfulPacket (p : Packet) : Type 0 where
   pub padding : LawfulEnd p.padding
 
 -- nothing follows the payload of a packet without padding
-abbrev pub endOctets : Option Padding → List ℕ
-endOctets none = []
-endOctets (some p) = paddingOctets p
+abbrev pub end_octets : Option Padding → List ℕ
+end_octets none = []
+end_octets (some p) = padding_octets p
 
 -- the padding stands at the end of the packet, and is no part of the payload
-unfoldable pub packetOctets : Packet → List ℕ
-packetOctets p = octets p.header ++ (p.payload ++ endOctets p.padding)
+unfoldable pub packet_octets : Packet → List ℕ
+packet_octets p = octets p.header ++ (p.payload ++ end_octets p.padding)
 
 -- s is a packet of RTP as the RFC defines it: the version is two
 pub record IsRtpPacket (s : List ℕ) : Type 0 where
   pub plan : Packet
   pub lawful : LawfulPacket plan
   pub version : plan.header.fixed.version ≡ 2
-  pub same : packetOctets plan ≡ s
+  pub same : packet_octets plan ≡ s
 
 -- ---- the octets behind a header with the P bit
 
@@ -70,7 +70,7 @@ pub record Padded (s : List ℕ) : Type 0 where
   pub payload : List ℕ
   pub padding : Padding
   pub lawful : LawfulPadding padding
-  pub same : payload ++ paddingOctets padding ≡ s
+  pub same : payload ++ padding_octets padding ≡ s
 
 -- s ends in a count of 0, which does not count itself
 pub record Uncounted (s : List ℕ) : Type 0 where
@@ -78,12 +78,12 @@ pub record Uncounted (s : List ℕ) : Type 0 where
   pub same : before ++ (0 ∷ []) ≡ s
 
 -- where the count stands
-abbrev pub lastOctet : List ℕ → ℕ
-lastOctet s = get_or s (length s - 1) 0
+abbrev pub last_octet : List ℕ → ℕ
+last_octet s = get_or s (length s - 1) 0
 
 -- s has no room for the padding that it ends in
 pub data Short (s : List ℕ) : Type 0 where
   -- there is no count
-  nothing-there : length s ≡ 0 → Short s
+  nothing_there : length s ≡ 0 → Short s
   -- the count is of more octets than there are
-  over-counted : length s < lastOctet s → Short s
+  over_counted : length s < last_octet s → Short s

@@ -3,7 +3,7 @@
 use Rattle.std.specs.Prelude.{◌≡◌, Bool, true, false, List, [], ◌∷◌, ◌++◌, ℕ, ◌+◌, ◌*◌, ◌/◌, ◌%◌, ◌<◌, ◌≤◌, length, get_or}
 use Rattle.std.proofs.Math.Option.{Option, none, some}
 use Rattle.wire.specs.Each.{Each}
-use Rattle.wire.specs.Net.{be16, be32, u16At}
+use Rattle.wire.specs.Net.{be16, be32, u16_at}
 
 -- each number of a list is below n
 abbrev pub AllBelow : ℕ → List ℕ → Type 0
@@ -32,8 +32,8 @@ pub record Fixed : Type 0 where
   pub version : ℕ
   pub padding : Bool
   pub marker : Bool
-  pub payload-type : ℕ
-  pub sequence-number : ℕ
+  pub payload_type : ℕ
+  pub sequence_number : ℕ
   pub timestamp : ℕ
   pub ssrc : ℕ
   pub csrcs : List ℕ
@@ -41,36 +41,36 @@ pub record Fixed : Type 0 where
 -- V 2 bits, CC 4 bits, PT 7 bits, sequence number 16 bits, timestamp, SSRC and each CSRC 32 bits
 pub record LawfulFixed (f : Fixed) : Type 0 where
   pub version : f.version < 4
-  pub payload-type : f.payload-type < 128
-  pub sequence-number : f.sequence-number < 65536
+  pub payload_type : f.payload_type < 128
+  pub sequence_number : f.sequence_number < 65536
   pub timestamp : f.timestamp < 4294967296
   pub ssrc : f.ssrc < 4294967296
   pub count : length f.csrcs < 16
   pub csrcs : AllBelow 4294967296 f.csrcs
 
 -- a bit of the figure
-abbrev pub oneIf : Bool → ℕ
-oneIf true = 1
-oneIf false = 0
+abbrev pub one_if : Bool → ℕ
+one_if true = 1
+one_if false = 0
 
 -- V, P, X, CC
-abbrev pub firstOctet : Fixed → Bool → ℕ
-firstOctet f x = f.version * 64 + oneIf f.padding * 32 + oneIf x * 16 + length f.csrcs
+abbrev pub first_octet : Fixed → Bool → ℕ
+first_octet f x = f.version * 64 + one_if f.padding * 32 + one_if x * 16 + length f.csrcs
 
 -- M, PT
-abbrev pub secondOctet : Fixed → ℕ
-secondOctet f = oneIf f.marker * 128 + f.payload-type
+abbrev pub second_octet : Fixed → ℕ
+second_octet f = one_if f.marker * 128 + f.payload_type
 
 -- 0 to 15 CSRCs, each of 32 bits, in the list's order
-abbrev pub csrcOctets : List ℕ → List ℕ
-csrcOctets [] = []
-csrcOctets (c ∷ cs) = be32 c ++ csrcOctets cs
+abbrev pub csrc_octets : List ℕ → List ℕ
+csrc_octets [] = []
+csrc_octets (c ∷ cs) = be32 c ++ csrc_octets cs
 
 -- the octets of the figure; x is the extension bit
-unfoldable pub fixedOctets : Fixed → Bool → List ℕ
-fixedOctets f x =
-    (firstOctet f x ∷ secondOctet f ∷ [])
-    ++ (be16 f.sequence-number ++ (be32 f.timestamp ++ (be32 f.ssrc ++ csrcOctets f.csrcs)))
+unfoldable pub fixed_octets : Fixed → Bool → List ℕ
+fixed_octets f x =
+    (first_octet f x ∷ second_octet f ∷ [])
+    ++ (be16 f.sequence_number ++ (be32 f.timestamp ++ (be32 f.ssrc ++ csrc_octets f.csrcs)))
 
 -- ---- section 5.3.1, the header extension
 --
@@ -97,8 +97,8 @@ pub record LawfulExtension (x : Extension) : Type 0 where
   pub content : length x.content ≡ 4 * x.words
 
 -- the octets of the figure
-unfoldable pub extensionOctets : Extension → List ℕ
-extensionOctets x = be16 x.profile ++ (be16 x.words ++ x.content)
+unfoldable pub extension_octets : Extension → List ℕ
+extension_octets x = be16 x.profile ++ (be16 x.words ++ x.content)
 
 -- ---- the header
 
@@ -123,13 +123,13 @@ pub record Lawful (p : Plan) : Type 0 where
   pub extension : LawfulPart p.extension
 
 -- without an extension nothing follows the CSRC list
-abbrev pub partOctets : Option Extension → List ℕ
-partOctets none = []
-partOctets (some x) = extensionOctets x
+abbrev pub part_octets : Option Extension → List ℕ
+part_octets none = []
+part_octets (some x) = extension_octets x
 
 -- the extension follows the CSRC list
 unfoldable pub octets : Plan → List ℕ
-octets p = fixedOctets p.fixed (present p.extension) ++ partOctets p.extension
+octets p = fixed_octets p.fixed (present p.extension) ++ part_octets p.extension
 
 -- s is the octets of a lawful plan, and then a payload
 pub record Begins (s : List ℕ) : Type 0 where
@@ -146,28 +146,28 @@ pub record IsRtp (s : List ℕ) : Type 0 where
 -- ---- octets that no header begins
 
 -- the fields by which a header tells its own length, where they stand: CC, X, and the extension's length
-abbrev pub countAt : List ℕ → ℕ
-countAt s = get_or s 0 0 % 16
+abbrev pub count_at : List ℕ → ℕ
+count_at s = get_or s 0 0 % 16
 
 -- X, the fourth bit
-abbrev pub extensionBit : List ℕ → ℕ
-extensionBit s = get_or s 0 0 / 16 % 2
+abbrev pub extension_bit : List ℕ → ℕ
+extension_bit s = get_or s 0 0 / 16 % 2
 
 -- where the extension begins
-abbrev pub extensionAt : List ℕ → ℕ
-extensionAt s = 12 + 4 * countAt s
+abbrev pub extension_at : List ℕ → ℕ
+extension_at s = 12 + 4 * count_at s
 
 -- the length field, behind the 16 bits defined by profile
-abbrev pub wordsAt : List ℕ → ℕ
-wordsAt s = u16At s (extensionAt s + 2)
+abbrev pub words_at : List ℕ → ℕ
+words_at s = u16_at s (extension_at s + 2)
 
 -- s ends before the header that it begins
 pub data CutShort (s : List ℕ) : Type 0 where
   -- within the twelve octets that every header has
-  fixed-cut : length s < 12 → CutShort s
+  fixed_cut : length s < 12 → CutShort s
   -- within the CSRC list
-  csrcs-cut : 12 ≤ length s → length s < extensionAt s → CutShort s
+  csrcs_cut : 12 ≤ length s → length s < extension_at s → CutShort s
   -- within the four octets in front of the extension's content
-  head-cut : extensionBit s ≡ 1 → extensionAt s ≤ length s → length s < extensionAt s + 4 → CutShort s
+  head_cut : extension_bit s ≡ 1 → extension_at s ≤ length s → length s < extension_at s + 4 → CutShort s
   -- within the content
-  content-cut : extensionBit s ≡ 1 → extensionAt s + 4 ≤ length s → length s < extensionAt s + 4 + 4 * wordsAt s → CutShort s
+  content_cut : extension_bit s ≡ 1 → extension_at s + 4 ≤ length s → length s < extension_at s + 4 + 4 * words_at s → CutShort s

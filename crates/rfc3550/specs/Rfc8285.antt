@@ -12,12 +12,12 @@ use Rattle.rfc3550.specs.Rfc3550 as rtp
 -- the two-byte form leaves four bits of the profile to the application
 pub data Form : Type 0 where
   one_byte : Form
-  two-byte : (appbits : ℕ) → Form
+  two_byte : (appbits : ℕ) → Form
 
 -- appbits is four bits wide
 abbrev pub LawfulForm : Form → Type 0
 LawfulForm one_byte = Unit
-LawfulForm (two-byte appbits) = appbits < 16
+LawfulForm (two_byte appbits) = appbits < 16
 
 -- section 4.2: 0xBEDE; section 4.3:
 --
@@ -26,9 +26,9 @@ LawfulForm (two-byte appbits) = appbits < 16
 --   +-+-+-+-+-+-+-+-+-+-+-+-+-+-+-+-+
 --   |         0x100         |appbits|
 --   +-+-+-+-+-+-+-+-+-+-+-+-+-+-+-+-+
-abbrev pub profileOf : Form → ℕ
-profileOf one_byte = 0xBEDE
-profileOf (two-byte appbits) = 0x1000 + appbits
+abbrev pub profile_of : Form → ℕ
+profile_of one_byte = 0xBEDE
+profile_of (two_byte appbits) = 0x1000 + appbits
 
 -- ---- items
 
@@ -38,26 +38,26 @@ pub data Item : Type 0 where
   element : (id : ℕ) (bytes : List ℕ) → Item
 
 -- local identifiers are 1 to 14 in the one_byte form and 1 to 255 in the two-byte form
-abbrev pub highestId : Form → ℕ
-highestId one_byte = 14
-highestId (two-byte appbits) = 255
+abbrev pub highest_id : Form → ℕ
+highest_id one_byte = 14
+highest_id (two_byte appbits) = 255
 
 -- 1 to 16 bytes of data in the one_byte form, 0 to 255 in the two-byte form
-abbrev pub leastData : Form → ℕ
-leastData one_byte = 1
-leastData (two-byte appbits) = 0
+abbrev pub least_data : Form → ℕ
+least_data one_byte = 1
+least_data (two_byte appbits) = 0
 
 -- the longest data that the length field can tell
-abbrev pub mostData : Form → ℕ
-mostData one_byte = 16
-mostData (two-byte appbits) = 255
+abbrev pub most_data : Form → ℕ
+most_data one_byte = 16
+most_data (two_byte appbits) = 255
 
 -- an element with n bytes of data
 pub record LawfulElement (form : Form) (id n : ℕ) : Type 0 where
-  pub not-padding : 1 ≤ id
-  pub id-fits : id ≤ highestId form
-  pub enough : leastData form ≤ n
-  pub data-fits : n ≤ mostData form
+  pub not_padding : 1 ≤ id
+  pub id_fits : id ≤ highest_id form
+  pub enough : least_data form ≤ n
+  pub data_fits : n ≤ most_data form
 
 -- nothing is asked of padding; an element has an id and a length of its form
 abbrev pub LawfulItem : Form → Item → Type 0
@@ -75,19 +75,19 @@ AllLawful form is = Each (LawfulItem form) is
 --   +-+-+-+-+-+-+-+-+            +-+-+-+-+-+-+-+-+-+-+-+-+-+-+-+-+
 --   |  ID   |  len  |            |       ID      |     length    |
 --   +-+-+-+-+-+-+-+-+            +-+-+-+-+-+-+-+-+-+-+-+-+-+-+-+-+
-abbrev pub headOctets : Form → ℕ → ℕ → List ℕ
-headOctets one_byte id n = (id * 16 + (n - 1)) ∷ []
-headOctets (two-byte appbits) id n = id ∷ n ∷ []
+abbrev pub head_octets : Form → ℕ → ℕ → List ℕ
+head_octets one_byte id n = (id * 16 + (n - 1)) ∷ []
+head_octets (two_byte appbits) id n = id ∷ n ∷ []
 
 -- section 4.1.2: a padding octet is 0, and has neither length nor data
-abbrev pub itemOctets : Form → Item → List ℕ
-itemOctets form padding = 0 ∷ []
-itemOctets form (element id bytes) = headOctets form id (length bytes) ++ bytes
+abbrev pub item_octets : Form → Item → List ℕ
+item_octets form padding = 0 ∷ []
+item_octets form (element id bytes) = head_octets form id (length bytes) ++ bytes
 
 -- each item stands directly behind the one before it
-abbrev pub blockOctets : Form → List Item → List ℕ
-blockOctets form [] = []
-blockOctets form (i ∷ is) = itemOctets form i ++ blockOctets form is
+abbrev pub block_octets : Form → List Item → List ℕ
+block_octets form [] = []
+block_octets form (i ∷ is) = item_octets form i ++ block_octets form is
 
 -- ---- the extension
 
@@ -102,19 +102,19 @@ LawfulContent (laid form items) = LawfulForm form × AllLawful form items
 LawfulContent (other profile words) = (profile ≢ 0xBEDE) × (profile / 16 ≢ 0x100)
 
 -- the extension with these octets; it is lawful where they are whole words
-abbrev pub extensionWith : ℕ → List ℕ → Extension
-extensionWith profile s = record { profile = profile; words = length s / 4; content = s }
+abbrev pub extension_with : ℕ → List ℕ → Extension
+extension_with profile s = record { profile = profile; words = length s / 4; content = s }
 
 -- the profile tells the form
-abbrev pub extensionOf : Content → Extension
-extensionOf (laid form items) = extensionWith (profileOf form) (blockOctets form items)
-extensionOf (other profile words) = extensionWith profile words
+abbrev pub extension_of : Content → Extension
+extension_of (laid form items) = extension_with (profile_of form) (block_octets form items)
+extension_of (other profile words) = extension_with profile words
 
 -- an extension that is laid out as its profile asks
 pub record Conforms (x : Extension) : Type 0 where
   pub content : Content
   pub lawful : LawfulContent content
-  pub same : extensionOf content ≡ x
+  pub same : extension_of content ≡ x
 
 -- ---- the header
 
@@ -124,13 +124,13 @@ pub record Plan : Type 0 where
   pub content : Option Content
 
 -- the extension as RFC 3550 has it: a profile and octets
-abbrev pub extensionIn : Option Content → Option Extension
-extensionIn none = none
-extensionIn (some c) = some (extensionOf c)
+abbrev pub extension_in : Option Content → Option Extension
+extension_in none = none
+extension_in (some c) = some (extension_of c)
 
 -- the header as RFC 3550 has it
 abbrev pub plan_of : Plan → rtp.Plan
-plan_of p = record { fixed = p.fixed; extension = extensionIn p.content }
+plan_of p = record { fixed = p.fixed; extension = extension_in p.content }
 
 -- a header may have no extension
 abbrev pub LawfulPart : Option Content → Type 0
@@ -153,7 +153,7 @@ pub data Stray : Type 0 where
   -- section 4.2, one_byte form: the reserved id 15, whatever its length field
   reserved : (len : ℕ) (rest : List ℕ) → Stray
   -- section 4.1.2, one_byte form: id 0 with a length field above 0 (in the two-byte form an octet 0 in an id's place is padding)
-  zero-id : (len : ℕ) (rest : List ℕ) → Stray
+  zero_id : (len : ℕ) (rest : List ℕ) → Stray
   -- an element of n bytes of which the block holds only `part`
   leaves : (id n : ℕ) (part : List ℕ) → Stray
   -- two-byte form: an id as the block's last octet
@@ -162,26 +162,26 @@ pub data Stray : Type 0 where
 -- which of these can stand in which form, and with which fields
 abbrev pub LawfulStray : Form → Stray → Type 0
 LawfulStray one_byte (reserved len rest) = len < 16
-LawfulStray one_byte (zero-id len rest) = (1 ≤ len) × (len < 16)
+LawfulStray one_byte (zero_id len rest) = (1 ≤ len) × (len < 16)
 LawfulStray one_byte (leaves id n part) = LawfulElement one_byte id n × (length part < n)
 LawfulStray one_byte (alone id) = ⊥
-LawfulStray (two-byte appbits) (reserved len rest) = ⊥
-LawfulStray (two-byte appbits) (zero-id len rest) = ⊥
-LawfulStray (two-byte appbits) (leaves id n part) = LawfulElement (two-byte appbits) id n × (length part < n)
-LawfulStray (two-byte appbits) (alone id) = (1 ≤ id) × (id < 256)
+LawfulStray (two_byte appbits) (reserved len rest) = ⊥
+LawfulStray (two_byte appbits) (zero_id len rest) = ⊥
+LawfulStray (two_byte appbits) (leaves id n part) = LawfulElement (two_byte appbits) id n × (length part < n)
+LawfulStray (two_byte appbits) (alone id) = (1 ≤ id) × (id < 256)
 
 -- the octet that begins no lawful item, and all of the block behind it
-abbrev pub strayOctets : Form → Stray → List ℕ
-strayOctets form (reserved len rest) = (15 * 16 + len) ∷ rest
-strayOctets form (zero-id len rest) = len ∷ rest
-strayOctets form (leaves id n part) = headOctets form id n ++ part
-strayOctets form (alone id) = id ∷ []
+abbrev pub stray_octets : Form → Stray → List ℕ
+stray_octets form (reserved len rest) = (15 * 16 + len) ∷ rest
+stray_octets form (zero_id len rest) = len ∷ rest
+stray_octets form (leaves id n part) = head_octets form id n ++ part
+stray_octets form (alone id) = id ∷ []
 
 -- s is laid out by lawful items
 pub record LaidOut (form : Form) (s : List ℕ) : Type 0 where
   pub items : List Item
   pub lawful : AllLawful form items
-  pub same : blockOctets form items ≡ s
+  pub same : block_octets form items ≡ s
 
 -- s is lawful items up to an octet that begins none
 pub record StraysIn (form : Form) (s : List ℕ) : Type 0 where
@@ -189,11 +189,11 @@ pub record StraysIn (form : Form) (s : List ℕ) : Type 0 where
   pub lawful : AllLawful form items
   pub stray : Stray
   pub why : LawfulStray form stray
-  pub same : blockOctets form items ++ strayOctets form stray ≡ s
+  pub same : block_octets form items ++ stray_octets form stray ≡ s
 
 -- an extension that has the profile of one of the two forms, and whose content strays from it
 pub record Strays (x : Extension) : Type 0 where
   pub form : Form
   pub lawful : LawfulForm form
-  pub profile : profileOf form ≡ x.profile
+  pub profile : profile_of form ≡ x.profile
   pub content : StraysIn form x.content

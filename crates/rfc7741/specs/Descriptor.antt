@@ -36,13 +36,13 @@ pub record Indices : Type 0 where
 -- T and K: the octet is there where one of them is set, or both
 pub data Layers : Type 0 where
   neither : Layers
-  onlyT : Indices → Layers
-  onlyK : Indices → Layers
-  bothTK : Indices → Layers
+  only_t : Indices → Layers
+  only_k : Indices → Layers
+  both_tK : Indices → Layers
 
 -- what X announces: the flags I, L, T, K are those of the fields that are there
 pub record Extension : Type 0 where
-  pub pictureId : PictureId
+  pub picture_id : PictureId
   pub tl0picidx : Option ℕ
   pub layers : Layers
   pub rsv : ℕ
@@ -54,26 +54,26 @@ pub data Descriptor : Type 0 where
 
 -- ---- the flags of the extension octet
 
-abbrev pub flagI : PictureId → ℕ
-flagI absent = 0
-flagI (short p) = 1
-flagI (long p) = 1
+abbrev pub flag_i : PictureId → ℕ
+flag_i absent = 0
+flag_i (short p) = 1
+flag_i (long p) = 1
 
-abbrev pub flagL : Option ℕ → ℕ
-flagL none = 0
-flagL (some index) = 1
+abbrev pub flag_l : Option ℕ → ℕ
+flag_l none = 0
+flag_l (some index) = 1
 
-abbrev pub flagT : Layers → ℕ
-flagT neither = 0
-flagT (onlyT o) = 1
-flagT (onlyK o) = 0
-flagT (bothTK o) = 1
+abbrev pub flag_t : Layers → ℕ
+flag_t neither = 0
+flag_t (only_t o) = 1
+flag_t (only_k o) = 0
+flag_t (both_tK o) = 1
 
-abbrev pub flagK : Layers → ℕ
-flagK neither = 0
-flagK (onlyT o) = 0
-flagK (onlyK o) = 1
-flagK (bothTK o) = 1
+abbrev pub flag_k : Layers → ℕ
+flag_k neither = 0
+flag_k (only_t o) = 0
+flag_k (only_k o) = 1
+flag_k (both_tK o) = 1
 
 -- ---- the octets
 --
@@ -92,38 +92,38 @@ flagK (bothTK o) = 1
 --                                     T/K: |TID|Y| KEYIDX  | (OPTIONAL)
 --                                          +-+-+-+-+-+-+-+-+
 
-abbrev pub firstOctet : ℕ → Required → ℕ
-firstOctet x d = x * 128 + d.r * 64 + d.n * 32 + d.s * 16 + d.r2 * 8 + d.pid
+abbrev pub first_octet : ℕ → Required → ℕ
+first_octet x d = x * 128 + d.r * 64 + d.n * 32 + d.s * 16 + d.r2 * 8 + d.pid
 
-abbrev pub extensionOctet : Extension → ℕ
-extensionOctet e =
-    flagI e.pictureId * 128 + flagL e.tl0picidx * 64 + flagT e.layers * 32 + flagK e.layers * 16 + e.rsv
+abbrev pub extension_octet : Extension → ℕ
+extension_octet e =
+    flag_i e.picture_id * 128 + flag_l e.tl0picidx * 64 + flag_t e.layers * 32 + flag_k e.layers * 16 + e.rsv
 
 -- M clear, then 7 bits; M set, then 15 bits, the most significant first
-abbrev pub idOctets : PictureId → List ℕ
-idOctets absent = []
-idOctets (short p) = p ∷ []
-idOctets (long p) = (128 + p / 256) ∷ p % 256 ∷ []
+abbrev pub id_octets : PictureId → List ℕ
+id_octets absent = []
+id_octets (short p) = p ∷ []
+id_octets (long p) = (128 + p / 256) ∷ p % 256 ∷ []
 
-abbrev pub tl0Octets : Option ℕ → List ℕ
-tl0Octets none = []
-tl0Octets (some index) = index ∷ []
+abbrev pub tl0_octets : Option ℕ → List ℕ
+tl0_octets none = []
+tl0_octets (some index) = index ∷ []
 
-abbrev pub indicesOctet : Indices → ℕ
-indicesOctet o = o.tid * 64 + o.y * 32 + o.keyidx
+abbrev pub indices_octet : Indices → ℕ
+indices_octet o = o.tid * 64 + o.y * 32 + o.keyidx
 
-abbrev pub layersOctets : Layers → List ℕ
-layersOctets neither = []
-layersOctets (onlyT o) = indicesOctet o ∷ []
-layersOctets (onlyK o) = indicesOctet o ∷ []
-layersOctets (bothTK o) = indicesOctet o ∷ []
+abbrev pub layers_octets : Layers → List ℕ
+layers_octets neither = []
+layers_octets (only_t o) = indices_octet o ∷ []
+layers_octets (only_k o) = indices_octet o ∷ []
+layers_octets (both_tK o) = indices_octet o ∷ []
 
-abbrev pub optionalOctets : Extension → List ℕ
-optionalOctets e = idOctets e.pictureId ++ (tl0Octets e.tl0picidx ++ layersOctets e.layers)
+abbrev pub optional_octets : Extension → List ℕ
+optional_octets e = id_octets e.picture_id ++ (tl0_octets e.tl0picidx ++ layers_octets e.layers)
 
 abbrev pub octets : Descriptor → List ℕ
-octets (plain d) = firstOctet 0 d ∷ []
-octets (extended d e) = firstOctet 1 d ∷ extensionOctet e ∷ optionalOctets e
+octets (plain d) = first_octet 0 d ∷ []
+octets (extended d e) = first_octet 1 d ∷ extension_octet e ∷ optional_octets e
 
 -- ---- what is formed: each field is within its bits
 
@@ -150,12 +150,12 @@ pub record FormedIndices (o : Indices) : Type 0 where
 
 abbrev pub FormedLayers : Layers → Type 0
 FormedLayers neither = Unit
-FormedLayers (onlyT o) = FormedIndices o
-FormedLayers (onlyK o) = FormedIndices o
-FormedLayers (bothTK o) = FormedIndices o
+FormedLayers (only_t o) = FormedIndices o
+FormedLayers (only_k o) = FormedIndices o
+FormedLayers (both_tK o) = FormedIndices o
 
 pub record FormedExtension (e : Extension) : Type 0 where
-  pub pictureId : FormedId e.pictureId
+  pub picture_id : FormedId e.picture_id
   pub tl0picidx : FormedTl0 e.tl0picidx
   pub layers : FormedLayers e.layers
   pub rsv : e.rsv < 16
@@ -168,7 +168,7 @@ Formed (extended d e) = FormedRequired d × FormedExtension e
 
 -- 4.2: where L is 1, T must be 1 too
 abbrev pub LWithT : Extension → Type 0
-LWithT e = flagL e.tl0picidx ≤ flagT e.layers
+LWithT e = flag_l e.tl0picidx ≤ flag_t e.layers
 
 abbrev pub Rules : Descriptor → Type 0
 Rules (plain d) = Unit
@@ -181,8 +181,8 @@ pub record Lawful (d : Descriptor) : Type 0 where
 -- ---- what strays: formed, but L is 1 and T is 0
 
 pub record LWithoutT (e : Extension) : Type 0 where
-  pub l : flagL e.tl0picidx ≡ 1
-  pub t : flagT e.layers ≡ 0
+  pub l : flag_l e.tl0picidx ≡ 1
+  pub t : flag_t e.layers ≡ 0
 
 abbrev pub Broken : Descriptor → Type 0
 Broken (plain d) = ⊥

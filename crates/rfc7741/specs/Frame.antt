@@ -9,20 +9,20 @@ pub record Piece : Type 0 where
   pub descriptor : Descriptor
   pub part : List ℕ
 
-abbrev pub packetOf : Piece → List ℕ
-packetOf p = octets p.descriptor ++ p.part
+abbrev pub packet_of : Piece → List ℕ
+packet_of p = octets p.descriptor ++ p.part
 
 abbrev pub required : Descriptor → Required
 required (plain d) = d
 required (extended d e) = d
 
-abbrev pub pictureIdOf : Descriptor → PictureId
-pictureIdOf (plain d) = absent
-pictureIdOf (extended d e) = e.pictureId
+abbrev pub picture_id_of : Descriptor → PictureId
+picture_id_of (plain d) = absent
+picture_id_of (extended d e) = e.picture_id
 
-abbrev pub rsvOf : Descriptor → ℕ
-rsvOf (plain d) = 0
-rsvOf (extended d e) = e.rsv
+abbrev pub rsv_of : Descriptor → ℕ
+rsv_of (plain d) = 0
+rsv_of (extended d e) = e.rsv
 
 -- neither TL0PICIDX nor the octet of T and K
 abbrev pub NoLayers : Descriptor → Type 0
@@ -39,9 +39,9 @@ pub record Sends (id : PictureId) (start : ℕ) (p : Piece) : Type 0 where
   -- it may be kept at 0 for all packets
   pub pid : (required p.descriptor).pid ≡ 0
   pub layers : NoLayers p.descriptor
-  pub rsv : rsvOf p.descriptor ≡ 0
+  pub rsv : rsv_of p.descriptor ≡ 0
   pub s : (required p.descriptor).s ≡ start
-  pub pictureId : pictureIdOf p.descriptor ≡ id
+  pub picture_id : picture_id_of p.descriptor ≡ id
   pub some : 0 < length p.part
 
 abbrev pub AllSend : PictureId → List Piece → Type 0
@@ -60,6 +60,6 @@ parts (p ∷ ps) = p.part ++ parts ps
 -- the packets carry the frame, under this PictureID
 pub record Carries (id : PictureId) (frame : List ℕ) (packets : List (List ℕ)) : Type 0 where
   pub pieces : List Piece
-  pub are : packets ≡ map packetOf pieces
+  pub are : packets ≡ map packet_of pieces
   pub started : StartsOnce id pieces
   pub whole : parts pieces ≡ frame

@@ -13,17 +13,17 @@ abbrev pub is_slice : ℕ → Bool
 is_slice head = nat_le 1 (head % 32) && nat_le (head % 32) 5
 
 -- types 6 to 9 and 14 to 18 stand before a picture's slices
-abbrev pub isBefore : ℕ → Bool
-isBefore t = (nat_le 6 t && nat_le t 9) || (nat_le 14 t && nat_le t 18)
+abbrev pub is_before : ℕ → Bool
+is_before t = (nat_le 6 t && nat_le t 9) || (nat_le 14 t && nat_le t 18)
 
 -- a slice, or the first partition of one, that has a header
-abbrev pub hasHeader : ℕ → Bool
-hasHeader t = t == 1 || (t == 2 || t == 5)
+abbrev pub has_header : ℕ → Bool
+has_header t = t == 1 || (t == 2 || t == 5)
 
 -- a unit begins an access unit behind a slice: it stands before slices, or is one whose first_mb_in_slice is 0, which is coded
 -- as a single bit 1
 abbrev pub begins : ℕ → ℕ → Bool
-begins head next = isBefore (head % 32) || (hasHeader (head % 32) && nat_le 128 next)
+begins head next = is_before (head % 32) || (has_header (head % 32) && nat_le 128 next)
 
 -- how far the units are looked at, and whether a slice is among them
 pub record Looked : Type 0 where
@@ -37,13 +37,13 @@ judged s coded at unit =
     (cond (coded && begins (slice_index s unit) (slice_index s (unit + 1))) (done (At at))
     (more (record { start = unit; coded = coded || is_slice (slice_index s unit) })))
 
-abbrev pub byCode : List ℕ → Bool → Found → Turn Looked Edge
-byCode s coded (found.At at len) = judged s coded at (at + len)
-byCode s coded found.Nothing = done Nothing
+abbrev pub by_code : List ℕ → Bool → Found → Turn Looked Edge
+by_code s coded (found.At at len) = judged s coded at (at + len)
+by_code s coded found.Nothing = done Nothing
 
 -- the next unit
 unfoldable pub look : List ℕ → Looked → Turn Looked Edge
-look s l = byCode s l.coded (next_code s l.start)
+look s l = by_code s l.coded (next_code s l.start)
 
 -- the start code before the second access unit; none where the bytes end before it is certain
 unfoldable pub edge_of : List ℕ → Edge
@@ -55,14 +55,14 @@ Inside (At n) size = n ≤ size
 Inside Nothing size = Unit
 
 -- all of the bytes, where a start code is there
-abbrev pub allBy : List ℕ → Found → ℕ
-allBy s (found.At at len) = length s
-allBy s found.Nothing = 0
+abbrev pub all_by : List ℕ → Found → ℕ
+all_by s (found.At at len) = length s
+all_by s found.Nothing = 0
 
-abbrev pub lenBy : List ℕ → Bool → Edge → ℕ
-lenBy s ended (At n) = n
-lenBy s ended Nothing = cond ended (allBy s (next_code s 0)) 0
+abbrev pub len_by : List ℕ → Bool → Edge → ℕ
+len_by s ended (At n) = n
+len_by s ended Nothing = cond ended (all_by s (next_code s 0)) 0
 
 -- how long the first access unit is, where the file may end with these bytes: 0 where that is not certain, or no start code is there
-unfoldable pub firstLen : List ℕ → Bool → ℕ
-firstLen s ended = lenBy s ended (edge_of s)
+unfoldable pub first_len : List ℕ → Bool → ℕ
+first_len s ended = len_by s ended (edge_of s)

@@ -5,7 +5,7 @@
 // comparison of headers in section 7.4.1.2.4: in a stream with slices in arbitrary order the two differ, and with them marker and
 // time.
 ghost use Rattle.std.specs.Prelude.{◌≡◌, ◌≤◌, length};
-ghost use Rattle.send.specs.Access.{is_slice, isBefore, hasHeader, begins as beginsOf, edge_of, Inside, firstLen};
+ghost use Rattle.send.specs.Access.{is_slice, is_before, has_header, begins as beginsOf, edge_of, Inside, first_len};
 
 use annexb::{Found, next_code};
 
@@ -30,7 +30,7 @@ fn is_slice(head: u8) -> bool
 
 // Supplemental information, a parameter set, a delimiter, or a unit of type 14 to 18.
 fn is_before(t: u8) -> bool
-    ensures { result ≡ isBefore t }
+    ensures { result ≡ is_before t }
 {
     if t < 6 {
         return false;
@@ -45,7 +45,7 @@ fn is_before(t: u8) -> bool
 }
 
 fn has_header(t: u8) -> bool
-    ensures { result ≡ hasHeader t }
+    ensures { result ≡ has_header t }
 {
     if t == 1 {
         return true;
@@ -97,7 +97,7 @@ fn find_edge(s: &[u8]) -> Edge
 
 // How long the first access unit is, in bytes with which the file may end: 0 where that is not certain, or no start code is there.
 pub fn first_len(s: &[u8], ended: bool) -> usize
-    ensures { (result ≡ firstLen s.now ended) × (result ≤ length s.now) }
+    ensures { (result ≡ first_len s.now ended) × (result ≤ length s.now) }
 {
     let edge = find_edge(s);
     if let Edge::At(n) = edge {

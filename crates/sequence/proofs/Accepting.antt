@@ -5,7 +5,7 @@ use mathlib.Core.Bool.{and-eq-true_iff}
 use native.Mathlib.Decide.{dec_le}
 use lib.Dec.{leb-zero}
 use borrow.Author.Tests.{lt-leb}
-use Rattle.sequence.specs.Arrival.{Arrival, ours, other, aboveAll, isAccepted, acceptedAmong, raised}
+use Rattle.sequence.specs.Arrival.{Arrival, ours, other, above_all, is_accepted, accepted_among, raised}
 
 -- ---- the paper's sentence, as a statement on indices
 
@@ -16,30 +16,30 @@ module _ {B : Type 0} where
   Arrived j (ours i ∷ before) = (j ≡ i) ⊎ Arrived j before
   Arrived j (other b ∷ before) = Arrived j before
 
-  above-arrived : (i : ℕ) (before : List (Arrival B)) → aboveAll i before ≡ true → (j : ℕ) → Arrived j before → j < i
-  above-arrived i (ours k ∷ before) e j (inl same) =
-      let k-below : k < i = ltb-true k i ((and-eq-true_iff (ltb k i) (aboveAll i before)).0 e).0 in omega arith
-  above-arrived i (ours k ∷ before) e j (inr there) =
-      above-arrived i before ((and-eq-true_iff (ltb k i) (aboveAll i before)).0 e).1 j there
-  above-arrived i (other b ∷ before) e j there = above-arrived i before e j there
+  above_arrived : (i : ℕ) (before : List (Arrival B)) → above_all i before ≡ true → (j : ℕ) → Arrived j before → j < i
+  above_arrived i (ours k ∷ before) e j (inl same) =
+      let k_below : k < i = ltb-true k i ((and-eq-true_iff (ltb k i) (above_all i before)).0 e).0 in omega arith
+  above_arrived i (ours k ∷ before) e j (inr there) =
+      above_arrived i before ((and-eq-true_iff (ltb k i) (above_all i before)).0 e).1 j there
+  above_arrived i (other b ∷ before) e j there = above_arrived i before e j there
 
-  arrived-above : (i : ℕ) (before : List (Arrival B)) → ((j : ℕ) → Arrived j before → j < i) → aboveAll i before ≡ true
-  arrived-above i [] h = refl
-  arrived-above i (ours k ∷ before) h =
-      (and-eq-true_iff (ltb k i) (aboveAll i before)).1
-      (lt-ltb k i (h k (inl refl)), arrived-above i before (λ j there. h j (inr there)))
-  arrived-above i (other b ∷ before) h = arrived-above i before h
+  arrived_above : (i : ℕ) (before : List (Arrival B)) → ((j : ℕ) → Arrived j before → j < i) → above_all i before ≡ true
+  arrived_above i [] h = refl
+  arrived_above i (ours k ∷ before) h =
+      (and-eq-true_iff (ltb k i) (above_all i before)).1
+      (lt-ltb k i (h k (inl refl)), arrived_above i before (λ j there. h j (inr there)))
+  arrived_above i (other b ∷ before) h = arrived_above i before h
 
   -- "Under these premises a packet is accepted exactly when its index is above every index that arrived before it; this, read off the
   -- arrivals alone, is what demand 3 means by accepted." This is what the test says; that the joiner's calls go by it is part (a) of demand 3.
-  pub accepted-sentence : (i : ℕ) (before : List (Arrival B)) →
-      (isAccepted before (ours i) ≡ true) ↔ ((j : ℕ) → Arrived j before → j < i)
-  accepted-sentence i before = (above-arrived i before, arrived-above i before)
+  pub accepted_sentence : (i : ℕ) (before : List (Arrival B)) →
+      (is_accepted before (ours i) ≡ true) ↔ ((j : ℕ) → Arrived j before → j < i)
+  accepted_sentence i before = (above_arrived i before, arrived_above i before)
 
 -- ---- one more than the largest index so far
 
-raised-same : (m i j : ℕ) → (ltb i j && leb m j) ≡ leb (raised m i) j
-raised-same m i j = elim (dec_le m i) [ yes h ↦ up h | no h ↦ down (lt_of_not-le h) ]
+raised_same : (m i j : ℕ) → (ltb i j && leb m j) ≡ leb (raised m i) j
+raised_same m i j = elim (dec_le m i) [ yes h ↦ up h | no h ↦ down (lt_of_not-le h) ]
   where
     up : m ≤ i → (ltb i j && leb m j) ≡ leb (raised m i) j
     up h =
@@ -59,32 +59,32 @@ raised-same m i j = elim (dec_le m i) [ yes h ↦ up h | no h ↦ down (lt_of_no
         and_no true = refl
         and_no false = refl
 
-pub tops-none : (B : Type 0) (i : ℕ) → aboveAll {B = B} i [] ≡ leb 0 i
-tops-none B i = sym (leb-zero i)
+pub tops_none : (B : Type 0) (i : ℕ) → above_all {B = B} i [] ≡ leb 0 i
+tops_none B i = sym (leb-zero i)
 
 module _ {B : Type 0} where
   -- m is "one more than the largest index arrived so far (0 at first)"
   abbrev pub Tops : ℕ → List (Arrival B) → Type 0
-  Tops m before = (i : ℕ) → aboveAll i before ≡ leb m i
+  Tops m before = (i : ℕ) → above_all i before ≡ leb m i
 
-  pub tops-ours : (m i : ℕ) (before : List (Arrival B)) → Tops m before → Tops (raised m i) (ours i ∷ before)
-  tops-ours m i before t j = ap (λ (b : Bool). ltb i j && b) (t j) ∙ raised-same m i j
+  pub tops_ours : (m i : ℕ) (before : List (Arrival B)) → Tops m before → Tops (raised m i) (ours i ∷ before)
+  tops_ours m i before t j = ap (λ (b : Bool). ltb i j && b) (t j) ∙ raised_same m i j
 
   -- an index that is not above all so far is not accepted later
-  pub not-later : (j : ℕ) (before later : List (Arrival B)) → aboveAll j before ≡ false → acceptedAmong before later j ≡ false
-  not-later j before [] e = refl
-  not-later j before (other b ∷ later) e = not-later j (other b ∷ before) later e
-  not-later j before (ours i ∷ later) e =
-      ap₂ (λ (x y : Bool). x || y) (not-this (eqb i j) refl) (not-later j (ours i ∷ before) later (still (ltb i j)))
+  pub not_later : (j : ℕ) (before later : List (Arrival B)) → above_all j before ≡ false → accepted_among before later j ≡ false
+  not_later j before [] e = refl
+  not_later j before (other b ∷ later) e = not_later j (other b ∷ before) later e
+  not_later j before (ours i ∷ later) e =
+      ap₂ (λ (x y : Bool). x || y) (not_this (eqb i j) refl) (not_later j (ours i ∷ before) later (still (ltb i j)))
     where
-      still : (t : Bool) → (t && aboveAll j before) ≡ false
+      still : (t : Bool) → (t && above_all j before) ≡ false
       still true = e
       still false = refl
 
-      not-this : (t : Bool) → eqb i j ≡ t → (aboveAll i before && t) ≡ false
-      not-this true same = ap (λ (k : ℕ). aboveAll k before && true) (eqb-true i j same) ∙ ap (λ (b : Bool). b && true) e
-      not-this false same = no-and (aboveAll i before)
+      not_this : (t : Bool) → eqb i j ≡ t → (above_all i before && t) ≡ false
+      not_this true same = ap (λ (k : ℕ). above_all k before && true) (eqb-true i j same) ∙ ap (λ (b : Bool). b && true) e
+      not_this false same = no_and (above_all i before)
         where
-          no-and : (b : Bool) → (b && false) ≡ false
-          no-and true = refl
-          no-and false = refl
+          no_and : (b : Bool) → (b && false) ≡ false
+          no_and true = refl
+          no_and false = refl

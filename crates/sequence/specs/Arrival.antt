@@ -13,32 +13,32 @@ raised m i = cond (nat_le m i) (suc i) m
 
 module _ {B : Type 0} where
   -- "above every index that arrived before it"
-  abbrev pub aboveAll : ℕ → List (Arrival B) → Bool
-  aboveAll i [] = true
-  aboveAll i (ours j ∷ before) = nat_lt j i && aboveAll i before
-  aboveAll i (other b ∷ before) = aboveAll i before
+  abbrev pub above_all : ℕ → List (Arrival B) → Bool
+  above_all i [] = true
+  above_all i (ours j ∷ before) = nat_lt j i && above_all i before
+  above_all i (other b ∷ before) = above_all i before
 
   -- "a packet is accepted exactly when its index is above every index that arrived before it"; `before` is in any order
-  abbrev pub isAccepted : List (Arrival B) → Arrival B → Bool
-  isAccepted before (ours i) = aboveAll i before
-  isAccepted before (other b) = false
+  abbrev pub is_accepted : List (Arrival B) → Arrival B → Bool
+  is_accepted before (ours i) = above_all i before
+  is_accepted before (other b) = false
 
   -- call by call, behind the arrivals `before`
-  abbrev pub acceptedCalls : List (Arrival B) → List (Arrival B) → List Bool
-  acceptedCalls before [] = []
-  acceptedCalls before (a ∷ later) = isAccepted before a ∷ acceptedCalls (a ∷ before) later
+  abbrev pub accepted_calls : List (Arrival B) → List (Arrival B) → List Bool
+  accepted_calls before [] = []
+  accepted_calls before (a ∷ later) = is_accepted before a ∷ accepted_calls (a ∷ before) later
 
-  abbrev pub isPacket : ℕ → Arrival B → Bool
-  isPacket i (ours j) = j == i
-  isPacket i (other b) = false
+  abbrev pub is_packet : ℕ → Arrival B → Bool
+  is_packet i (ours j) = j == i
+  is_packet i (other b) = false
 
   -- packet i is accepted by one of the calls
-  abbrev pub acceptedAmong : List (Arrival B) → List (Arrival B) → ℕ → Bool
-  acceptedAmong before [] i = false
-  acceptedAmong before (a ∷ later) i = (isAccepted before a && isPacket i a) || acceptedAmong (a ∷ before) later i
+  abbrev pub accepted_among : List (Arrival B) → List (Arrival B) → ℕ → Bool
+  accepted_among before [] i = false
+  accepted_among before (a ∷ later) i = (is_accepted before a && is_packet i a) || accepted_among (a ∷ before) later i
 
   abbrev pub accepted : List (Arrival B) → ℕ → Bool
-  accepted later = acceptedAmong [] later
+  accepted later = accepted_among [] later
 
   -- "with m one more than the largest index arrived so far (0 at first), each index is m - 32,768 to m + 32,767, and n - m is at
   -- most 32,767 at closing"; an index of ours is that of one of the n packets sent

@@ -2,7 +2,7 @@
 use Rattle.std.specs.Prelude.{◌≡◌, ℕ, ◌+◌, List, [], ◌∷◌, ◌++◌}
 use Rattle.wire.specs.Each.{Each}
 use Rattle.sequence.specs.Event.{Event, lost, got, held}
-use Rattle.sequence.specs.Group.{Group, packetsIn}
+use Rattle.sequence.specs.Group.{Group, packets_in}
 
 -- what a packet is by itself: it is refused, or it holds this
 pub data Checked (E C : Type 0) : Type 0 where
@@ -25,12 +25,12 @@ pub record Codec (K E P C Run O : Type 0) : Type 0 where
 
 -- both, one after the other
 module _ {K E P C Run O : Type 0} (codec : Codec K E P C Run O) where
-  abbrev pub feedChecked : K → Run → Checked E C → Fed E Run O
-  feedChecked k run (bad e) = refusal e
-  feedChecked k run (good c) = codec.feed k run c
+  abbrev pub feed_checked : K → Run → Checked E C → Fed E Run O
+  feed_checked k run (bad e) = refusal e
+  feed_checked k run (good c) = codec.feed k run c
 
   abbrev pub join : K → Run → P → Fed E Run O
-  join k run p = feedChecked k run (codec.check p)
+  join k run p = feed_checked k run (codec.check p)
 
 -- ---- events fed one after the other
 
@@ -50,21 +50,21 @@ module _ {E Run O : Type 0} where
   behind out (went run missed more) = went run missed (out ++ more)
 
   -- a packet of this call: its refusal refuses the call
-  abbrev pub gotThen : Fed E Run O → (Run → Went E Run O) → Went E Run O
-  gotThen (refusal e) go = stopped e
-  gotThen (fed run out) go = behind out (go run)
+  abbrev pub got_then : Fed E Run O → (Run → Went E Run O) → Went E Run O
+  got_then (refusal e) go = stopped e
+  got_then (fed run out) go = behind out (go run)
 
   -- "one that gets 6 or 25 while being joined out of the hold counts as missed and drops the run"
-  abbrev pub heldThen : Run → Fed E Run O → (Run → Went E Run O) → Went E Run O
-  heldThen dropped (refusal e) go = missing (go dropped)
-  heldThen dropped (fed run out) go = behind out (go run)
+  abbrev pub held_then : Run → Fed E Run O → (Run → Went E Run O) → Went E Run O
+  held_then dropped (refusal e) go = missing (go dropped)
+  held_then dropped (fed run out) go = behind out (go run)
 
 -- a hole drops the run, and counts as missed
-abbrev pub feedAll : {K E P C Run O : Type 0} → Codec K E P C Run O → K → Run → List (Event P) → Went E Run O
-feedAll codec k run [] = went run 0 []
-feedAll codec k run (lost ∷ es) = missing (feedAll codec k (codec.drop run) es)
-feedAll codec k run (got p ∷ es) = gotThen (join codec k run p) (λ next. feedAll codec k next es)
-feedAll codec k run (held p ∷ es) = heldThen (codec.drop run) (join codec k run p) (λ next. feedAll codec k next es)
+abbrev pub feed_all : {K E P C Run O : Type 0} → Codec K E P C Run O → K → Run → List (Event P) → Went E Run O
+feed_all codec k run [] = went run 0 []
+feed_all codec k run (lost ∷ es) = missing (feed_all codec k (codec.drop run) es)
+feed_all codec k run (got p ∷ es) = got_then (join codec k run p) (λ next. feed_all codec k next es)
+feed_all codec k run (held p ∷ es) = held_then (codec.drop run) (join codec k run p) (λ next. feed_all codec k next es)
 
 -- ---- what a codec owes, in every room that is enough
 
@@ -88,7 +88,7 @@ module _ {K E P C Run O : Type 0} (codec : Codec K E P C Run O) (Enough : K → 
 
   -- whatever run is open, a group's packets hand it out with the last; where the run was dropped, its packets but the first yield nothing
   pub record Owes (g : Group P O) : Type 0 where
-    pub hands : (run : Run) → HandsOut run (packetsIn g) g.handed
+    pub hands : (run : Run) → HandsOut run (packets_in g) g.handed
     pub quiet : Quiet g.others
 
   abbrev pub OwesAll : List (Group P O) → Type 0
@@ -102,7 +102,7 @@ module _ {K E P C Run O : Type 0} (codec : Codec K E P C Run O) (Enough : K → 
     pub starts : (run : Run) (s : A) → Piece s → Fits s → Does run (start s) (gathering s) []
     pub continues : (before s : A) → Piece s → Fits (on before s) → Does (gathering before) (middle s) (gathering (on before s)) []
     pub ends : (before s : A) → Piece s → Fits (on before s) → (next : Run) × Does (gathering before) (end s) next (unit (on before s) ∷ [])
-    pub middle-quiet : (s : A) → Piece s → Silent (middle s)
+    pub middle_quiet : (s : A) → Piece s → Silent (middle s)
     pub end_quiet : (s : A) → Piece s → Silent (end s)
     -- what is gathered fits where more does
     pub shorter : (before s : A) → Fits (on before s) → Fits before

@@ -15,29 +15,29 @@ module _ {P : Type 0} where
   holes zero es = es
   holes (suc d) es = lost ∷ holes d es
 
-  abbrev pub lostIn : List (Event P) → ℕ
-  lostIn [] = 0
-  lostIn (lost ∷ es) = 1 + lostIn es
-  lostIn (got p ∷ es) = lostIn es
-  lostIn (held p ∷ es) = lostIn es
+  abbrev pub lost_in : List (Event P) → ℕ
+  lost_in [] = 0
+  lost_in (lost ∷ es) = 1 + lost_in es
+  lost_in (got p ∷ es) = lost_in es
+  lost_in (held p ∷ es) = lost_in es
 
   -- how many packets are joined
-  abbrev pub gotIn : List (Event P) → ℕ
-  gotIn [] = 0
-  gotIn (lost ∷ es) = gotIn es
-  gotIn (got p ∷ es) = 1 + gotIn es
-  gotIn (held p ∷ es) = 1 + gotIn es
+  abbrev pub got_in : List (Event P) → ℕ
+  got_in [] = 0
+  got_in (lost ∷ es) = got_in es
+  got_in (got p ∷ es) = 1 + got_in es
+  got_in (held p ∷ es) = 1 + got_in es
 
   -- the same events, wherever a packet came from
-  abbrev pub asGot : Event P → Event P
-  asGot lost = lost
-  asGot (got p) = got p
-  asGot (held p) = got p
+  abbrev pub as_got : Event P → Event P
+  as_got lost = lost
+  as_got (got p) = got p
+  as_got (held p) = got p
 
-  abbrev pub eventOf : Bool → P → Event P
-  eventOf came p = cond came (got p) lost
+  abbrev pub event_of : Bool → P → Event P
+  event_of came p = cond came (got p) lost
 
   -- packets from index i on, with a hole for each that did not come
   abbrev pub seen : (ℕ → Bool) → ℕ → List P → List (Event P)
   seen came i [] = []
-  seen came i (p ∷ ps) = eventOf (came i) p ∷ seen came (suc i) ps
+  seen came i (p ∷ ps) = event_of (came i) p ∷ seen came (suc i) ps

@@ -14,8 +14,8 @@ abbrev pub next_of : ℕ → ℕ
 next_of number = (number + 1) % 65536
 
 -- "d of 32,768 or more answers Late"
-abbrev pub isLate : ℕ → Bool
-isLate d = nat_le 32768 d
+abbrev pub is_late : ℕ → Bool
+is_late d = nat_le 32768 d
 
 -- "each index is m - 32,768 to m + 32,767"
 pub record Near (m i : ℕ) : Type 0 where

@@ -2,14 +2,14 @@
 use Rattle.std.proofs.Common.{◌≡◌, ℕ, ◌+◌, ◌-◌, ◌≤◌, Bool, true, false, cond, ltb, leb, List, length, take, drop, sym, refl, ap, arith, length-take-le, ltb-false}
 use mathlib.Core.Path.{subst⁻¹}
 use native.Mathlib.Nat.{sub-zero}
-use Rattle.wire.specs.Net.{u16At}
+use Rattle.wire.specs.Net.{u16_at}
 use Rattle.stream.specs.declared.framing.Record.{Record}
 use Rattle.stream.specs.declared.framing.Record.TheVariants.{Packet, Cut, End}
 use Rattle.stream.specs.declared.records.Next.{Next}
 use Rattle.stream.specs.declared.window.Window.{Window}
-use Rattle.stream.specs.Framing.{recordOf, recordAt}
-use Rattle.stream.specs.Records.{pastRecord, foundIn}
-use Rattle.stream.specs.Window.{nothingRead, Within}
+use Rattle.stream.specs.Framing.{record_of, record_at}
+use Rattle.stream.specs.Records.{past_record, found_in}
+use Rattle.stream.specs.Window.{nothing_read, Within}
 
 -- ---- where a packet lies
 
@@ -24,36 +24,36 @@ module _ (s : List ℕ) (from at len : ℕ) where
       let size : n ≡ len = cc in
       (omega arith, omega (arith, ltb-false (length s) (from + 2 + n) is))
 
-  pub packet-inside : recordAt s from ≡ Packet at len → (from ≤ at) × (at + len ≤ length s)
-  unfolding recordAt
-  packet-inside e =
-      by_tests (leb (length s) from) (ltb (length s) (from + 2)) (ltb (length s) (from + 2 + u16At s from)) (u16At s from) refl e
+  pub packet_inside : record_at s from ≡ Packet at len → (from ≤ at) × (at + len ≤ length s)
+  unfolding record_at
+  packet_inside e =
+      by_tests (leb (length s) from) (ltb (length s) (from + 2)) (ltb (length s) (from + 2 + u16_at s from)) (u16_at s from) refl e
 
 -- ---- a step
 
 module _ (buf : List ℕ) (w : Window) where
   -- the step, by what was found
-  pub found-so : (f : Record) → recordAt (take w.end buf) w.at ≡ f →
-      ◌≡◌ {A = Next} (record { window = pastRecord w f; found = f }) (foundIn buf w)
-  unfolding foundIn
-  found-so f e = sym (ap (λ (g : Record). record { window = pastRecord w g; found = g }) e)
+  pub found_so : (f : Record) → record_at (take w.end buf) w.at ≡ f →
+      ◌≡◌ {A = Next} (record { window = past_record w f; found = f }) (found_in buf w)
+  unfolding found_in
+  found_so f e = sym (ap (λ (g : Record). record { window = past_record w g; found = g }) e)
 
-  pub step-inside : Within w (length buf) → (r : Next) → r ≡ foundIn buf w → Within r.window (length buf)
-  unfolding foundIn
-  step-inside within r e =
-      subst⁻¹ (λ (n : Next). Within n.window (length buf)) e (go (recordAt (take w.end buf) w.at) refl)
+  pub step_inside : Within w (length buf) → (r : Next) → r ≡ found_in buf w → Within r.window (length buf)
+  unfolding found_in
+  step_inside within r e =
+      subst⁻¹ (λ (n : Next). Within n.window (length buf)) e (go (record_at (take w.end buf) w.at) refl)
     where
-      go : (f : Record) → recordAt (take w.end buf) w.at ≡ f → Within (pastRecord w f) (length buf)
+      go : (f : Record) → record_at (take w.end buf) w.at ≡ f → Within (past_record w f) (length buf)
       go (Packet at len) is =
           let l : length (take w.end buf) ≡ w.end = length-take-le w.end buf within.inside in
-          let p = packet-inside (take w.end buf) w.at at len is in
+          let p = packet_inside (take w.end buf) w.at at len is in
           record { ordered = omega arith; inside = within.inside }
       go Cut is = within
       go End is = within
 
 -- before the first read
-pub new-inside : (w : Window) (size : ℕ) → w ≡ nothingRead → Within w size
-new-inside w size e =
+pub new_inside : (w : Window) (size : ℕ) → w ≡ nothing_read → Within w size
+new_inside w size e =
     subst⁻¹ (λ (x : Window). Within x size) e (record { ordered = omega arith; inside = omega arith })
 
 -- a part from the first place on, as code lends it

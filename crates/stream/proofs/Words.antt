@@ -5,16 +5,16 @@ use native.Mathlib.Nat.{pow-le-pow_right}
 use borrow.Author.Tests.{lt-leb}
 use Rattle.io.specs.Digits.{last_digits, IsDigitCount}
 use Rattle.stream.specs.declared.text.Text.{Text}
-use Rattle.stream.specs.Text.{withWord, wordOn, Numbered}
+use Rattle.stream.specs.Text.{with_word, word_on, Numbered}
 
 module _ (t : Text) (word : List ℕ) where
-  pub word_fits : t.len + length word ≤ 2048 → wordOn t word ≡ withWord t word
-  unfolding wordOn
-  word_fits h = ap (λ (b : Bool). cond b (withWord t word) t) (le-leb (t.len + length word) 2048 h)
+  pub word_fits : t.len + length word ≤ 2048 → word_on t word ≡ with_word t word
+  unfolding word_on
+  word_fits h = ap (λ (b : Bool). cond b (with_word t word) t) (le-leb (t.len + length word) 2048 h)
 
-  pub word_out : 2048 < t.len + length word → wordOn t word ≡ t
-  unfolding wordOn
-  word_out h = ap (λ (b : Bool). cond b (withWord t word) t) (lt-leb (t.len + length word) 2048 h)
+  pub word_out : 2048 < t.len + length word → word_on t word ≡ t
+  unfolding word_on
+  word_out h = ap (λ (b : Bool). cond b (with_word t word) t) (lt-leb (t.len + length word) 2048 h)
 
 -- ---- a number
 
@@ -32,8 +32,8 @@ fewest n j k a b =
         absurd (omega (arith, a.1))
 
 -- the contract leaves one text
-pub numbered-once : (t : Text) (name : List ℕ) (n : ℕ) (r q : Text) → Numbered t name n r → Numbered t name n q → r ≡ q
-numbered-once t name n r q a b =
+pub numbered_once : (t : Text) (name : List ℕ) (n : ℕ) (r q : Text) → Numbered t name n r → Numbered t name n q → r ≡ q
+numbered_once t name n r q a b =
     let same : a.places ≡ b.places =
     le_antisymm (fewest n b.places a.places b.fewest a.fewest) (fewest n a.places b.places a.fewest b.fewest) in
-    a.text ∙ ap (λ (k : ℕ). wordOn (wordOn t name) (last_digits 10 k n)) same ∙ sym b.text
+    a.text ∙ ap (λ (k : ℕ). word_on (word_on t name) (last_digits 10 k n)) same ∙ sym b.text

@@ -4,23 +4,23 @@ use Rattle.std.specs.Int.Signed.{non_neg}
 use Rattle.stream.specs.declared.files.Opened.{Opened}
 
 -- what stands for no descriptor, -1
-abbrev pub noFile : ℤ
-noFile = negsuc 0
+abbrev pub no_file : ℤ
+no_file = negsuc 0
 
 -- where the account goes: to standard error, 2, where standard output, 1, has the data
-abbrev pub accountTo : ℤ → ℤ
-accountTo (pos n) = cond (n == 1) (pos 2) (pos 1)
-accountTo (negsuc n) = pos 1
+abbrev pub account_to : ℤ → ℤ
+account_to (pos n) = cond (n == 1) (pos 2) (pos 1)
+account_to (negsuc n) = pos 1
 
 -- the status: 2 for wrong arguments, 0 where both files are open, 1 where one is not
-abbrev pub openedBy : Bool → ℤ → ℤ → ℕ
-openedBy right from to = cond right (cond (non_neg from && non_neg to) 0 1) 2
+abbrev pub opened_by : Bool → ℤ → ℤ → ℕ
+opened_by right from to = cond right (cond (non_neg from && non_neg to) 0 1) 2
 
 -- nothing is opened for wrong arguments, and nothing made where there is nothing to read
 pub record OpenedFor (right : Bool) (r : Opened) : Type 0 where
-  pub status : r.status ≡ openedBy right r.from r.to
-  pub unopened : right ≡ false → r.from ≡ noFile
-  pub unmade : non_neg r.from ≡ false → r.to ≡ noFile
+  pub status : r.status ≡ opened_by right r.from r.to
+  pub unopened : right ≡ false → r.from ≡ no_file
+  pub unmade : non_neg r.from ≡ false → r.to ≡ no_file
 
 -- the status, or 1 where account or data was not written
 abbrev pub Finished : ℕ → ℕ → Type 0

@@ -3,8 +3,8 @@ use Rattle.std.specs.Prelude.{◌≡◌, ℕ, ◌-◌, ◌≤◌, false, List, l
 use Rattle.wire.specs.Part.{part}
 use Rattle.stream.specs.declared.window.Window.{Window}
 
-abbrev pub nothingRead : Window
-nothingRead = record { at = 0; end = 0; ended = false; failed = false }
+abbrev pub nothing_read : Window
+nothing_read = record { at = 0; end = 0; ended = false; failed = false }
 
 abbrev pub from : ℕ → Window → Window
 from at w = record { at = at; end = w.end; ended = w.ended; failed = w.failed }

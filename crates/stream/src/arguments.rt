@@ -1,6 +1,6 @@
 // Numbers among a program's arguments.
 ghost use Rattle.std.specs.Prelude.{◌≡◌, ◌<◌};
-ghost use Rattle.stream.specs.Argument.{digitOf, number_of, Between};
+ghost use Rattle.stream.specs.Argument.{digit_of, number_of, Between};
 
 // What stands for no number: more than any that `decimal` reads.
 pub const NONE: u64 = 18446744073709551615;
@@ -15,7 +15,7 @@ pub struct Number {
 
 // What a digit counts: 10 or more where it is none.
 fn digit(b: u8) -> u64
-    ensures { (result ≡ digitOf b) × (result < 256) }
+    ensures { (result ≡ digit_of b) × (result < 256) }
 {
     std::num::wrapping_sub_u8(b, b'0') as u64
 }

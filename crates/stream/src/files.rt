@@ -3,7 +3,7 @@
 // A program writes a new file and replaces none: `./rtp` gives it a name that is free, and the file its own name when all is
 // written.
 ghost use Rattle.std.specs.Prelude.{◌≡◌};
-ghost use Rattle.stream.specs.Files.{accountTo, OpenedFor, Finished};
+ghost use Rattle.stream.specs.Files.{account_to, OpenedFor, Finished};
 
 use crate::status;
 use crate::text::Text;
@@ -75,7 +75,7 @@ pub fn open_files(right: bool) -> Opened
 
 // Where the account goes: to standard error where standard output has the data.
 pub fn account_to(data: i32) -> i32
-    ensures { result ≡ accountTo «data» }
+    ensures { result ≡ account_to «data» }
 {
     if data == STDOUT_FILENO {
         return STDERR_FILENO;

@@ -7,7 +7,7 @@
 // +-+-+-+-+-+-+-+-+-+-+-+-+-+-+-+-+-+-+-+-+-+-+-+-+-+-+-+-+-+-+-+-+
 ghost use Rattle.std.specs.Prelude.{◌≡◌, ◌+◌, ◌<◌, ◌≤◌, length};
 ghost use Rattle.wire.specs.Part.{splice, part};
-ghost use Rattle.stream.specs.Framing.{framed, recordAt};
+ghost use Rattle.stream.specs.Framing.{framed, record_at};
 
 #[derive(Drop)]
 pub enum Record {
@@ -27,7 +27,7 @@ fn wide(n: u16) -> usize
 
 // The record that begins at a place.
 pub fn record_at(s: &[u8], from: usize) -> Record
-    ensures { result ≡ recordAt s.now from }
+    ensures { result ≡ record_at s.now from }
 {
     if s.len() <= from {
         return Record::End;

@@ -1,6 +1,6 @@
 // The packets of a file, one after the other.
 ghost use Rattle.std.specs.Prelude.{◌≡◌, ◌<◌, false, not, ◌||◌, length, ◌==◌};
-ghost use Rattle.stream.specs.Records.{foundIn, Stepped, endingOf};
+ghost use Rattle.stream.specs.Records.{found_in, Stepped, ending_of};
 ghost use Rattle.stream.specs.Window.{Within};
 
 use crate::framing::{Record, record_at};
@@ -19,7 +19,7 @@ pub struct Next {
 // The record where the window stands.
 fn first_in(buf: &[u8], w: Window) -> Next
     requires { Within w (length buf.now) }
-    ensures { (result ≡ foundIn buf.now w) × Within result.window (length buf.now) }
+    ensures { (result ≡ found_in buf.now w) × Within result.window (length buf.now) }
 {
     let found = record_at(front(buf, w.end), w.at);
     match found {
@@ -62,7 +62,7 @@ pub fn is_over(status: u8, turns: u64) -> bool
 
 // How a file ended behind its last packet.
 pub fn ending(last: Next) -> u8
-    ensures { result ≡ endingOf last }
+    ensures { result ≡ ending_of last }
 {
     if last.window.failed {
         return status::unread();

@@ -1,6 +1,6 @@
 // Text that is put together before it is written, so that one answer says whether all of it was.
 ghost use Rattle.std.specs.Prelude.{◌≡◌, if◌then◌else◌};
-ghost use Rattle.stream.specs.Text.{noText, wordOn, Numbered};
+ghost use Rattle.stream.specs.Text.{no_text, word_on, Numbered};
 
 use crate::parts::front;
 
@@ -13,7 +13,7 @@ pub struct Text {
 
 impl Text {
     pub fn new() -> Text
-        ensures { result ≡ noText }
+        ensures { result ≡ no_text }
     {
         Text {
             bytes: [0; 2048],
@@ -23,7 +23,7 @@ impl Text {
 
     // With a word behind it; one that has no room is left out.
     pub fn word(mut self, word: &[u8]) -> Text
-        ensures { result ≡ wordOn self word.now }
+        ensures { result ≡ word_on self word.now }
     {
         let at = self.len as usize;
         let end = at + word.len();
@@ -39,7 +39,7 @@ impl Text {
 
     // With a word behind it where that is so.
     pub fn when(self, so: bool, word: &[u8]) -> Text
-        ensures { result ≡ (if so then wordOn self word.now else self) }
+        ensures { result ≡ (if so then word_on self word.now else self) }
     {
         if so {
             return self.word(word);

@@ -1,7 +1,7 @@
 // A file in a buffer: the part of it that is read and not taken yet.
 ghost use Rattle.std.specs.Prelude.{◌≡◌, ◌-◌, ◌≤◌, length};
 ghost use Rattle.wire.specs.Part.{splice, part};
-ghost use Rattle.stream.specs.Window.{Within, Refilled, nothingRead, from as windowFrom};
+ghost use Rattle.stream.specs.Window.{Within, Refilled, nothing_read, from as windowFrom};
 
 #[derive(Drop)]
 pub struct Window {
@@ -17,7 +17,7 @@ pub struct Window {
 impl Window {
     // Before the first read.
     pub fn new() -> Window
-        ensures { result ≡ nothingRead }
+        ensures { result ≡ nothing_read }
     {
         Window {
             at: 0,

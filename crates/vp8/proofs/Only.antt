@@ -8,23 +8,23 @@ use lib.Dec.{ltb}
 use lib.ListN.{length}
 use Rattle.error.specs.declared.Error.TheVariants.{ErrShortPacket, ErrBufferTooSmall, OutsideDomain}
 use Rattle.error.specs.declared.Error.{Error}
-use Rattle.error.specs.Refusal.{refusalOf}
+use Rattle.error.specs.Refusal.{refusal_of}
 use Rattle.error.specs.Said.{refused}
 use Rattle.wire.specs.Packets.{joined, whole}
 use Rattle.error.specs.Only.{Determined}
-use Rattle.error.proofs.Only.{by_value, by-view}
+use Rattle.error.proofs.Only.{by_value, by_view}
 use Rattle.vp8_read.specs.declared.Vp8Packet.{Vp8Packet}
 use Rattle.vp8_read.specs.declared.Vp8Read.TheVariants as read
 use Rattle.vp8_read.specs.declared.Vp8Depacketized.{Vp8Depacketized}
 use Rattle.vp8_read.specs.declared.Vp8PartitionHead.{Vp8PartitionHead}
 use Rattle.vp8_read.specs.declared.Vp8PartitionHead.TheVariants as head
 use Rattle.vp8_send.specs.declared.Vp8Payloader.{Vp8Payloader}
-use Rattle.vp8_read.specs.Read.{Stage, Reading, orShort, third, second, read_on, withTl0, withLayers, depacketized}
+use Rattle.vp8_read.specs.Read.{Stage, Reading, or_short, third, second, read_on, with_tl0, with_layers, depacketized}
 use Rattle.vp8_read.specs.ReadAnswer.{reading}
-use Rattle.vp8_read.specs.Partition.{startBit, partitionHead, saidHead}
-use Rattle.vp8_send.specs.Send.{packetsOf, afterPackets, from0, sentAll, delivered, payloaded}
-use Rattle.vp8_send.specs.SendAnswer.{refusedBy, sentBy}
-use Rattle.vp8.proofs.Inverse.{depacketizedOf, depacketizedOf-reading, head_of, headOf-saidHead, Left, sendingOf, left_of, leftOf-sendingOf}
+use Rattle.vp8_read.specs.Partition.{start_bit, partition_head, said_head}
+use Rattle.vp8_send.specs.Send.{packets_of, after_packets, from0, sent_all, delivered, payloaded}
+use Rattle.vp8_send.specs.SendAnswer.{refused_by, sent_by}
+use Rattle.vp8.proofs.Inverse.{depacketized_of, depacketized_of_reading, head_of, head_of_said_head, Left, sending_of, left_of, left_of_sending_of}
 
 -- some answer is seen as this value; where both cases of a test are seen so, the test is
 module _ {A S : Type 0} (view : A → S) where
@@ -37,62 +37,62 @@ module _ {A S : Type 0} (view : A → S) where
 
 -- ---- depacketize
 
-test-seen : (go : Stage → Reading) → ((c : Stage) → Seen reading (go c)) → (c : Stage) → Seen reading (orShort c go)
-unfolding orShort
-test-seen go h c = seen_test reading (ltb 0 (length c.rest)) (h c) (record { packet = c.packet; read = read.Refused ErrShortPacket }, refl)
+test_seen : (go : Stage → Reading) → ((c : Stage) → Seen reading (go c)) → (c : Stage) → Seen reading (or_short c go)
+unfolding or_short
+test_seen go h c = seen_test reading (ltb 0 (length c.rest)) (h c) (record { packet = c.packet; read = read.Refused ErrShortPacket }, refl)
 
-read-seen : (p : Vp8Packet) (s : List ℕ) → Seen reading (depacketized p s)
+read_seen : (p : Vp8Packet) (s : List ℕ) → Seen reading (depacketized p s)
 unfolding depacketized read_on second third
-read-seen p s =
+read_seen p s =
     seen_test reading (ltb 65535 (length s)) (record { packet = p; read = read.Refused OutsideDomain }, refl)
     (seen_test reading (ltb 32767 p.picture_id) (record { packet = p; read = read.Refused OutsideDomain }, refl)
     (seen_test reading (ltb (length s) 4) (record { packet = p; read = read.Refused ErrShortPacket }, refl)
-    (test-seen _
-    (λ c. test-seen _ (λ c₁. test-seen _ (λ c₂. (record { packet = c₂.packet; read = read.Payload c₂.at }, refl)) (withLayers c₁)) (withTl0 c)) _)))
+    (test_seen _
+    (λ c. test_seen _ (λ c₁. test_seen _ (λ c₂. (record { packet = c₂.packet; read = read.Payload c₂.at }, refl)) (with_layers c₁)) (with_tl0 c)) _)))
 
-pub depacketize-only : (p : Vp8Packet) (s : List ℕ) → Determined (λ (r : Vp8Depacketized). reading r ≡ depacketized p s)
-depacketize-only p s =
-    let a = read-seen p s in
-    by-view reading depacketizedOf depacketizedOf-reading a.0 (depacketized p s) a.1
+pub depacketize_only : (p : Vp8Packet) (s : List ℕ) → Determined (λ (r : Vp8Depacketized). reading r ≡ depacketized p s)
+depacketize_only p s =
+    let a = read_seen p s in
+    by_view reading depacketized_of depacketized_of_reading a.0 (depacketized p s) a.1
 
 -- ---- the partition tests
 
-head-seen : (s : List ℕ) → Seen saidHead (partitionHead s)
-unfolding partitionHead
-head-seen s = seen_test saidHead (ltb 65535 (length s)) (head.Refused OutsideDomain, refl) (head.Head (startBit s), refl)
+head_seen : (s : List ℕ) → Seen said_head (partition_head s)
+unfolding partition_head
+head_seen s = seen_test said_head (ltb 65535 (length s)) (head.Refused OutsideDomain, refl) (head.Head (start_bit s), refl)
 
-pub is-partition-head-only : (s : List ℕ) → Determined (λ (r : Vp8PartitionHead). saidHead r ≡ partitionHead s)
-is-partition-head-only s =
-    let a = head-seen s in
-    by-view saidHead head_of headOf-saidHead a.0 (partitionHead s) a.1
+pub is_partition_head_only : (s : List ℕ) → Determined (λ (r : Vp8PartitionHead). said_head r ≡ partition_head s)
+is_partition_head_only s =
+    let a = head_seen s in
+    by_view said_head head_of head_of_said_head a.0 (partition_head s) a.1
 
-pub is-partition-tail-only : (marker : Bool) → Determined (λ (r : Bool). r ≡ marker)
-is-partition-tail-only marker = by_value marker
+pub is_partition_tail_only : (marker : Bool) → Determined (λ (r : Bool). r ≡ marker)
+is_partition_tail_only marker = by_value marker
 
 -- ---- payload
 
-refused-seen : (e : Error) (v : Vp8Payloader) (out ends : List ℕ) →
-    Seen sendingOf (record { payloader = v; said = refused (refusalOf e); out = out; ends = ends })
-refused-seen e v out ends = ((refusedBy v e, out, ends), refl)
+refused_seen : (e : Error) (v : Vp8Payloader) (out ends : List ℕ) →
+    Seen sending_of (record { payloader = v; said = refused (refusal_of e); out = out; ends = ends })
+refused_seen e v out ends = ((refused_by v e, out, ends), refl)
 
-sent-seen : (v : Vp8Payloader) (ps : List (List ℕ)) (out ends : List ℕ) → Seen sendingOf (sentAll v ps out ends)
-sent-seen v ps out ends = (
-  (sentBy (afterPackets v ps) (length ps) (length (joined ps)), (whole (from0 out ends) ps).out, (whole (from0 out ends) ps).ends),
+sent_seen : (v : Vp8Payloader) (ps : List (List ℕ)) (out ends : List ℕ) → Seen sending_of (sent_all v ps out ends)
+sent_seen v ps out ends = (
+  (sent_by (after_packets v ps) (length ps) (length (joined ps)), (whole (from0 out ends) ps).out, (whole (from0 out ends) ps).ends),
   refl,
 )
 
-payload-seen : (v : Vp8Payloader) (mtu : ℕ) (frame out ends : List ℕ) → Seen sendingOf (payloaded v mtu frame out ends)
+payload_seen : (v : Vp8Payloader) (mtu : ℕ) (frame out ends : List ℕ) → Seen sending_of (payloaded v mtu frame out ends)
 unfolding payloaded delivered
-payload-seen v mtu frame out ends =
-    let ps : List (List ℕ) = packetsOf v mtu frame in
-    seen_test sendingOf (ltb 16777216 (length frame)) (refused-seen OutsideDomain v out ends)
-    (seen_test sendingOf (ltb 65535 mtu) (refused-seen OutsideDomain v out ends)
-    (seen_test sendingOf (ltb 32767 v.picture_id) (refused-seen OutsideDomain v out ends)
-    (seen_test sendingOf (ltb (length out) (length (joined ps))) (refused-seen ErrBufferTooSmall v out ends)
-    (seen_test sendingOf (ltb (length ends) (length ps)) (refused-seen ErrBufferTooSmall v out ends) (sent-seen v ps out ends)))))
+payload_seen v mtu frame out ends =
+    let ps : List (List ℕ) = packets_of v mtu frame in
+    seen_test sending_of (ltb 16777216 (length frame)) (refused_seen OutsideDomain v out ends)
+    (seen_test sending_of (ltb 65535 mtu) (refused_seen OutsideDomain v out ends)
+    (seen_test sending_of (ltb 32767 v.picture_id) (refused_seen OutsideDomain v out ends)
+    (seen_test sending_of (ltb (length out) (length (joined ps))) (refused_seen ErrBufferTooSmall v out ends)
+    (seen_test sending_of (ltb (length ends) (length ps)) (refused_seen ErrBufferTooSmall v out ends) (sent_seen v ps out ends)))))
 
-pub payload-only : (v : Vp8Payloader) (mtu : ℕ) (frame out ends : List ℕ) →
-    Determined (λ (a : Left). sendingOf a ≡ payloaded v mtu frame out ends)
-payload-only v mtu frame out ends =
-    let a = payload-seen v mtu frame out ends in
-    by-view sendingOf left_of leftOf-sendingOf a.0 (payloaded v mtu frame out ends) a.1
+pub payload_only : (v : Vp8Payloader) (mtu : ℕ) (frame out ends : List ℕ) →
+    Determined (λ (a : Left). sending_of a ≡ payloaded v mtu frame out ends)
+payload_only v mtu frame out ends =
+    let a = payload_seen v mtu frame out ends in
+    by_view sending_of left_of left_of_sending_of a.0 (payloaded v mtu frame out ends) a.1

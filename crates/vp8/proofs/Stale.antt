@@ -8,61 +8,61 @@ use native.Mathlib.Omega.{arith}
 use lib.Dec.{ltb, eqb}
 use lib.ListN.{length, drop}
 use Rattle.error.specs.Said.{says, refuse}
-use Rattle.wire.specs.Net.{u16At}
+use Rattle.wire.specs.Net.{u16_at}
 use Rattle.vp8_read.specs.declared.Vp8Packet.{Vp8Packet}
-use Rattle.vp8_read.specs.Read.{Stage, next, past, taken, putRequired, putPictureId, putTl0, putTid, putKey, setTid, setKey, setIndices, withPictureId, withTl0, withLayers, Reading, orShort, third, second, read_on}
-use Rattle.vp8.specs.Differences.{withoutX, further}
+use Rattle.vp8_read.specs.Read.{Stage, next, past, taken, put_required, put_picture_id, put_tl0, put_tid, put_key, set_tid, set_key, set_indices, with_picture_id, with_tl0, with_layers, Reading, or_short, third, second, read_on}
+use Rattle.vp8.specs.Differences.{without_x, further}
 
 -- ---- a change of the stage that every step of the reading goes along with
 
-pub record Along (m : Stage → Stage) (mR : Reading → Reading) : Type 0 where
+pub record Along (m : Stage → Stage) (m_r : Reading → Reading) : Type 0 where
   pub rest : (c : Stage) → (m c).rest ≡ c.rest
-  pub refusing : (c : Stage) → record { packet = (m c).packet; said = refuse 4 } ≡ mR (record { packet = c.packet; said = refuse 4 })
-  pub saying : (c : Stage) → record { packet = (m c).packet; said = says (m c).at } ≡ mR (record { packet = c.packet; said = says c.at })
-  pub id : (c : Stage) → withPictureId (m c) ≡ m (withPictureId c)
-  pub tl0 : (c : Stage) → withTl0 (m c) ≡ m (withTl0 c)
-  pub layers : (c : Stage) → withLayers (m c) ≡ m (withLayers c)
+  pub refusing : (c : Stage) → record { packet = (m c).packet; said = refuse 4 } ≡ m_r (record { packet = c.packet; said = refuse 4 })
+  pub saying : (c : Stage) → record { packet = (m c).packet; said = says (m c).at } ≡ m_r (record { packet = c.packet; said = says c.at })
+  pub id : (c : Stage) → with_picture_id (m c) ≡ m (with_picture_id c)
+  pub tl0 : (c : Stage) → with_tl0 (m c) ≡ m (with_tl0 c)
+  pub layers : (c : Stage) → with_layers (m c) ≡ m (with_layers c)
 
-module _ (m : Stage → Stage) (mR : Reading → Reading) (a : Along m mR) where
-  along-test : (go go' : Stage → Reading) → ((c : Stage) → go (m c) ≡ mR (go' c)) → (c : Stage) → orShort (m c) go ≡ mR (orShort c go')
-  unfolding orShort
-  along-test go go' h c =
+module _ (m : Stage → Stage) (m_r : Reading → Reading) (a : Along m m_r) where
+  along_test : (go go' : Stage → Reading) → ((c : Stage) → go (m c) ≡ m_r (go' c)) → (c : Stage) → or_short (m c) go ≡ m_r (or_short c go')
+  unfolding or_short
+  along_test go go' h c =
       ap (λ (l : List ℕ). cond (ltb 0 (length l)) (go (m c)) (record { packet = (m c).packet; said = refuse 4 })) (a.rest c)
-      ∙ by-test (ltb 0 (length c.rest))
+      ∙ by_test (ltb 0 (length c.rest))
     where
-      by-test : (b : Bool) →
+      by_test : (b : Bool) →
           cond b (go (m c)) (record { packet = (m c).packet; said = refuse 4 })
-          ≡ mR (cond b (go' c) (record { packet = c.packet; said = refuse 4 }))
-      by-test true = h c
-      by-test false = a.refusing c
+          ≡ m_r (cond b (go' c) (record { packet = c.packet; said = refuse 4 }))
+      by_test true = h c
+      by_test false = a.refusing c
 
-  pub along : (c : Stage) → read_on (withPictureId (m c)) ≡ mR (read_on (withPictureId c))
+  pub along : (c : Stage) → read_on (with_picture_id (m c)) ≡ m_r (read_on (with_picture_id c))
   unfolding read_on second third
   along c =
       ap read_on (a.id c)
-      ∙ along-test (λ c₁. second (withTl0 c₁)) (λ c₁. second (withTl0 c₁))
+      ∙ along_test (λ c₁. second (with_tl0 c₁)) (λ c₁. second (with_tl0 c₁))
       (λ c₁. ap second (a.tl0 c₁)
-      ∙ along-test (λ c₂. third (withLayers c₂)) (λ c₂. third (withLayers c₂))
-      (λ c₂. ap third (a.layers c₂) ∙ along-test _ _ a.saying (withLayers c₂)) (withTl0 c₁)) (withPictureId c)
+      ∙ along_test (λ c₂. third (with_layers c₂)) (λ c₂. third (with_layers c₂))
+      (λ c₂. ap third (a.layers c₂) ∙ along_test _ _ a.saying (with_layers c₂)) (with_tl0 c₁)) (with_picture_id c)
 
 -- ---- one place further on
 
 abbrev pub on : Stage → Stage
 on c = record { packet = c.packet; at = c.at + 1; rest = c.rest }
 
-abbrev pub onR : Reading → Reading
-onR r = record { packet = r.packet; said = further r.said }
+abbrev pub on_r : Reading → Reading
+on_r r = record { packet = r.packet; said = further r.said }
 
-pub along-on : Along on onR
-unfolding withPictureId withTl0 withLayers
-along-on =
+pub along_on : Along on on_r
+unfolding with_picture_id with_tl0 with_layers
+along_on =
     record {
       rest = λ c. refl;
       refusing = λ c. refl;
       saying = λ c. refl;
-      id = λ c. id-cases c (eqb c.packet.i 1) (ltb (next c) 128);
-      tl0 = λ c. cases (eqb c.packet.l 1) (taken putTl0 c) c;
-      layers = λ c. cases (eqb c.packet.t 1 || eqb c.packet.k 1) (taken setIndices c) c;
+      id = λ c. id_cases c (eqb c.packet.i 1) (ltb (next c) 128);
+      tl0 = λ c. cases (eqb c.packet.l 1) (taken put_tl0 c) c;
+      layers = λ c. cases (eqb c.packet.t 1 || eqb c.packet.k 1) (taken set_indices c) c;
     }
   where
     cases : (b : Bool) (c c' : Stage) → cond b (on c) (on c') ≡ on (cond b c c')
@@ -72,64 +72,64 @@ along-on =
     two : (p : Vp8Packet) (at : ℕ) (l : List ℕ) → ◌≡◌ {A = Stage} (record { packet = p; at = at + 1 + 2; rest = l }) (record { packet = p; at = at + 2 + 1; rest = l })
     two p at l = let e : at + 1 + 2 ≡ at + 2 + 1 = omega arith in ap (λ (n : ℕ). record { packet = p; at = n; rest = l }) e
 
-    id-cases : (c : Stage) (b s : Bool) →
-        cond b (cond s (taken putPictureId (on c)) (past 2 (putPictureId (u16At c.rest 0 % 32768) c.packet) (on c))) (on c)
-        ≡ on (cond b (cond s (taken putPictureId c) (past 2 (putPictureId (u16At c.rest 0 % 32768) c.packet) c)) c)
-    id-cases c true true = refl
-    id-cases c true false = two (putPictureId (u16At c.rest 0 % 32768) c.packet) c.at (drop 2 c.rest)
-    id-cases c false true = refl
-    id-cases c false false = refl
+    id_cases : (c : Stage) (b s : Bool) →
+        cond b (cond s (taken put_picture_id (on c)) (past 2 (put_picture_id (u16_at c.rest 0 % 32768) c.packet) (on c))) (on c)
+        ≡ on (cond b (cond s (taken put_picture_id c) (past 2 (put_picture_id (u16_at c.rest 0 % 32768) c.packet) c)) c)
+    id_cases c true true = refl
+    id_cases c true false = two (put_picture_id (u16_at c.rest 0 % 32768) c.packet) c.at (drop 2 c.rest)
+    id_cases c false true = refl
+    id_cases c false false = refl
 
 -- ---- with X clear
 
 abbrev pub clear : Stage → Stage
-clear c = record { packet = withoutX c.packet; at = c.at; rest = c.rest }
+clear c = record { packet = without_x c.packet; at = c.at; rest = c.rest }
 
-abbrev pub clearR : Reading → Reading
-clearR r = record { packet = withoutX r.packet; said = r.said }
+abbrev pub clear_r : Reading → Reading
+clear_r r = record { packet = without_x r.packet; said = r.said }
 
-tid-clear : (b : ℕ) (p : Vp8Packet) → setTid b (withoutX p) ≡ withoutX (setTid b p)
-unfolding setTid putTid putRequired
-tid-clear b p = by-test (eqb p.t 1)
+tid_clear : (b : ℕ) (p : Vp8Packet) → set_tid b (without_x p) ≡ without_x (set_tid b p)
+unfolding set_tid put_tid put_required
+tid_clear b p = by_test (eqb p.t 1)
   where
-    by-test : (f : Bool) → cond f (putTid (b / 64) (b / 32 % 2) (withoutX p)) (withoutX p) ≡ withoutX (cond f (putTid (b / 64) (b / 32 % 2) p) p)
-    by-test true = refl
-    by-test false = refl
+    by_test : (f : Bool) → cond f (put_tid (b / 64) (b / 32 % 2) (without_x p)) (without_x p) ≡ without_x (cond f (put_tid (b / 64) (b / 32 % 2) p) p)
+    by_test true = refl
+    by_test false = refl
 
-key-clear : (b : ℕ) (p : Vp8Packet) → setKey b (withoutX p) ≡ withoutX (setKey b p)
-unfolding setKey putKey putRequired
-key-clear b p = by-test (eqb p.k 1)
+key_clear : (b : ℕ) (p : Vp8Packet) → set_key b (without_x p) ≡ without_x (set_key b p)
+unfolding set_key put_key put_required
+key_clear b p = by_test (eqb p.k 1)
   where
-    by-test : (f : Bool) → cond f (putKey (b % 32) (withoutX p)) (withoutX p) ≡ withoutX (cond f (putKey (b % 32) p) p)
-    by-test true = refl
-    by-test false = refl
+    by_test : (f : Bool) → cond f (put_key (b % 32) (without_x p)) (without_x p) ≡ without_x (cond f (put_key (b % 32) p) p)
+    by_test true = refl
+    by_test false = refl
 
-pub along-clear : Along clear clearR
-unfolding withPictureId withTl0 withLayers putRequired putPictureId putTl0
-along-clear =
+pub along_clear : Along clear clear_r
+unfolding with_picture_id with_tl0 with_layers put_required put_picture_id put_tl0
+along_clear =
     record {
       rest = λ c. refl;
       refusing = λ c. refl;
       saying = λ c. refl;
-      id = λ c. id-cases c (eqb c.packet.i 1) (ltb (next c) 128);
-      tl0 = λ c. tl0-cases c (eqb c.packet.l 1);
-      layers = λ c. layers-cases c (eqb c.packet.t 1 || eqb c.packet.k 1);
+      id = λ c. id_cases c (eqb c.packet.i 1) (ltb (next c) 128);
+      tl0 = λ c. tl0_cases c (eqb c.packet.l 1);
+      layers = λ c. layers_cases c (eqb c.packet.t 1 || eqb c.packet.k 1);
     }
   where
-    id-cases : (c : Stage) (b s : Bool) →
-        cond b (cond s (taken putPictureId (clear c)) (past 2 (putPictureId (u16At c.rest 0 % 32768) (withoutX c.packet)) (clear c))) (clear c)
-        ≡ clear (cond b (cond s (taken putPictureId c) (past 2 (putPictureId (u16At c.rest 0 % 32768) c.packet) c)) c)
-    id-cases c true true = refl
-    id-cases c true false = refl
-    id-cases c false true = refl
-    id-cases c false false = refl
+    id_cases : (c : Stage) (b s : Bool) →
+        cond b (cond s (taken put_picture_id (clear c)) (past 2 (put_picture_id (u16_at c.rest 0 % 32768) (without_x c.packet)) (clear c))) (clear c)
+        ≡ clear (cond b (cond s (taken put_picture_id c) (past 2 (put_picture_id (u16_at c.rest 0 % 32768) c.packet) c)) c)
+    id_cases c true true = refl
+    id_cases c true false = refl
+    id_cases c false true = refl
+    id_cases c false false = refl
 
-    tl0-cases : (c : Stage) (b : Bool) → cond b (taken putTl0 (clear c)) (clear c) ≡ clear (cond b (taken putTl0 c) c)
-    tl0-cases c true = refl
-    tl0-cases c false = refl
+    tl0_cases : (c : Stage) (b : Bool) → cond b (taken put_tl0 (clear c)) (clear c) ≡ clear (cond b (taken put_tl0 c) c)
+    tl0_cases c true = refl
+    tl0_cases c false = refl
 
-    layers-cases : (c : Stage) (b : Bool) → cond b (taken setIndices (clear c)) (clear c) ≡ clear (cond b (taken setIndices c) c)
-    layers-cases c true =
+    layers_cases : (c : Stage) (b : Bool) → cond b (taken set_indices (clear c)) (clear c) ≡ clear (cond b (taken set_indices c) c)
+    layers_cases c true =
         ap (λ (p : Vp8Packet). past 1 p c)
-        (ap (setKey (next c)) (tid-clear (next c) c.packet) ∙ key-clear (next c) (setTid (next c) c.packet))
-    layers-cases c false = refl
+        (ap (set_key (next c)) (tid_clear (next c) c.packet) ∙ key_clear (next c) (set_tid (next c) c.packet))
+    layers_cases c false = refl

@@ -2,12 +2,12 @@
 use Rattle.std.specs.Prelude.{◌≡◌, Bool, true, false, cond, List, [], ◌∷◌, ◌++◌, map, ℕ, ◌+◌, ◌≤◌, ◌<◌, ltb, length}
 use Rattle.std.proofs.Math.Option.{Option, none, some}
 use Rattle.error.specs.Said.{says}
-use Rattle.rfc7741.specs.Descriptor.{Required, PictureId, absent, short, long, Layers, neither, onlyT, onlyK, bothTK, Extension, Descriptor, extended, flagI, flagL, flagT, flagK, octets, Lawful, Strays}
+use Rattle.rfc7741.specs.Descriptor.{Required, PictureId, absent, short, long, Layers, neither, only_t, only_k, both_tK, Extension, Descriptor, extended, flag_i, flag_l, flag_t, flag_k, octets, Lawful, Strays}
 use Rattle.rfc7741.specs.Frame.{Carries}
 use Rattle.vp8_read.specs.declared.Vp8Packet.{Vp8Packet}
 use Rattle.vp8_send.specs.declared.Vp8Payloader.{Vp8Payloader}
-use Rattle.vp8_read.specs.Read.{putRequired, putFlags, putPictureId, putTl0, putTid, putKey, Reading}
-use Rattle.vp8_send.specs.Send.{headerSize}
+use Rattle.vp8_read.specs.Read.{put_required, put_flags, put_picture_id, put_tl0, put_tid, put_key, Reading}
+use Rattle.vp8_send.specs.Send.{header_size}
 
 -- ---- reading
 
@@ -22,9 +22,9 @@ TellsTl0 (some n) index = index ≡ n
 
 abbrev pub TellsLayers : Layers → Vp8Packet → Type 0
 TellsLayers neither p = Unit
-TellsLayers (onlyT o) p = (p.tid ≡ o.tid) × (p.y ≡ o.y)
-TellsLayers (onlyK o) p = p.key_idx ≡ o.keyidx
-TellsLayers (bothTK o) p = (p.tid ≡ o.tid) × (p.y ≡ o.y) × (p.key_idx ≡ o.keyidx)
+TellsLayers (only_t o) p = (p.tid ≡ o.tid) × (p.y ≡ o.y)
+TellsLayers (only_k o) p = p.key_idx ≡ o.keyidx
+TellsLayers (both_tK o) p = (p.tid ≡ o.tid) × (p.y ≡ o.y) × (p.key_idx ≡ o.keyidx)
 
 -- the record says the descriptor's fields: X, N, S, PID, the flags, and each optional field that is there
 pub record Tells (d : Required) (e : Extension) (p : Vp8Packet) : Type 0 where
@@ -32,11 +32,11 @@ pub record Tells (d : Required) (e : Extension) (p : Vp8Packet) : Type 0 where
   pub n : p.n ≡ d.n
   pub s : p.s ≡ d.s
   pub pid : p.pid ≡ d.pid
-  pub i : p.i ≡ flagI e.pictureId
-  pub l : p.l ≡ flagL e.tl0picidx
-  pub t : p.t ≡ flagT e.layers
-  pub k : p.k ≡ flagK e.layers
-  pub pictureId : TellsId e.pictureId p.picture_id
+  pub i : p.i ≡ flag_i e.picture_id
+  pub l : p.l ≡ flag_l e.tl0picidx
+  pub t : p.t ≡ flag_t e.layers
+  pub k : p.k ≡ flag_k e.layers
+  pub picture_id : TellsId e.picture_id p.picture_id
   pub tl0 : TellsTl0 e.tl0picidx p.tl0_pic_idx
   pub layers : TellsLayers e.layers p
 
@@ -75,44 +75,44 @@ Deviates = Bears Strays
 
 -- ---- the fields exactly: those of the descriptor, and the old ones where it leaves a field out
 
-abbrev pub tellId : PictureId → Vp8Packet → Vp8Packet
-tellId absent p = p
-tellId (short n) p = putPictureId n p
-tellId (long n) p = putPictureId n p
+abbrev pub tell_id : PictureId → Vp8Packet → Vp8Packet
+tell_id absent p = p
+tell_id (short n) p = put_picture_id n p
+tell_id (long n) p = put_picture_id n p
 
-abbrev pub tellTl0 : Option ℕ → Vp8Packet → Vp8Packet
-tellTl0 none p = p
-tellTl0 (some n) p = putTl0 n p
+abbrev pub tell_tl0 : Option ℕ → Vp8Packet → Vp8Packet
+tell_tl0 none p = p
+tell_tl0 (some n) p = put_tl0 n p
 
-abbrev pub tellLayers : Layers → Vp8Packet → Vp8Packet
-tellLayers neither p = p
-tellLayers (onlyT o) p = putTid o.tid o.y p
-tellLayers (onlyK o) p = putKey o.keyidx p
-tellLayers (bothTK o) p = putKey o.keyidx (putTid o.tid o.y p)
+abbrev pub tell_layers : Layers → Vp8Packet → Vp8Packet
+tell_layers neither p = p
+tell_layers (only_t o) p = put_tid o.tid o.y p
+tell_layers (only_k o) p = put_key o.keyidx p
+tell_layers (both_tK o) p = put_key o.keyidx (put_tid o.tid o.y p)
 
 -- the fields when the flags have been read, when the picture id has, when TL0PICIDX has, and all of them
-abbrev pub fieldsFlags : Required → Extension → Vp8Packet → Vp8Packet
-fieldsFlags d e old =
-    putFlags (flagI e.pictureId) (flagL e.tl0picidx) (flagT e.layers) (flagK e.layers) (putRequired 1 d.n d.s d.pid old)
+abbrev pub fields_flags : Required → Extension → Vp8Packet → Vp8Packet
+fields_flags d e old =
+    put_flags (flag_i e.picture_id) (flag_l e.tl0picidx) (flag_t e.layers) (flag_k e.layers) (put_required 1 d.n d.s d.pid old)
 
-abbrev pub fieldsId : Required → Extension → Vp8Packet → Vp8Packet
-fieldsId d e old = tellId e.pictureId (fieldsFlags d e old)
+abbrev pub fields_id : Required → Extension → Vp8Packet → Vp8Packet
+fields_id d e old = tell_id e.picture_id (fields_flags d e old)
 
-abbrev pub fieldsTl0 : Required → Extension → Vp8Packet → Vp8Packet
-fieldsTl0 d e old = tellTl0 e.tl0picidx (fieldsId d e old)
+abbrev pub fields_tl0 : Required → Extension → Vp8Packet → Vp8Packet
+fields_tl0 d e old = tell_tl0 e.tl0picidx (fields_id d e old)
 
 abbrev pub fields : Required → Extension → Vp8Packet → Vp8Packet
-fields d e old = tellLayers e.layers (fieldsTl0 d e old)
+fields d e old = tell_layers e.layers (fields_tl0 d e old)
 
 -- ---- sending
 
-abbrev pub startFlag : Bool → ℕ
-startFlag true = 1
-startFlag false = 0
+abbrev pub start_flag : Bool → ℕ
+start_flag true = 1
+start_flag false = 0
 
 -- the PictureID of a frame's packets: 7 bits while they hold it, else 15
-unfoldable pub shownId : Vp8Payloader → PictureId
-shownId v = cond v.enable_picture_id (cond (ltb v.picture_id 128) (short v.picture_id) (long v.picture_id)) absent
+unfoldable pub shown_id : Vp8Payloader → PictureId
+shown_id v = cond v.enable_picture_id (cond (ltb v.picture_id 128) (short v.picture_id) (long v.picture_id)) absent
 
 abbrev pub AtMost : ℕ → List (List ℕ) → Type 0
 AtMost mtu [] = Unit
@@ -121,25 +121,25 @@ AtMost mtu (p ∷ ps) = (length p ≤ mtu) × AtMost mtu ps
 -- a frame that the paper has sent: not empty, and an mtu above the header
 pub record Sendable (v : Vp8Payloader) (mtu : ℕ) (frame : List ℕ) : Type 0 where
   pub some : 0 < length frame
-  pub above : headerSize v < mtu
+  pub above : header_size v < mtu
   pub id : v.picture_id ≤ 32767
 
 -- each frame is carried, under one PictureID, by packets of at most mtu bytes
 abbrev pub SendsFrames : (Vp8Payloader → ℕ → List ℕ → List (List ℕ)) → Type 0
 SendsFrames send =
     (v : Vp8Payloader) (mtu : ℕ) (frame : List ℕ) → Sendable v mtu frame →
-    Carries (shownId v) frame (send v mtu frame) × AtMost mtu (send v mtu frame)
+    Carries (shown_id v) frame (send v mtu frame) × AtMost mtu (send v mtu frame)
 
 -- k more in a packet's first octet: PID 1 for 0 where k is 1, S for none where it is 16
-abbrev pub withMore : ℕ → List ℕ → List ℕ
-withMore k [] = []
-withMore k (b ∷ p) = (b + k) ∷ p
+abbrev pub with_more : ℕ → List ℕ → List ℕ
+with_more k [] = []
+with_more k (b ∷ p) = (b + k) ∷ p
 
 -- that in each packet of a frame but the first
-abbrev pub withMoreBehind : ℕ → List (List ℕ) → List (List ℕ)
-withMoreBehind k [] = []
-withMoreBehind k (p ∷ ps) = p ∷ map (withMore k) ps
+abbrev pub with_more_behind : ℕ → List (List ℕ) → List (List ℕ)
+with_more_behind k [] = []
+with_more_behind k (p ∷ ps) = p ∷ map (with_more k) ps
 
 -- what is sent with its id is read by this crate's own reader: the payload, the id and S
 abbrev pub Own : Vp8Payloader → Bool → Reading → Type 0
-Own v start r = (r.said ≡ says (headerSize v)) × (r.packet.picture_id ≡ v.picture_id) × (r.packet.s ≡ startFlag start)
+Own v start r = (r.said ≡ says (header_size v)) × (r.packet.picture_id ≡ v.picture_id) × (r.packet.s ≡ start_flag start)

@@ -1,7 +1,7 @@
 -- "VP8 (003, RFC 7741)", reading: what is read of a packet, in the Rust's order, and which fields are kept. Assumes nothing.
 use Rattle.std.specs.Prelude.{cond, ◌||◌, List, ℕ, ◌+◌, ◌/◌, ◌%◌, ltb, eqb, length, get_or, drop}
 use Rattle.error.specs.Said.{Said, says, refuse}
-use Rattle.wire.specs.Net.{u16At}
+use Rattle.wire.specs.Net.{u16_at}
 use Rattle.vp8_read.specs.declared.Vp8Packet.{Vp8Packet}
 
 -- a record of which nothing was read
@@ -26,8 +26,8 @@ blank =
 -- ---- fields set, all others kept
 
 -- the required ones
-unfoldable pub putRequired : ℕ → ℕ → ℕ → ℕ → Vp8Packet → Vp8Packet
-putRequired x n s pid p =
+unfoldable pub put_required : ℕ → ℕ → ℕ → ℕ → Vp8Packet → Vp8Packet
+put_required x n s pid p =
     record {
       x = x;
       n = n;
@@ -45,8 +45,8 @@ putRequired x n s pid p =
     }
 
 -- the flags
-unfoldable pub putFlags : ℕ → ℕ → ℕ → ℕ → Vp8Packet → Vp8Packet
-putFlags i l t k p =
+unfoldable pub put_flags : ℕ → ℕ → ℕ → ℕ → Vp8Packet → Vp8Packet
+put_flags i l t k p =
     record {
       x = p.x;
       n = p.n;
@@ -64,8 +64,8 @@ putFlags i l t k p =
     }
 
 -- picture_id
-unfoldable pub putPictureId : ℕ → Vp8Packet → Vp8Packet
-putPictureId id p =
+unfoldable pub put_picture_id : ℕ → Vp8Packet → Vp8Packet
+put_picture_id id p =
     record {
       x = p.x;
       n = p.n;
@@ -83,8 +83,8 @@ putPictureId id p =
     }
 
 -- tl0_pic_idx
-unfoldable pub putTl0 : ℕ → Vp8Packet → Vp8Packet
-putTl0 index p =
+unfoldable pub put_tl0 : ℕ → Vp8Packet → Vp8Packet
+put_tl0 index p =
     record {
       x = p.x;
       n = p.n;
@@ -102,8 +102,8 @@ putTl0 index p =
     }
 
 -- tid and y
-unfoldable pub putTid : ℕ → ℕ → Vp8Packet → Vp8Packet
-putTid tid y p =
+unfoldable pub put_tid : ℕ → ℕ → Vp8Packet → Vp8Packet
+put_tid tid y p =
     record {
       x = p.x;
       n = p.n;
@@ -121,8 +121,8 @@ putTid tid y p =
     }
 
 -- key_idx
-unfoldable pub putKey : ℕ → Vp8Packet → Vp8Packet
-putKey index p =
+unfoldable pub put_key : ℕ → Vp8Packet → Vp8Packet
+put_key index p =
     record {
       x = p.x;
       n = p.n;
@@ -142,22 +142,22 @@ putKey index p =
 -- ---- the fields that a byte of the descriptor sets
 
 -- |X|R|N|S|R| PID |
-abbrev pub setRequired : ℕ → Vp8Packet → Vp8Packet
-setRequired b p = putRequired (b / 128) (b / 32 % 2) (b / 16 % 2) (b % 8) p
+abbrev pub set_required : ℕ → Vp8Packet → Vp8Packet
+set_required b p = put_required (b / 128) (b / 32 % 2) (b / 16 % 2) (b % 8) p
 
 -- |I|L|T|K| RSV   |
 abbrev pub set_flags : ℕ → Vp8Packet → Vp8Packet
-set_flags b p = putFlags (b / 128) (b / 64 % 2) (b / 32 % 2) (b / 16 % 2) p
+set_flags b p = put_flags (b / 128) (b / 64 % 2) (b / 32 % 2) (b / 16 % 2) p
 
 -- |TID|Y| KEYIDX  |: tid and y where T is 1, key_idx where K is 1
-unfoldable pub setTid : ℕ → Vp8Packet → Vp8Packet
-setTid b p = cond (eqb p.t 1) (putTid (b / 64) (b / 32 % 2) p) p
+unfoldable pub set_tid : ℕ → Vp8Packet → Vp8Packet
+set_tid b p = cond (eqb p.t 1) (put_tid (b / 64) (b / 32 % 2) p) p
 
-unfoldable pub setKey : ℕ → Vp8Packet → Vp8Packet
-setKey b p = cond (eqb p.k 1) (putKey (b % 32) p) p
+unfoldable pub set_key : ℕ → Vp8Packet → Vp8Packet
+set_key b p = cond (eqb p.k 1) (put_key (b % 32) p) p
 
-abbrev pub setIndices : ℕ → Vp8Packet → Vp8Packet
-setIndices b p = setKey b (setTid b p)
+abbrev pub set_indices : ℕ → Vp8Packet → Vp8Packet
+set_indices b p = set_key b (set_tid b p)
 
 -- ---- the stages
 
@@ -183,17 +183,17 @@ unfoldable pub with_flags : Stage → Stage
 with_flags c = cond (eqb c.packet.x 1) (taken set_flags c) c
 
 -- M clear: 7 bits, and M set: 15 bits
-unfoldable pub withPictureId : Stage → Stage
-withPictureId c =
+unfoldable pub with_picture_id : Stage → Stage
+with_picture_id c =
     cond (eqb c.packet.i 1)
-    (cond (ltb (next c) 128) (taken putPictureId c) (past 2 (putPictureId (u16At c.rest 0 % 32768) c.packet) c)) c
+    (cond (ltb (next c) 128) (taken put_picture_id c) (past 2 (put_picture_id (u16_at c.rest 0 % 32768) c.packet) c)) c
 
-unfoldable pub withTl0 : Stage → Stage
-withTl0 c = cond (eqb c.packet.l 1) (taken putTl0 c) c
+unfoldable pub with_tl0 : Stage → Stage
+with_tl0 c = cond (eqb c.packet.l 1) (taken put_tl0 c) c
 
 -- T or K
-unfoldable pub withLayers : Stage → Stage
-withLayers c = cond (eqb c.packet.t 1 || eqb c.packet.k 1) (taken setIndices c) c
+unfoldable pub with_layers : Stage → Stage
+with_layers c = cond (eqb c.packet.t 1 || eqb c.packet.k 1) (taken set_indices c) c
 
 -- the fields as they are left, and the payload's place or a refusal
 pub record Reading : Type 0 where
@@ -201,18 +201,18 @@ pub record Reading : Type 0 where
   pub said : Said ℕ
 
 -- "4 on a packet of 4 bytes or more leaves the fields read so far": where no byte is left
-unfoldable pub orShort : Stage → (Stage → Reading) → Reading
-orShort c go = cond (ltb 0 (length c.rest)) (go c) (record { packet = c.packet; said = refuse 4 })
+unfoldable pub or_short : Stage → (Stage → Reading) → Reading
+or_short c go = cond (ltb 0 (length c.rest)) (go c) (record { packet = c.packet; said = refuse 4 })
 
 -- behind the picture id: three tests for a byte that is left, the last of them for the payload
 unfoldable pub third : Stage → Reading
-third c = orShort c (λ c'. record { packet = c'.packet; said = says c'.at })
+third c = or_short c (λ c'. record { packet = c'.packet; said = says c'.at })
 
 unfoldable pub second : Stage → Reading
-second c = orShort c (λ c'. third (withLayers c'))
+second c = or_short c (λ c'. third (with_layers c'))
 
 unfoldable pub read_on : Stage → Reading
-read_on c = orShort c (λ c'. second (withTl0 c'))
+read_on c = or_short c (λ c'. second (with_tl0 c'))
 
 -- "packets up to 65,535 bytes", "a VP8 picture id up to 32,767": else 8; under 4 bytes 4, and nothing changes
 unfoldable pub depacketized : Vp8Packet → List ℕ → Reading
@@ -220,4 +220,4 @@ depacketized p s =
     cond (ltb 65535 (length s)) (record { packet = p; said = refuse 8 })
     (cond (ltb 32767 p.picture_id) (record { packet = p; said = refuse 8 })
     (cond (ltb (length s) 4) (record { packet = p; said = refuse 4 })
-    (read_on (withPictureId (with_flags (taken setRequired (record { packet = p; at = 0; rest = s })))))))
+    (read_on (with_picture_id (with_flags (taken set_required (record { packet = p; at = 0; rest = s })))))))

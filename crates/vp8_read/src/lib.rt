@@ -1,8 +1,8 @@
 // Reading the descriptor of a VP8 payload, and the partition tests: `Vp8Packet` of codecs/vp8/mod.rs of rtp 0.17.2.
 ghost use Rattle.std.specs.Prelude.{◌≡◌, ◌+◌, ◌<◌, ◌≤◌, length};
-ghost use Rattle.vp8_read.specs.Read.{setRequired, set_flags, setTid, setKey, with_flags, withPictureId, withTl0, withLayers, read_on, depacketized};
-ghost use Rattle.vp8_read.specs.ReadAnswer.{stageOf, reading, keeping};
-ghost use Rattle.vp8_read.specs.Partition.{partitionHead, saidHead};
+ghost use Rattle.vp8_read.specs.Read.{set_required, set_flags, set_tid, set_key, with_flags, with_picture_id, with_tl0, with_layers, read_on, depacketized};
+ghost use Rattle.vp8_read.specs.ReadAnswer.{stage_of, reading, keeping};
+ghost use Rattle.vp8_read.specs.Partition.{partition_head, said_head};
 
 use error::Error;
 
@@ -77,7 +77,7 @@ struct Reader {
 //                                         +-+-+-+-+-+-+-+-+
 impl Vp8Packet {
     fn required(mut self, b: u8) -> Vp8Packet
-        ensures { result ≡ setRequired b self }
+        ensures { result ≡ set_required b self }
     {
         self.x = b / 128;
         self.n = b / 32 % 2;
@@ -97,7 +97,7 @@ impl Vp8Packet {
     }
 
     fn temporal(mut self, b: u8) -> Vp8Packet
-        ensures { result ≡ setTid b self }
+        ensures { result ≡ set_tid b self }
     {
         if self.t != 1 {
             return self;
@@ -108,7 +108,7 @@ impl Vp8Packet {
     }
 
     fn key(mut self, b: u8) -> Vp8Packet
-        ensures { result ≡ setKey b self }
+        ensures { result ≡ set_key b self }
     {
         if self.k != 1 {
             return self;
@@ -151,7 +151,7 @@ impl Vp8Packet {
 impl Reader {
     fn flags(self, packet: &[u8]) -> Reader
         requires { self.at < length packet.now }
-        ensures { (stageOf result packet.now ≡ with_flags (stageOf self packet.now)) × (result.at ≤ self.at + 1) }
+        ensures { (stage_of result packet.now ≡ with_flags (stage_of self packet.now)) × (result.at ≤ self.at + 1) }
     {
         let at = self.at;
         let fields = self.packet;
@@ -166,7 +166,7 @@ impl Reader {
 
     fn picture_id(self, packet: &[u8]) -> Reader
         requires { self.at + 2 ≤ length packet.now }
-        ensures { stageOf result packet.now ≡ withPictureId (stageOf self packet.now) }
+        ensures { stage_of result packet.now ≡ with_picture_id (stage_of self packet.now) }
     {
         let at = self.at;
         let mut fields = self.packet;
@@ -189,7 +189,7 @@ impl Reader {
 
     fn tl0_pic_idx(self, packet: &[u8]) -> Reader
         requires { self.at < length packet.now }
-        ensures { stageOf result packet.now ≡ withTl0 (stageOf self packet.now) }
+        ensures { stage_of result packet.now ≡ with_tl0 (stage_of self packet.now) }
     {
         let at = self.at;
         let mut fields = self.packet;
@@ -205,7 +205,7 @@ impl Reader {
 
     fn layers(self, packet: &[u8]) -> Reader
         requires { self.at < length packet.now }
-        ensures { stageOf result packet.now ≡ withLayers (stageOf self packet.now) }
+        ensures { stage_of result packet.now ≡ with_layers (stage_of self packet.now) }
     {
         let at = self.at;
         let fields = self.packet;
@@ -223,7 +223,7 @@ impl Reader {
 
     // Behind the picture id: a byte has to be there before each of the two fields, and behind them.
     fn read_on(self, packet: &[u8]) -> Vp8Depacketized
-        ensures { reading result ≡ read_on (stageOf self packet.now) }
+        ensures { reading result ≡ read_on (stage_of self packet.now) }
     {
         if packet.len() <= self.at {
             return self.short();
@@ -259,7 +259,7 @@ pub enum Vp8PartitionHead {
 
 // Whether the packet begins a VP8 partition: S of its first byte.
 pub fn is_partition_head(payload: &[u8]) -> Vp8PartitionHead
-    ensures { saidHead result ≡ partitionHead payload.now }
+    ensures { said_head result ≡ partition_head payload.now }
 {
     if 65535 < payload.len() {
         return Vp8PartitionHead::Refused(Error::OutsideDomain);

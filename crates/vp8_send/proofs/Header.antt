@@ -9,29 +9,29 @@ use lib.ListN.{length}
 use borrow.Author.Tests.{lt-ltb, le-ltb}
 use Rattle.wire.specs.Net.{be16}
 use Rattle.vp8_send.specs.declared.Vp8Payloader.{Vp8Payloader}
-use Rattle.vp8_send.specs.Send.{headerSize, startOctet, descriptorOf}
+use Rattle.vp8_send.specs.Send.{header_size, start_octet, descriptor_of}
 
 module _ (v : Vp8Payloader) (start : Bool) where
-  pub no-id : v.enable_picture_id ≡ false → descriptorOf v start ≡ startOctet start ∷ []
-  unfolding descriptorOf
-  no-id e = rw e
+  pub no_id : v.enable_picture_id ≡ false → descriptor_of v start ≡ start_octet start ∷ []
+  unfolding descriptor_of
+  no_id e = rw e
 
   pub id7 : v.enable_picture_id ≡ true → v.picture_id < 128 →
-      descriptorOf v start ≡ (128 + startOctet start) ∷ 128 ∷ v.picture_id ∷ []
-  unfolding descriptorOf
+      descriptor_of v start ≡ (128 + start_octet start) ∷ 128 ∷ v.picture_id ∷ []
+  unfolding descriptor_of
   id7 e h = rw (e, lt-ltb v.picture_id 128 h)
 
   pub id15 : v.enable_picture_id ≡ true → 128 ≤ v.picture_id →
-      descriptorOf v start ≡ (128 + startOctet start) ∷ 128 ∷ be16 (32768 + v.picture_id)
-  unfolding descriptorOf
+      descriptor_of v start ≡ (128 + start_octet start) ∷ 128 ∷ be16 (32768 + v.picture_id)
+  unfolding descriptor_of
   id15 e h = rw (e, le-ltb v.picture_id 128 h)
 
-  pub length-descriptor : length (descriptorOf v start) ≡ headerSize v
-  unfolding descriptorOf headerSize be16
-  length-descriptor = by_cases v.enable_picture_id (ltb v.picture_id 128)
+  pub length_descriptor : length (descriptor_of v start) ≡ header_size v
+  unfolding descriptor_of header_size be16
+  length_descriptor = by_cases v.enable_picture_id (ltb v.picture_id 128)
     where
       by_cases : (shown short : Bool) →
-          length (cond shown ((128 + startOctet start) ∷ 128 ∷ cond short (v.picture_id ∷ []) (be16 (32768 + v.picture_id))) (startOctet start ∷ []))
+          length (cond shown ((128 + start_octet start) ∷ 128 ∷ cond short (v.picture_id ∷ []) (be16 (32768 + v.picture_id))) (start_octet start ∷ []))
           ≡ cond shown (cond short 3 4) 1
       by_cases true true = refl
       by_cases true false = refl
@@ -39,25 +39,25 @@ module _ (v : Vp8Payloader) (start : Bool) where
       by_cases false false = refl
 
   -- where the id is shown, three bytes at least are written
-  pub shown-length : v.enable_picture_id ≡ true → 3 ≤ length (descriptorOf v start)
-  unfolding headerSize
-  shown-length e = rw (length-descriptor, e) (by_cases (ltb v.picture_id 128))
+  pub shown_length : v.enable_picture_id ≡ true → 3 ≤ length (descriptor_of v start)
+  unfolding header_size
+  shown_length e = rw (length_descriptor, e) (by_cases (ltb v.picture_id 128))
     where
       by_cases : (short : Bool) → 3 ≤ cond short 3 4
       by_cases true = lit≤ tt
       by_cases false = lit≤ tt
 
-  pub length7 : v.enable_picture_id ≡ true → v.picture_id < 128 → length (descriptorOf v start) ≡ 3
+  pub length7 : v.enable_picture_id ≡ true → v.picture_id < 128 → length (descriptor_of v start) ≡ 3
   length7 e h = ap length (id7 e h)
 
-  pub length15 : v.enable_picture_id ≡ true → 128 ≤ v.picture_id → length (descriptorOf v start) ≡ 4
+  pub length15 : v.enable_picture_id ≡ true → 128 ≤ v.picture_id → length (descriptor_of v start) ≡ 4
   unfolding be16
   length15 e h = ap length (id15 e h)
 
 -- 1 to 4 bytes
-pub header-bounds : (v : Vp8Payloader) → (1 ≤ headerSize v) × (headerSize v ≤ 4)
-unfolding headerSize
-header-bounds v = by_cases v.enable_picture_id (ltb v.picture_id 128)
+pub header_bounds : (v : Vp8Payloader) → (1 ≤ header_size v) × (header_size v ≤ 4)
+unfolding header_size
+header_bounds v = by_cases v.enable_picture_id (ltb v.picture_id 128)
   where
     by_cases : (shown short : Bool) → (1 ≤ cond shown (cond short 3 4) 1) × (cond shown (cond short 3 4) 1 ≤ 4)
     by_cases true true = (omega arith, omega arith)

@@ -15,25 +15,25 @@ use native.Mathlib.Omega.{arith}
 use lib.Dec.{ltb, eqb}
 use borrow.Author.Tests.{lt-ltb, eqb-true}
 use Rattle.vp8_send.specs.declared.Vp8Payloader.{Vp8Payloader}
-use Rattle.vp8_send.specs.Send.{headerSize}
+use Rattle.vp8_send.specs.Send.{header_size}
 
 -- the header's size by the Rust's tests
-abbrev pub rustSize : Vp8Payloader → ℕ
-rustSize v = cond v.enable_picture_id (cond (eqb v.picture_id 0 || ltb v.picture_id 128) 3 4) 1
+abbrev pub rust_size : Vp8Payloader → ℕ
+rust_size v = cond v.enable_picture_id (cond (eqb v.picture_id 0 || ltb v.picture_id 128) 3 4) 1
 
 -- where the first test holds, so does the second
-pub zero-is-under-128 : (id : ℕ) → eqb id 0 ≡ true → ltb id 128 ≡ true
-zero-is-under-128 id e =
+pub zero_is_under_128 : (id : ℕ) → eqb id 0 ≡ true → ltb id 128 ≡ true
+zero_is_under_128 id e =
     let zero : id ≡ 0 = eqb-true id 0 e in
     lt-ltb id 128 (omega arith)
 
 -- so that with it and without it the size is the same, for every id and both settings
-pub sizes-alike : (v : Vp8Payloader) → rustSize v ≡ headerSize v
-unfolding headerSize
-sizes-alike v = go (eqb v.picture_id 0) refl
+pub sizes_alike : (v : Vp8Payloader) → rust_size v ≡ header_size v
+unfolding header_size
+sizes_alike v = go (eqb v.picture_id 0) refl
   where
     go : (zero : Bool) → eqb v.picture_id 0 ≡ zero →
         ◌≡◌ {A = ℕ} (cond v.enable_picture_id (cond (zero || ltb v.picture_id 128) 3 4) 1)
         (cond v.enable_picture_id (cond (ltb v.picture_id 128) 3 4) 1)
-    go true e = rw (zero-is-under-128 v.picture_id e)
+    go true e = rw (zero_is_under_128 v.picture_id e)
     go false e = refl

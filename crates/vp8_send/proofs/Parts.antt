@@ -10,23 +10,23 @@ use lib.ListN.{length, take, drop, length-append, length-drop, take-append-drop,
 use lib.Seq.{take_all, drop-drop}
 use Rattle.wire.specs.Packets.{joined}
 use Rattle.vp8_send.specs.declared.Vp8Payloader.{Vp8Payloader}
-use Rattle.vp8_send.specs.Send.{headerSize, partsBy, parts_of, headed}
-use Rattle.vp8_send.proofs.Header.{length-descriptor}
+use Rattle.vp8_send.specs.Send.{header_size, parts_by, parts_of, headed}
+use Rattle.vp8_send.proofs.Header.{length_descriptor}
 
-pub parts_none : (fuel size : ℕ) (s : List ℕ) → length s ≤ 0 → partsBy fuel size s ≡ []
-unfolding partsBy
+pub parts_none : (fuel size : ℕ) (s : List ℕ) → length s ≤ 0 → parts_by fuel size s ≡ []
+unfolding parts_by
 parts_none zero size s h = refl
 parts_none (suc fuel) size [] h = refl
 parts_none (suc fuel) size (b ∷ s) h = absurd (not-suc-le-zero h)
 
 pub parts_more : (fuel size : ℕ) (s : List ℕ) → 0 < length s → length s ≤ fuel →
-    partsBy fuel size s ≡ take size s ∷ partsBy (fuel - 1) size (drop size s)
-unfolding partsBy
+    parts_by fuel size s ≡ take size s ∷ parts_by (fuel - 1) size (drop size s)
+unfolding parts_by
 parts_more fuel size [] h g = absurd (not-suc-le-zero h)
 parts_more zero size (b ∷ s) h g = absurd (not-suc-le-zero g)
 parts_more (suc fuel) size (b ∷ s) h g =
     let e : fuel ≡ suc fuel - 1 = omega arith in
-    ap (λ (f : ℕ). take size (b ∷ s) ∷ partsBy f size (drop size (b ∷ s))) e
+    ap (λ (f : ℕ). take size (b ∷ s) ∷ parts_by f size (drop size (b ∷ s))) e
 
 -- the part that ends where `end_of` says, and what is behind it
 take_min : (size : ℕ) (l : List ℕ) (k : ℕ) → k ≡ min size (length l) → take k l ≡ take size l
@@ -37,11 +37,11 @@ take_min size l k e = elim (dec_le size (length l)) [
 ]
 
 module _ (size from : ℕ) (frame : List ℕ) (end : ℕ) (e : end ≡ min (from + size) (length frame)) where
-  pub part-here : from ≤ length frame → take (end - from) (drop from frame) ≡ take size (drop from frame)
-  part-here h = take_min size (drop from frame) (end - from) (rw (length-drop from frame) (omega arith))
+  pub part_here : from ≤ length frame → take (end - from) (drop from frame) ≡ take size (drop from frame)
+  part_here h = take_min size (drop from frame) (end - from) (rw (length-drop from frame) (omega arith))
 
-  pub part-behind : drop size (drop from frame) ≡ drop end frame
-  part-behind = drop-drop size from frame ∙ elim (dec_le (from + size) (length frame)) [
+  pub part_behind : drop size (drop from frame) ≡ drop end frame
+  part_behind = drop-drop size from frame ∙ elim (dec_le (from + size) (length frame)) [
     | yes h ↦ ap (λ (n : ℕ). drop n frame) (sym (e ∙ min-eq_left h))
     | no h ↦ let g : length frame ≤ from + size = omega arith in
         let k : length frame ≤ end = omega arith in
@@ -49,58 +49,58 @@ module _ (size from : ℕ) (frame : List ℕ) (end : ℕ) (e : end ≡ min (from
   ]
 
 -- the parts make up the frame
-pub joined-parts : (fuel size : ℕ) (s : List ℕ) → 0 < size → length s ≤ fuel → joined (partsBy fuel size s) ≡ s
-unfolding partsBy
-joined-parts zero size [] z h = refl
-joined-parts zero size (b ∷ s) z h = absurd (not-suc-le-zero h)
-joined-parts (suc fuel) size [] z h = refl
-joined-parts (suc fuel) size (b ∷ s) z h =
+pub joined_parts : (fuel size : ℕ) (s : List ℕ) → 0 < size → length s ≤ fuel → joined (parts_by fuel size s) ≡ s
+unfolding parts_by
+joined_parts zero size [] z h = refl
+joined_parts zero size (b ∷ s) z h = absurd (not-suc-le-zero h)
+joined_parts (suc fuel) size [] z h = refl
+joined_parts (suc fuel) size (b ∷ s) z h =
     let l : length (drop size (b ∷ s)) ≡ length (b ∷ s) - size = length-drop size (b ∷ s) in
-    ap (λ (r : List ℕ). take size (b ∷ s) ++ r) (joined-parts fuel size (drop size (b ∷ s)) z (omega arith))
+    ap (λ (r : List ℕ). take size (b ∷ s) ++ r) (joined_parts fuel size (drop size (b ∷ s)) z (omega arith))
     ∙ take-append-drop size (b ∷ s)
 
 -- one part for each `size` bytes begun
-div-more : (n size : ℕ) → 0 < size → size < n → (n - 1) / size ≡ (n - size - 1) / size + 1
-div-more n size z h =
+div_more : (n size : ℕ) → 0 < size → size < n → (n - 1) / size ≡ (n - size - 1) / size + 1
+div_more n size z h =
     let e : n - 1 - size ≡ n - size - 1 = omega arith in
     div-eq-sub-div z (omega arith) ∙ ap (λ (k : ℕ). k / size + 1) e
 
-pub count-parts : (fuel size : ℕ) (s : List ℕ) → 0 < size → 0 < length s → length s ≤ fuel →
-    length (partsBy fuel size s) ≡ (length s - 1) / size + 1
-count-parts zero size s z p h = absurd (omega arith)
-count-parts (suc fuel) size s z p h =
+pub count_parts : (fuel size : ℕ) (s : List ℕ) → 0 < size → 0 < length s → length s ≤ fuel →
+    length (parts_by fuel size s) ≡ (length s - 1) / size + 1
+count_parts zero size s z p h = absurd (omega arith)
+count_parts (suc fuel) size s z p h =
     let l : length (drop size s) ≡ length s - size = length-drop size s in
     let k : fuel ≡ suc fuel - 1 = omega arith in
-    ap length (parts_more (suc fuel) size s p h ∙ ap (λ (f : ℕ). take size s ∷ partsBy f size (drop size s)) (sym k))
+    ap length (parts_more (suc fuel) size s p h ∙ ap (λ (f : ℕ). take size s ∷ parts_by f size (drop size s)) (sym k))
     ∙ elim (dec_le (length s) size) [
       | yes g ↦
-          let none : length (partsBy fuel size (drop size s)) ≡ 0 = ap length (parts_none fuel size (drop size s) (omega arith)) in
+          let none : length (parts_by fuel size (drop size s)) ≡ 0 = ap length (parts_none fuel size (drop size s) (omega arith)) in
           let first : (length s - 1) / size ≡ 0 = div-eq_of_lt (omega arith) in
           omega (arith, none, first)
       | no g ↦
-          let more = count-parts fuel size (drop size s) z (omega arith) (omega arith) in
-          let step = div-more (length s) size z (omega arith) in
+          let more = count_parts fuel size (drop size s) z (omega arith) (omega arith) in
+          let step = div_more (length s) size z (omega arith) in
           omega (arith, more ∙ ap (λ (n : ℕ). (n - 1) / size + 1) l, step)
     ]
 
 -- ---- with their headers
 
-pub length-headed : (v : Vp8Payloader) (start : Bool) (ps : List (List ℕ)) → length (headed v start ps) ≡ length ps
+pub length_headed : (v : Vp8Payloader) (start : Bool) (ps : List (List ℕ)) → length (headed v start ps) ≡ length ps
 unfolding headed
-length-headed v start [] = refl
-length-headed v start (p ∷ ps) = ap suc (length-headed v false ps)
+length_headed v start [] = refl
+length_headed v start (p ∷ ps) = ap suc (length_headed v false ps)
 
-pub some-headed : (v : Vp8Payloader) (size : ℕ) (s : List ℕ) → 0 < size → 0 < length s → 0 < length (headed v true (parts_of size s))
-some-headed v size s z some =
-    let n = length-headed v true (parts_of size s) ∙ count-parts (length s) size s z some (omega arith) in
+pub some_headed : (v : Vp8Payloader) (size : ℕ) (s : List ℕ) → 0 < size → 0 < length s → 0 < length (headed v true (parts_of size s))
+some_headed v size s z some =
+    let n = length_headed v true (parts_of size s) ∙ count_parts (length s) size s z some (omega arith) in
     omega arith
 
-pub bytes-headed : (v : Vp8Payloader) (start : Bool) (ps : List (List ℕ)) →
-    length (joined (headed v start ps)) ≡ length (joined ps) + length ps * headerSize v
+pub bytes_headed : (v : Vp8Payloader) (start : Bool) (ps : List (List ℕ)) →
+    length (joined (headed v start ps)) ≡ length (joined ps) + length ps * header_size v
 unfolding headed
-bytes-headed v start [] = omega arith
-bytes-headed v start (p ∷ ps) =
-    let d = length-descriptor v start in
-    let more = bytes-headed v false ps in
-    let times : suc (length ps) * headerSize v ≡ length ps * headerSize v + headerSize v = suc-mul (length ps) (headerSize v) in
+bytes_headed v start [] = omega arith
+bytes_headed v start (p ∷ ps) =
+    let d = length_descriptor v start in
+    let more = bytes_headed v false ps in
+    let times : suc (length ps) * header_size v ≡ length ps * header_size v + header_size v = suc-mul (length ps) (header_size v) in
     simp length-append (omega arith)

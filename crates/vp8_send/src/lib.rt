@@ -1,8 +1,8 @@
 // Cutting a VP8 frame into payloads: `Vp8Payloader` of codecs/vp8/mod.rs of rtp 0.17.2.
 ghost use Rattle.std.specs.Prelude.{◌≡◌, true, ◌++◌, ◌+◌, ◌<◌, ◌≤◌, min, length};
 ghost use Rattle.wire.specs.Part.{splice};
-ghost use Rattle.vp8_send.specs.Send.{headerSize, startOctet, descriptorOf, parts_of, headed, packetsOf, advanced, sentAll, delivered, payloaded};
-ghost use Rattle.vp8_send.specs.SendAnswer.{refusedBy, sentBy, sending};
+ghost use Rattle.vp8_send.specs.Send.{header_size, start_octet, descriptor_of, parts_of, headed, packets_of, advanced, sent_all, delivered, payloaded};
+ghost use Rattle.vp8_send.specs.SendAnswer.{refused_by, sent_by, sending};
 ghost use Rattle.vp8_send.specs.Asked.{InDomain, ToWrite};
 
 use error::Error;
@@ -57,7 +57,7 @@ impl Vp8Payloader {
     // All payloads are counted before the first is written: a refusal changes nothing.
     fn deliver(self, mtu: usize, frame: &[u8], out: &mut [u8], ends: &mut [usize]) -> Vp8Payloaded
         requires { InDomain self mtu frame.now }
-        ensures { sending result out.new ends.new ≡ delivered self (packetsOf self mtu frame.now) out.old ends.old }
+        ensures { sending result out.new ends.new ≡ delivered self (packets_of self mtu frame.now) out.old ends.old }
     {
         let header = self.header_size();
         if frame.len() == 0 {
@@ -78,7 +78,7 @@ impl Vp8Payloader {
     }
 
     fn refused(self, error: Error) -> Vp8Payloaded
-        ensures { result ≡ refusedBy self error }
+        ensures { result ≡ refused_by self error }
     {
         Vp8Payloaded {
             payloader: self,
@@ -87,7 +87,7 @@ impl Vp8Payloader {
     }
 
     fn sent(self, packets: usize, bytes: usize) -> Vp8Payloaded
-        ensures { result ≡ sentBy self packets bytes }
+        ensures { result ≡ sent_by self packets bytes }
     {
         Vp8Payloaded {
             payloader: self,
@@ -105,7 +105,7 @@ impl Vp8Payloader {
     }
 
     fn header_size(self) -> usize
-        ensures { result ≡ headerSize self }
+        ensures { result ≡ header_size self }
     {
         if self.enable_picture_id {
             if self.picture_id < 128 { 3 } else { 4 }
@@ -117,7 +117,7 @@ impl Vp8Payloader {
     // Writes all payloads, each size bytes of the frame, the last perhaps fewer.
     fn write(self, size: usize, frame: &[u8], out: &mut [u8], ends: &mut [usize]) -> Vp8Payloaded
         requires { ToWrite self size frame.now out.old ends.old }
-        ensures { sending result out.new ends.new ≡ sentAll self (headed self true (parts_of size frame.now)) out.old ends.old }
+        ensures { sending result out.new ends.new ≡ sent_all self (headed self true (parts_of size frame.now)) out.old ends.old }
     {
         let mut start = true;
         let mut from = 0;
@@ -136,8 +136,8 @@ impl Vp8Payloader {
 
     // One payload: the descriptor, and the part behind it. Hands back where it ends.
     fn put(self, start: bool, part: &[u8], out: &mut [u8], at: usize) -> usize
-        requires { (self.picture_id ≤ 32767) × (at + length (descriptorOf self start ++ part.now) ≤ length out.old) }
-        ensures { (result ≡ at + length (descriptorOf self start ++ part.now)) × (out.new ≡ splice out.old at (descriptorOf self start ++ part.now)) }
+        requires { (self.picture_id ≤ 32767) × (at + length (descriptor_of self start ++ part.now) ≤ length out.old) }
+        ensures { (result ≡ at + length (descriptor_of self start ++ part.now)) × (out.new ≡ splice out.old at (descriptor_of self start ++ part.now)) }
     {
         let behind = self.put_descriptor(start, out, at);
         wire::copy_at(part, out, behind);
@@ -159,8 +159,8 @@ impl Vp8Payloader {
     //     and MUST NOT be 1 otherwise.  The S bit MUST be set to 1 for the
     //     first packet of each encoded frame.
     fn put_descriptor(self, start: bool, out: &mut [u8], at: usize) -> usize
-        requires { (self.picture_id ≤ 32767) × (at + length (descriptorOf self start) ≤ length out.old) }
-        ensures { (result ≡ at + length (descriptorOf self start)) × (out.new ≡ splice out.old at (descriptorOf self start)) }
+        requires { (self.picture_id ≤ 32767) × (at + length (descriptor_of self start) ≤ length out.old) }
+        ensures { (result ≡ at + length (descriptor_of self start)) × (out.new ≡ splice out.old at (descriptor_of self start)) }
     {
         let s = start_octet(start);
         if !self.enable_picture_id {
@@ -179,7 +179,7 @@ impl Vp8Payloader {
 }
 
 fn start_octet(start: bool) -> u8
-    ensures { (result ≡ startOctet start) × (result ≤ 16) }
+    ensures { (result ≡ start_octet start) × (result ≤ 16) }
 {
     if start { 16 } else { 0 }
 }

@@ -15,7 +15,7 @@ module _ {S R : Type 0} (step : S → Turn S R) (otherwise : R) where
       let l : fuel ≡ suc fuel - 1 = omega arith in
       ap (λ (t : Turn S R). after t (run step otherwise fuel)) e ∙ ap (λ (f : ℕ). run step otherwise f s') l
 
-  pub run-done : (fuel : ℕ) (s : S) (r : R) → 0 < fuel → step s ≡ done r → run step otherwise fuel s ≡ r
+  pub run_done : (fuel : ℕ) (s : S) (r : R) → 0 < fuel → step s ≡ done r → run step otherwise fuel s ≡ r
   unfolding run
-  run-done zero s r h e = absurd (not-suc-le-zero h)
-  run-done (suc fuel) s r h e = ap (λ (t : Turn S R). after t (run step otherwise fuel)) e
+  run_done zero s r h e = absurd (not-suc-le-zero h)
+  run_done (suc fuel) s r h e = ap (λ (t : Turn S R). after t (run step otherwise fuel)) e

@@ -2,8 +2,8 @@
 use Rattle.std.specs.Prelude.{Bool, List, [], ◌∷◌, ℕ, ◌+◌, ◌*◌, ◌/◌, ◌%◌, eqb, get_or}
 
 -- the number that the two octets from `at` on say
-unfoldable pub u16At : List ℕ → ℕ → ℕ
-u16At s at = get_or s at 0 * 256 + get_or s (at + 1) 0
+unfoldable pub u16_at : List ℕ → ℕ → ℕ
+u16_at s at = get_or s at 0 * 256 + get_or s (at + 1) 0
 
 -- the number that the four octets from `at` on say
 unfoldable pub u32_at : List ℕ → ℕ → ℕ

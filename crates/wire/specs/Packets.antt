@@ -8,9 +8,9 @@ joined [] = []
 joined (p ∷ ps) = p ++ joined ps
 
 -- where each packet ends, the first of them starting at `at`
-abbrev pub endsFrom : ℕ → List (List ℕ) → List ℕ
-endsFrom at [] = []
-endsFrom at (p ∷ ps) = (at + length p) ∷ endsFrom (at + length p) ps
+abbrev pub ends_from : ℕ → List (List ℕ) → List ℕ
+ends_from at [] = []
+ends_from at (p ∷ ps) = (at + length p) ∷ ends_from (at + length p) ps
 
 -- an output cut at these ends, the first part starting at `at`
 abbrev pub cut : List ℕ → ℕ → List ℕ → List (List ℕ)
@@ -46,7 +46,7 @@ whole s ps =
     record {
       out = splice s.out s.at (joined ps);
       at = s.at + length (joined ps);
-      ends = splice s.ends s.n (endsFrom s.at ps);
+      ends = splice s.ends s.n (ends_from s.at ps);
       n = s.n + length ps;
     }
 

@@ -11,8 +11,8 @@ abbrev pub part {ℓ} : {A : Type ℓ} → List A → ℕ → ℕ → List A
 part xs at len = take len (drop at xs)
 
 -- xs, then zeros, n places in all
-unfoldable pub padTo : ℕ → List ℕ → List ℕ
-padTo n xs = xs ++ replicate (n - length xs) 0
+unfoldable pub pad_to : ℕ → List ℕ → List ℕ
+pad_to n xs = xs ++ replicate (n - length xs) 0
 
 -- what every inner function that writes promises: octets were put at `at` into `buf`, which is now `exit`, and r is the place behind them
 pub record Put (buf : List ℕ) (at : ℕ) (octets : List ℕ) (r : ℕ) (exit : List ℕ) : Type 0 where

@@ -2,7 +2,7 @@
 //
 // Only proved code calls this crate, so its functions may ask that the place is there.
 ghost use Rattle.std.specs.Prelude.{◌≡◌, reverse, ◌+◌, ◌<◌, ◌≤◌, length, replicate};
-ghost use Rattle.wire.specs.Net.{u16At, u32_at, be16, be32};
+ghost use Rattle.wire.specs.Net.{u16_at, u32_at, be16, be32};
 ghost use Rattle.wire.specs.Part.{splice};
 
 // A byte, as a length or a place.
@@ -50,7 +50,7 @@ fn turned32(n: u32) -> u32
 
 pub fn get_u16(s: &[u8], at: usize) -> u16
     requires { at + 2 ≤ length s.now }
-    ensures { result ≡ u16At s.now at }
+    ensures { result ≡ u16_at s.now at }
 {
     turned16(octet16(s[at + 1]) * 256 + octet16(s[at]))
 }

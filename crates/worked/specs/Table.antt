@@ -24,12 +24,12 @@ abbrev pub BEDE1 : List ℕ
 BEDE1 = 0xBE ∷ 0xDE ∷ 0 ∷ 1 ∷ []
 
 -- 67AA, 68BB, 650102, each after a start code
-abbrev pub pairThenUnit : List ℕ
-pairThenUnit = 0 ∷ 0 ∷ 1 ∷ 0x67 ∷ 0xAA ∷ 0 ∷ 0 ∷ 1 ∷ 0x68 ∷ 0xBB ∷ 0 ∷ 0 ∷ 1 ∷ 0x65 ∷ 1 ∷ 2 ∷ []
+abbrev pub pair_then_unit : List ℕ
+pair_then_unit = 0 ∷ 0 ∷ 1 ∷ 0x67 ∷ 0xAA ∷ 0 ∷ 0 ∷ 1 ∷ 0x68 ∷ 0xBB ∷ 0 ∷ 0 ∷ 1 ∷ 0x65 ∷ 1 ∷ 2 ∷ []
 
 -- "`000001 650102030405`"
-abbrev pub sixBytes : List ℕ
-sixBytes = 0 ∷ 0 ∷ 1 ∷ 0x65 ∷ 1 ∷ 2 ∷ 3 ∷ 4 ∷ 5 ∷ []
+abbrev pub six_bytes : List ℕ
+six_bytes = 0 ∷ 0 ∷ 1 ∷ 0x65 ∷ 1 ∷ 2 ∷ 3 ∷ 4 ∷ 5 ∷ []
 
 -- a plain unit, for the joiner
 abbrev pub unit : List ℕ
@@ -65,15 +65,15 @@ table =
     -- "*Writing 01020304 appends 00000004."
     ∷ row (written P (1 ∷ 2 ∷ 3 ∷ 4 ∷ [])) (bytes (P ++ (1 ∷ 2 ∷ 3 ∷ 4 ∷ 0 ∷ 0 ∷ 0 ∷ 4 ∷ [])))
     -- "*mtu 4, `000001 650102030405`: `7C850102`, `7C050304`, `7C4505`"
-    ∷ row (send 4 sixBytes)
+    ∷ row (send 4 six_bytes)
     (packets ((0x7C ∷ 0x85 ∷ 1 ∷ 2 ∷ []) ∷ (0x7C ∷ 0x05 ∷ 3 ∷ 4 ∷ []) ∷ (0x7C ∷ 0x45 ∷ 5 ∷ []) ∷ []))
     -- "mtu 2: none."
-    ∷ row (send 2 sixBytes) (packets [])
+    ∷ row (send 2 six_bytes) (packets [])
     -- "*67AA, 68BB, 650102 at mtu 9: `78 0002 67AA 0002 68BB`, `650102`"
-    ∷ row (send 9 pairThenUnit)
+    ∷ row (send 9 pair_then_unit)
     (packets ((0x78 ∷ 0 ∷ 2 ∷ 0x67 ∷ 0xAA ∷ 0 ∷ 2 ∷ 0x68 ∷ 0xBB ∷ []) ∷ (0x65 ∷ 1 ∷ 2 ∷ []) ∷ []))
     -- "at 8 only `650102`."
-    ∷ row (send 8 pairThenUnit) (packets ((0x65 ∷ 1 ∷ 2 ∷ []) ∷ []))
+    ∷ row (send 8 pair_then_unit) (packets ((0x65 ∷ 1 ∷ 2 ∷ []) ∷ []))
     -- "*`18 0001 41 05`: 18."
     ∷ row (depacketize (0x18 ∷ 0 ∷ 1 ∷ 0x41 ∷ 5 ∷ [])) (no 18)
     -- "*VP8 `908005AA`, then `1007AABB`: id 7, payload AABB."

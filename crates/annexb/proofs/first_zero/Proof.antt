@@ -6,19 +6,19 @@ use native.Mathlib.Omega.{arith}
 use lib.ListN.{length, get_or}
 use borrow.Author.Rules.{rules}
 use Rattle.annexb.specs.Runs.{Run, Zero}
-use Rattle.annexb.proofs.Runs.{run-one, run_on}
+use Rattle.annexb.proofs.Runs.{run_one, run_on}
 use Rattle.annexb.proofs.first_zero.Statement.{statement}
 use Rattle.annexb.proofs.first_zero.Tie as tie
 
 module _ (frame : List ℕ) (i : ℕ) (pre : (i + 3 ≤ length frame) × (get_or frame (i + 2) 0 ≡ 0)) where
   last : Run Zero frame (i + 2) (i + 3)
-  last = run-one (omega arith) (omega arith) pre.1
+  last = run_one (omega arith) (omega arith) pre.1
 
-  last-two : get_or frame (i + 1) 0 ≡ 0 → Run Zero frame (i + 1) (i + 3)
-  last-two z = run_on (run-one (omega arith) (omega arith) z) last
+  last_two : get_or frame (i + 1) 0 ≡ 0 → Run Zero frame (i + 1) (i + 3)
+  last_two z = run_on (run_one (omega arith) (omega arith) z) last
 
   all_three : get_or frame i 0 ≡ 0 → get_or frame (i + 1) 0 ≡ 0 → Run Zero frame i (i + 3)
-  all_three y z = run_on (run-one (omega arith) (omega arith) y) (last-two z)
+  all_three y z = run_on (run_one (omega arith) (omega arith) y) (last_two z)
 
 returns : tie.Need-returns
 returns c =
@@ -36,7 +36,7 @@ returns-2 c =
     record {
       from = omega arith;
       some = omega arith;
-      zeros = last-two start.args.frame.now start.args.i start.requires c.before.before.if1.false;
+      zeros = last_two start.args.frame.now start.args.i start.requires c.before.before.if1.false;
       start = λ k low q z. c.if2.true (let e : k ≡ start.args.i = omega arith in cc);
     }
 

@@ -3,7 +3,7 @@ use Prim.Native.Nat.{◌+◌, ◌-◌, ◌≤◌}
 use native.Mathlib.Omega.{arith}
 use borrow.Author.Rules.{rules}
 use Rattle.annexb.specs.Runs.{Run}
-use Rattle.annexb.proofs.Runs.{run_none, run-one, run_on, run-as}
+use Rattle.annexb.proofs.Runs.{run_none, run_one, run_on, run_as}
 use Rattle.annexb.proofs.greatest.Statement.{statement}
 use Rattle.annexb.proofs.greatest.Tie as tie
 
@@ -13,14 +13,14 @@ invariant-loop frame i m₀ k₀ m k = (k ≤ 16) × Run (λ b. b ≤ m) frame i
 abbrev decreases-loop : tie.decreases-loop
 decreases-loop frame i m₀ k₀ m k = 16 - k
 
-loop-holds : tie.Need-loop-init invariant-loop decreases-loop
-loop-holds c = (search rules, run_none (omega arith) (omega arith))
+loop_holds : tie.Need-loop-init invariant-loop decreases-loop
+loop_holds c = (search rules, run_none (omega arith) (omega arith))
 
-loop-again : tie.Need-loop-preserved invariant-loop decreases-loop
-loop-again c = (
+loop_again : tie.Need-loop-preserved invariant-loop decreases-loop
+loop_again c = (
   search rules,
-  run_on (run-as (λ b h. omega (arith, c.greater.ensures)) c.before.before.before.loop.invariant.1)
-      (run-one (omega arith) (omega arith) c.greater.ensures.1),
+  run_on (run_as (λ b h. omega (arith, c.greater.ensures)) c.before.before.before.loop.invariant.1)
+      (run_one (omega arith) (omega arith) c.greater.ensures.1),
 )
 
 returns : tie.Need-returns invariant-loop decreases-loop
@@ -32,11 +32,11 @@ greatest-spec =
     (tie.spec
     invariant-loop
     decreases-loop
-    loop-holds
+    loop_holds
     (λ c. search rules)
     (λ c. search rules)
     (λ c κs. search rules)
     (λ c. search rules)
     (λ c. search rules)
-    loop-again
+    loop_again
     returns)

@@ -4,7 +4,7 @@ use native.Mathlib.Omega.{arith}
 use lib.ListN.{length}
 use borrow.Author.Rules.{rules}
 use Rattle.annexb.specs.Runs.{Run, Zero}
-use Rattle.annexb.proofs.Runs.{run_none, run_on, run-as}
+use Rattle.annexb.proofs.Runs.{run_none, run_on, run_as}
 use Rattle.annexb.proofs.past_sixteens.Statement.{statement}
 use Rattle.annexb.proofs.past_sixteens.Tie as tie
 
@@ -14,8 +14,8 @@ invariant-loop frame start i₀ i = Run Zero frame start i
 abbrev decreases-loop : tie.decreases-loop
 decreases-loop frame start i₀ i = length frame - i
 
-loop-again : tie.Need-loop-preserved invariant-loop decreases-loop
-loop-again c = run_on c.before.before.before.loop.invariant (run-as (λ b h. omega arith) c.before.greatest.ensures)
+loop_again : tie.Need-loop-preserved invariant-loop decreases-loop
+loop_again c = run_on c.before.before.before.loop.invariant (run_as (λ b h. omega arith) c.before.greatest.ensures)
 
 pub past-sixteens-spec : {M : Type 1} → statement M
 past-sixteens-spec =
@@ -28,6 +28,6 @@ past-sixteens-spec =
     (λ c κs. search rules)
     (λ c. search rules)
     (λ c. search rules)
-    loop-again
+    loop_again
     (λ c. search rules)
     (λ c. search rules))

@@ -4,7 +4,7 @@ use native.Mathlib.Omega.{arith}
 use lib.ListN.{length}
 use borrow.Author.Rules.{rules}
 use Rattle.annexb.specs.Runs.{Run, Zero}
-use Rattle.annexb.proofs.Runs.{run_none, run-one, run_on}
+use Rattle.annexb.proofs.Runs.{run_none, run_one, run_on}
 use Rattle.annexb.proofs.past_zeros.Statement.{statement}
 use Rattle.annexb.proofs.past_zeros.Tie as tie
 
@@ -14,13 +14,13 @@ invariant-loop frame start i₀ i = Run Zero frame start i
 abbrev decreases-loop : tie.decreases-loop
 decreases-loop frame start i₀ i = length frame - i
 
-loop-again : tie.Need-loop-preserved invariant-loop decreases-loop
-loop-again c =
-    run_on (run_on c.before.before.before.before.before.loop.invariant (run-one (omega arith) (omega arith) c.before.before.if2.false))
+loop_again : tie.Need-loop-preserved invariant-loop decreases-loop
+loop_again c =
+    run_on (run_on c.before.before.before.before.before.loop.invariant (run_one (omega arith) (omega arith) c.before.before.if2.false))
     c.past-sixteens.ensures
 
-loop-again-2 : tie.Need-loop-preserved-2 invariant-loop decreases-loop
-loop-again-2 c = run_on c.before.before.before.before.loop.invariant (run-one (omega arith) (omega arith) c.before.if2.false)
+loop_again_2 : tie.Need-loop-preserved-2 invariant-loop decreases-loop
+loop_again_2 c = run_on c.before.before.before.before.loop.invariant (run_one (omega arith) (omega arith) c.before.if2.false)
 
 returns : tie.Need-returns invariant-loop decreases-loop
 returns c = record { zeros = c.before.loop.invariant; stop = λ h. absurd (omega arith) }
@@ -40,8 +40,8 @@ past-zeros-spec =
     (λ c. search rules)
     (λ c κs. search rules)
     (λ c. search rules)
-    loop-again
+    loop_again
     (λ c. search rules)
-    loop-again-2
+    loop_again_2
     returns
     returns-2)

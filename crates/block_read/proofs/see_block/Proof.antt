@@ -5,8 +5,8 @@ use Prim.Native.Nat.{◌+◌}
 use lib.ListN.{length}
 use borrow.Author.Rules.{rules}
 use borrow.Author.Tests.{eq-eqb, ne_eqb}
-use Rattle.block_read.specs.Said.{blockSeen}
-use Rattle.block_read.proofs.Reading.{wholeElement, whole-full, whole-block, seen_at}
+use Rattle.block_read.specs.Said.{block_seen}
+use Rattle.block_read.proofs.Reading.{whole_element, whole_full, whole_block_lem, seen_at}
 use Rattle.block_read.proofs.see_block.Statement.{statement}
 use Rattle.block_read.proofs.see_block.Tie as tie
 
@@ -22,7 +22,7 @@ returns-3 c =
     let a = c.before.before.before.before.before.args in
     rw (ne_eqb _ 0xBEDE c.before.before.before.if1.false, ne_eqb _ 0x1000 c.before.before.if2.false)
     (c.refused-block.ensures
-    ∙ sym (ap (blockSeen (length a.packet.now)) (whole-full a.packet.now a.start a.len c.before.if3.true)))
+    ∙ sym (ap (block_seen (length a.packet.now)) (whole_full a.packet.now a.start a.len c.before.if3.true)))
 
 returns-4 : tie.Need-returns-4
 returns-4 c =
@@ -32,8 +32,8 @@ returns-4 c =
     rw (ne_eqb _ 0xBEDE c.before.before.before.if1.false, ne_eqb _ 0x1000 c.before.before.if2.false)
     (c.ended.ensures
     ∙ sym
-    (ap (blockSeen (length s)) (whole-block s a.start a.len (search rules))
-    ∙ seen_at s end end (wholeElement s a.start a.len ∷ []) 0 (search rules)))
+    (ap (block_seen (length s)) (whole_block_lem s a.start a.len (search rules))
+    ∙ seen_at s end end (whole_element s a.start a.len ∷ []) 0 (search rules)))
 
 pub see-block-spec : {M : Type 1} → statement M
 see-block-spec =

@@ -6,29 +6,29 @@ use lib.ListN.{get_or}
 use borrow.Author.Rules.{rules}
 use borrow.Author.Tests.{eq-eqb, ne_eqb}
 use Rattle.block_read.specs.Read.{element}
-use Rattle.block_read.proofs.Reading.{twoByte-pad, twoByte-last, twoByte-at, within-past, within-packet}
+use Rattle.block_read.proofs.Reading.{two_byte_pad, two_byte_last, two_byte_at, within_past, within_packet}
 use Rattle.block_read.proofs.two_byte.Statement.{statement}
 use Rattle.block_read.proofs.two_byte.Tie as tie
 
 returns : tie.Need-returns
 returns c =
     let a = c.before.before.before.args in
-    sym (twoByte-pad a.packet.now a.at (search rules) c.if1.true)
+    sym (two_byte_pad a.packet.now a.at (search rules) c.if1.true)
 
 returns-2 : tie.Need-returns-2
 returns-2 c =
     let a = c.before.before.before.before.args in
     sym
-    (twoByte-last a.packet.now a.at (search rules) c.if2.true ∙ rw (ne_eqb _ 0 c.before.if1.false))
+    (two_byte_last a.packet.now a.at (search rules) c.if2.true ∙ rw (ne_eqb _ 0 c.before.if1.false))
 
 returns-3 : tie.Need-returns-3
 returns-3 c =
     let a = c.before.before.before.before.before.before.before.args in
     let s = a.packet.now in
     sym
-    (twoByte-at s a.at (search rules)
+    (two_byte_at s a.at (search rules)
     ∙ rw (ne_eqb (get_or s a.at 0) 0 c.before.before.before.before.if1.false)
-    (within-past s (a.at + 2) 2 (get_or s a.at 0) (get_or s (a.at + 1) 0) (omega arith)))
+    (within_past s (a.at + 2) 2 (get_or s a.at 0) (get_or s (a.at + 1) 0) (omega arith)))
 
 returns-4 : tie.Need-returns-4
 returns-4 c =
@@ -36,9 +36,9 @@ returns-4 c =
     let s = a.packet.now in
     ap (λ (n : ℕ). element 2 (get_or s a.at 0) n) c.before.wide.ensures.0
     ∙ sym
-    (twoByte-at s a.at (search rules)
+    (two_byte_at s a.at (search rules)
     ∙ rw (ne_eqb (get_or s a.at 0) 0 c.before.before.before.before.if1.false)
-    (within-packet s (a.at + 2) 2 (get_or s a.at 0) (get_or s (a.at + 1) 0) (omega arith)))
+    (within_packet s (a.at + 2) 2 (get_or s a.at 0) (get_or s (a.at + 1) 0) (omega arith)))
 
 pub two-byte-spec : {M : Type 1} → statement M
 two-byte-spec =

@@ -9,12 +9,12 @@ use lib.ListN.{length, set, length-set}
 use borrow.Author.Rules.{rules}
 use borrow.Author.Tests.{leb-true}
 use Rattle.wire.specs.Part.{splice, Put}
-use Rattle.wire.proofs.Part.{splice-one, splice-push, splice-on}
+use Rattle.wire.proofs.Part.{splice_one, splice_push, splice_on}
 use Rattle.elements.specs.Elements.{Element}
-use Rattle.block.specs.Form.{Form, one_byte, two-byte, other, form_of}
-use Rattle.block_write.specs.Write.{fits, elementOctets}
+use Rattle.block.specs.Form.{Form, one_byte, two_byte, other, form_of}
+use Rattle.block_write.specs.Write.{fits, element_octets}
 use Rattle.block_write.proofs.Octets.{both}
-use Rattle.block.proofs.Form.{form-one, form-two, form-other}
+use Rattle.block.proofs.Form.{form_one, form_two, form_other}
 use Rattle.block_write.proofs.put_element.Statement.{statement}
 use Rattle.block_write.proofs.put_element.Tie as tie
 
@@ -24,14 +24,14 @@ given c = record { id = c.args.id; bytes = c.args.«data».now }
 -- what is asked, with the form that the profile has
 asked : (c : tie.Start) (form : Form) → form_of c.args.profile ≡ form →
     (fits form c.args.id (length c.args.«data».now) ≡ true)
-    × (c.args.at + length (elementOctets form (given c)) ≤ length c.args.buf.now)
+    × (c.args.at + length (element_octets form (given c)) ≤ length c.args.buf.now)
 asked c form e = rw e at c.requires
 
 promised : (c : tie.Start) (form : Form) → form_of c.args.profile ≡ form → {r : ℕ} {exit : List ℕ} →
-    Put c.args.buf.now c.args.at (elementOctets form (given c)) r exit →
-    Put c.args.buf.now c.args.at (elementOctets (form_of c.args.profile) (given c)) r exit
+    Put c.args.buf.now c.args.at (element_octets form (given c)) r exit →
+    Put c.args.buf.now c.args.at (element_octets (form_of c.args.profile) (given c)) r exit
 promised c form e {r} {exit} p =
-    subst (λ (f : Form). Put c.args.buf.now c.args.at (elementOctets f (given c)) r exit) (sym e) p
+    subst (λ (f : Form). Put c.args.buf.now c.args.at (element_octets f (given c)) r exit) (sym e) p
 
 -- what the one_byte form asks
 record Short (c : tie.Start) : Type 0 where
@@ -43,7 +43,7 @@ record Short (c : tie.Start) : Type 0 where
 short : (c : tie.At-match-keys1) → Short c.before.before.before
 short c =
     let start = c.before.before.before in
-    let a = asked start one_byte (form-one c.match.keys1) in
+    let a = asked start one_byte (form_one c.match.keys1) in
     let t = both (leb start.args.id 15) _ a.0 in
     let u = both (leb 1 (length start.args.«data».now)) _ t.1 in
     record {
@@ -57,12 +57,12 @@ long : (c : tie.At-match-keys2) → let a = c.before.before.before.args in
     (length a.«data».now ≤ 255) × (a.at + 2 + length a.«data».now ≤ length a.buf.now)
 long c =
     let start = c.before.before.before in
-    let a = asked start two-byte (form-two c.match.keys2) in
+    let a = asked start two_byte (form_two c.match.keys2) in
     (leb-true _ 255 a.0, omega (arith, a.1))
 
 whole : (c : tie.At-match-rest) → let a = c.before.before.before.args in
     a.at + length a.«data».now ≤ length a.buf.now
-whole c = (asked c.before.before.before other (form-other c.match.rest.0.1 c.match.rest.1)).1
+whole c = (asked c.before.before.before other (form_other c.match.rest.0.1 c.match.rest.1)).1
 
 returns : tie.Need-returns
 returns c =
@@ -71,13 +71,13 @@ returns c =
     let a = start.args in
     let s = short chosen in
     let head : ℕ = a.id * 16 + (length a.«data».now - 1) in
-    promised start one_byte (form-one chosen.match.keys1)
+    promised start one_byte (form_one chosen.match.keys1)
     (record {
       next = omega arith;
       buffer =
           c.before.before.copy_at.ensures
-          ∙ ap (λ (l : List ℕ). splice l (a.at + 1) a.«data».now) (splice-one a.buf.now a.at head (omega arith))
-          ∙ splice-on a.buf.now a.at (head ∷ []) a.«data».now (omega arith);
+          ∙ ap (λ (l : List ℕ). splice l (a.at + 1) a.«data».now) (splice_one a.buf.now a.at head (omega arith))
+          ∙ splice_on a.buf.now a.at (head ∷ []) a.«data».now (omega arith);
     })
 
 returns-2 : tie.Need-returns-2
@@ -87,20 +87,20 @@ returns-2 c =
     let a = start.args in
     let s = long chosen in
     let len : ℕ = length a.«data».now in
-    promised start two-byte (form-two chosen.match.keys2)
+    promised start two_byte (form_two chosen.match.keys2)
     (record {
       next = omega arith;
       buffer =
           c.before.before.copy-at2.ensures
-          ∙ ap (λ (l : List ℕ). splice (set l (a.at + 1) len) (a.at + 2) a.«data».now) (splice-one a.buf.now a.at a.id (omega arith))
-          ∙ ap (λ (l : List ℕ). splice l (a.at + 2) a.«data».now) (splice-push a.buf.now a.at (a.id ∷ []) len (omega arith))
-          ∙ splice-on a.buf.now a.at (a.id ∷ len ∷ []) a.«data».now (omega arith);
+          ∙ ap (λ (l : List ℕ). splice (set l (a.at + 1) len) (a.at + 2) a.«data».now) (splice_one a.buf.now a.at a.id (omega arith))
+          ∙ ap (λ (l : List ℕ). splice l (a.at + 2) a.«data».now) (splice_push a.buf.now a.at (a.id ∷ []) len (omega arith))
+          ∙ splice_on a.buf.now a.at (a.id ∷ len ∷ []) a.«data».now (omega arith);
     })
 
 returns-3 : tie.Need-returns-3
 returns-3 c =
     let chosen = c.before.before.before.before in
-    promised chosen.before.before.before other (form-other chosen.match.rest.0.1 chosen.match.rest.1)
+    promised chosen.before.before.before other (form_other chosen.match.rest.0.1 chosen.match.rest.1)
     (record { next = refl; buffer = c.before.before.copy-at3.ensures })
 
 pub put-element-spec : {M : Type 1} → statement M

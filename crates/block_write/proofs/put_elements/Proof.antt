@@ -7,11 +7,11 @@ use native.Mathlib.Omega.{arith}
 use lib.ListN.{length, take, drop, get_or, length-append}
 use borrow.Author.Rules.{rules}
 use Rattle.wire.specs.Part.{splice}
-use Rattle.wire.proofs.Part.{splice-nothing, splice-on}
-use Rattle.elements.specs.Elements.{Element, sum, elementsIn}
-use Rattle.elements.proofs.Packed.{elementsFrom, elements-next, elements-done, sum-next}
+use Rattle.wire.proofs.Part.{splice_nothing, splice_on}
+use Rattle.elements.specs.Elements.{Element, sum, elements_in}
+use Rattle.elements.proofs.Packed.{elements_from, elements_next, elements_done, sum_next}
 use Rattle.block.specs.Form.{Form, form_of}
-use Rattle.block_write.specs.Write.{writable, allWritable, elementOctets, blockOctets}
+use Rattle.block_write.specs.Write.{writable, all_writable, element_octets, block_octets}
 use Rattle.block_write.proofs.Octets.{both}
 use Rattle.block_write.proofs.put_elements.Statement.{statement}
 use Rattle.block_write.proofs.put_elements.Tie as tie
@@ -20,11 +20,11 @@ abbrev invariant-loop : tie.invariant-loop
 invariant-loop buf₀ start profile count ids lens bytes at₀ used₀ i₀ buf at used i =
     (i ≤ count)
     × (used + sum (drop i (take count lens)) ≤ length bytes)
-    × (allWritable (form_of profile) (elementsFrom i used count ids lens bytes) ≡ true)
-    × (at + length (blockOctets (form_of profile) (elementsFrom i used count ids lens bytes))
-    ≡ start + length (blockOctets (form_of profile) (elementsIn count ids lens bytes)))
-    × (splice buf at (blockOctets (form_of profile) (elementsFrom i used count ids lens bytes))
-    ≡ splice buf₀ start (blockOctets (form_of profile) (elementsIn count ids lens bytes)))
+    × (all_writable (form_of profile) (elements_from i used count ids lens bytes) ≡ true)
+    × (at + length (block_octets (form_of profile) (elements_from i used count ids lens bytes))
+    ≡ start + length (block_octets (form_of profile) (elements_in count ids lens bytes)))
+    × (splice buf at (block_octets (form_of profile) (elements_from i used count ids lens bytes))
+    ≡ splice buf₀ start (block_octets (form_of profile) (elements_in count ids lens bytes)))
     × (length buf ≡ length buf₀)
 
 abbrev decreases-loop : tie.decreases-loop
@@ -46,16 +46,16 @@ first c = record { id = get_or c.before.before.before.before.before.before.args.
 abbrev rest : Turn → List Element
 rest c =
     let a = c.before.before.before.before.before.before.args in
-    elementsFrom (c.before.loop.i + 1) (c.before.loop.used + len c) a.count a.ids.now a.lens.now a.bytes.now
+    elements_from (c.before.loop.i + 1) (c.before.loop.used + len c) a.count a.ids.now a.lens.now a.bytes.now
 
 abbrev form : Turn → Form
 form c = form_of c.before.before.before.before.before.before.args.profile
 
 here : (c : Turn) → let a = c.before.before.before.before.before.before.args in
-    elementsFrom c.before.loop.i c.before.loop.used a.count a.ids.now a.lens.now a.bytes.now ≡ first c ∷ rest c
+    elements_from c.before.loop.i c.before.loop.used a.count a.ids.now a.lens.now a.bytes.now ≡ first c ∷ rest c
 here c =
     let a = c.before.before.before.before.before.before.args in
-    elements-next a.count a.ids.now a.lens.now a.bytes.now c.before.loop.i c.before.loop.used
+    elements_next a.count a.ids.now a.lens.now a.bytes.now c.before.loop.i c.before.loop.used
     (search rules) (search rules) (search rules)
 
 -- the data lie within the record's
@@ -63,27 +63,27 @@ ends : (c : Turn) → let a = c.before.before.before.before.before.before.args i
     c.before.loop.used + len c + sum (drop (c.before.loop.i + 1) (take a.count a.lens.now)) ≤ length a.bytes.now
 ends c =
     let a = c.before.before.before.before.before.before.args in
-    let more = sum-next a.count a.lens.now c.before.loop.i (search rules) (search rules) in
+    let more = sum_next a.count a.lens.now c.before.loop.i (search rules) (search rules) in
     omega arith
 
-written : (c : Turn) → (writable (form c) (first c) ≡ true) × (allWritable (form c) (rest c) ≡ true)
+written : (c : Turn) → (writable (form c) (first c) ≡ true) × (all_writable (form c) (rest c) ≡ true)
 written c =
-    both (writable (form c) (first c)) (allWritable (form c) (rest c))
-    (sym (ap (allWritable (form c)) (here c)) ∙ c.before.loop.invariant.2)
+    both (writable (form c) (first c)) (all_writable (form c) (rest c))
+    (sym (ap (all_writable (form c)) (here c)) ∙ c.before.loop.invariant.2)
 
 place : (c : Turn) → let a = c.before.before.before.before.before.before.args in
-    c.before.loop.at + length (elementOctets (form c) (first c)) + length (blockOctets (form c) (rest c))
-    ≡ a.start + length (blockOctets (form c) (elementsIn a.count a.ids.now a.lens.now a.bytes.now))
+    c.before.loop.at + length (element_octets (form c) (first c)) + length (block_octets (form c) (rest c))
+    ≡ a.start + length (block_octets (form c) (elements_in a.count a.ids.now a.lens.now a.bytes.now))
 place c =
-    let split = ap (λ (l : List Element). length (blockOctets (form c) l)) (here c)
-    ∙ length-append (elementOctets (form c) (first c)) (blockOctets (form c) (rest c)) in
+    let split = ap (λ (l : List Element). length (block_octets (form c) l)) (here c)
+    ∙ length-append (element_octets (form c) (first c)) (block_octets (form c) (rest c)) in
     omega (arith, c.before.loop.invariant.3)
 
-loop-holds : tie.Need-loop-init invariant-loop decreases-loop
-loop-holds c = (search rules, search rules, search rules, refl, refl, refl)
+loop_holds : tie.Need-loop-init invariant-loop decreases-loop
+loop_holds c = (search rules, search rules, search rules, refl, refl, refl)
 
-add-end : tie.Need-overflow-add-end invariant-loop decreases-loop
-add-end c = let e = ends c.before.before in search rules
+add_end : tie.Need-overflow-add-end invariant-loop decreases-loop
+add_end c = let e = ends c.before.before in search rules
 
 part_end : tie.Need-slice-bounds-put-element-end invariant-loop decreases-loop
 part_end c = let e = ends c.before.before.before.before in search rules
@@ -103,13 +103,13 @@ put-element-requires c κs =
     let p = place t in
     rw (lent c) ((written t).0, omega (arith, t.before.loop.invariant.5, t.before.before.before.before.before.before.requires.1.1))
 
-loop-again : tie.Need-loop-preserved invariant-loop decreases-loop
-loop-again c =
+loop_again : tie.Need-loop-preserved invariant-loop decreases-loop
+loop_again c =
     let arg = c.before.before.before in
     let t = arg.before.before.before.before.before in
     let old = t.before.loop in
-    let octets : List ℕ = elementOctets (form t) (first t) in
-    let same = ap (λ (b : List ℕ). elementOctets (form t) (record { id = (first t).id; bytes = b })) (lent arg) in
+    let octets : List ℕ = element_octets (form t) (first t) in
+    let same = ap (λ (b : List ℕ). element_octets (form t) (record { id = (first t).id; bytes = b })) (lent arg) in
     let reached : c.before.before.put-element.result ≡ old.at + length octets =
     c.before.before.put-element.ensures.next ∙ ap (λ (l : List ℕ). old.at + length l) same in
     let buffer : c.before.before.put-element.new.0 ≡ splice old.buf old.at octets =
@@ -120,9 +120,9 @@ loop-again c =
       ends t,
       (written t).1,
       omega arith,
-      ap₂ (λ (l : List ℕ) (k : ℕ). splice l k (blockOctets (form t) (rest t))) buffer reached
-          ∙ splice-on old.buf old.at octets (blockOctets (form t) (rest t)) (omega (arith, old.invariant.5, t.before.before.before.before.before.before.requires.1.1))
-          ∙ sym (ap (λ (l : List Element). splice old.buf old.at (blockOctets (form t) l)) (here t))
+      ap₂ (λ (l : List ℕ) (k : ℕ). splice l k (block_octets (form t) (rest t))) buffer reached
+          ∙ splice_on old.buf old.at octets (block_octets (form t) (rest t)) (omega (arith, old.invariant.5, t.before.before.before.before.before.before.requires.1.1))
+          ∙ sym (ap (λ (l : List Element). splice old.buf old.at (block_octets (form t) l)) (here t))
           ∙ old.invariant.4,
       search rules,
     )
@@ -132,15 +132,15 @@ returns c =
     let a = c.before.before.before.before.before.before.args in
     let old = c.before.loop in
     let all : old.i ≡ a.count = omega arith in
-    let none : elementsFrom old.i old.used a.count a.ids.now a.lens.now a.bytes.now ≡ [] =
-    ap (λ (k : ℕ). elementsFrom k old.used a.count a.ids.now a.lens.now a.bytes.now) all
-    ∙ elements-done a.count old.used a.ids.now a.lens.now a.bytes.now (search rules) in
-    let nothing = ap (blockOctets (form_of a.profile)) none in
+    let none : elements_from old.i old.used a.count a.ids.now a.lens.now a.bytes.now ≡ [] =
+    ap (λ (k : ℕ). elements_from k old.used a.count a.ids.now a.lens.now a.bytes.now) all
+    ∙ elements_done a.count old.used a.ids.now a.lens.now a.bytes.now (search rules) in
+    let nothing = ap (block_octets (form_of a.profile)) none in
     let zero = ap length nothing in
     record {
       next = omega (arith, old.invariant.3);
       buffer =
-          sym (splice-nothing old.buf old.at)
+          sym (splice_nothing old.buf old.at)
           ∙ sym (ap (splice old.buf old.at) nothing)
           ∙ old.invariant.4;
     }
@@ -151,11 +151,11 @@ put-elements-spec =
     (tie.spec
     invariant-loop
     decreases-loop
-    loop-holds
+    loop_holds
     (λ c. search rules)
     (λ c. search rules)
     (λ c κs. search rules)
-    add-end
+    add_end
     (λ c. search rules)
     (λ c. search rules)
     (λ c. search rules)
@@ -163,6 +163,6 @@ put-elements-spec =
     put-element-requires
     (λ c. search rules)
     (λ c. search rules)
-    loop-again
+    loop_again
     (λ c. search rules)
     returns)

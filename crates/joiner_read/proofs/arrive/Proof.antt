@@ -1,4 +1,4 @@
--- Without padding and extensions the fields stand where `arrival-plain` says.
+-- Without padding and extensions the fields stand where `arrival_plain` says.
 use mathlib.Core.Path.{sym, ◌∙◌}
 use mathlib.Core.List.{List}
 use Prim.Native.Nat.{ℕ, ◌-◌}
@@ -6,9 +6,9 @@ use native.Mathlib.Omega.{arith}
 use lib.ListN.{length}
 use borrow.Author.Rules.{rules}
 use Rattle.error.specs.Said.{Said, says}
-use Rattle.header.specs.Read.{fixedLength}
+use Rattle.header.specs.Read.{fixed_length}
 use Rattle.joiner_read.specs.Arrive.{Arrived}
-use Rattle.joiner_read.proofs.Arriving.{arrival-plain}
+use Rattle.joiner_read.proofs.Arriving.{arrival_plain}
 use Rattle.joiner_read.proofs.arrive.Statement.{statement}
 use Rattle.joiner_read.proofs.arrive.Tie as tie
 
@@ -20,8 +20,8 @@ read s source number time count =
       source = source;
       number = number;
       time = time;
-      place = fixedLength count;
-      len = length s.args.packet.now - fixedLength count;
+      place = fixed_length count;
+      len = length s.args.packet.now - fixed_length count;
     })
 
 returns-5 : tie.Need-returns-5
@@ -31,7 +31,7 @@ returns-5 c =
     let start = source.before.before.before.before.before.before.before.before in
     let p : List ℕ = start.args.packet.now in
     (λ i. read start (source.get-u32.ensures i) (c.before.get-u16.ensures i) (c.get-u322.ensures i) (count.ensures.0 i))
-    ∙ sym (arrival-plain p (search rules) (search rules) (omega (arith, count.ensures.0)) (search rules))
+    ∙ sym (arrival_plain p (search rules) (search rules) (omega (arith, count.ensures.0)) (search rules))
 
 pub arrive-spec : {M : Type 1} → statement M
 arrive-spec =

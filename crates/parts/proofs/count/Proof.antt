@@ -56,30 +56,30 @@ turn len size step taken left s more d =
 one_more : (n k : ℕ) → (n + 1) * k ≡ n * k + k
 one_more n k = add-mul n 1 k ∙ ap (λ (m : ℕ). n * k + m) (one-mul k)
 
-loop-holds : tie.Need-loop-init invariant-loop decreases-loop invariant-loop2 decreases-loop2
-loop-holds c = (record { times = 0; is = sym (mul-one _) }, search rules, search rules)
+loop_holds : tie.Need-loop-init invariant-loop decreases-loop invariant-loop2 decreases-loop2
+loop_holds c = (record { times = 0; is = sym (mul-one _) }, search rules, search rules)
 
-loop-again : tie.Need-loop-preserved invariant-loop decreases-loop invariant-loop2 decreases-loop2
-loop-again c =
+loop_again : tie.Need-loop-preserved invariant-loop decreases-loop invariant-loop2 decreases-loop2
+loop_again c =
     let s = c.before.loop.invariant.0 in
     (record { times = suc s.times; is = ap (λ (k : ℕ). 2 * k) s.is ∙ sym (doubled _ s.times) }, search rules, search rules)
 
-loop2-holds : tie.Need-loop2-init invariant-loop decreases-loop invariant-loop2 decreases-loop2
-loop2-holds c = (c.before.loop.invariant.0, record { whole = search rules; some = search rules; most = search rules })
+loop2_holds : tie.Need-loop2-init invariant-loop decreases-loop invariant-loop2 decreases-loop2
+loop2_holds c = (c.before.loop.invariant.0, record { whole = search rules; some = search rules; most = search rules })
 
 -- in the second loop
 small : (c : tie.At-loop2 invariant-loop decreases-loop invariant-loop2 decreases-loop2) → c.loop2.taken < c.before.before.before.args.len
 small c = omega (arith, le-mul_of_pos_right {m = c.loop2.step} c.loop2.taken (search rules), c.loop2.invariant.1.whole)
 
-loop2-again : tie.Need-loop2-preserved invariant-loop decreases-loop invariant-loop2 decreases-loop2
-loop2-again c =
+loop2_again : tie.Need-loop2-preserved invariant-loop decreases-loop invariant-loop2 decreases-loop2
+loop2_again c =
     let at = c.before.before.loop2 in
     let t = turn _ _ at.step at.taken at.left at.invariant.0 (omega (arith, c.before.loop2-test.true)) at.invariant.1 in
     let one = one_more (2 * at.taken) (at.step / 2) in
     (t.0, record { whole = omega (arith, t.1); some = search rules; most = omega (arith, t.2) })
 
-loop2-again-2 : tie.Need-loop2-preserved-2 invariant-loop decreases-loop invariant-loop2 decreases-loop2
-loop2-again-2 c =
+loop2_again_2 : tie.Need-loop2-preserved-2 invariant-loop decreases-loop invariant-loop2 decreases-loop2
+loop2_again_2 c =
     let at = c.before.before.loop2 in
     let t = turn _ _ at.step at.taken at.left at.invariant.0 (omega (arith, c.before.loop2-test.true)) at.invariant.1 in
     (t.0, record { whole = t.1; some = at.invariant.1.some; most = search rules })
@@ -104,17 +104,17 @@ count_spec =
     decreases-loop
     invariant-loop2
     decreases-loop2
-    loop-holds
+    loop_holds
     (λ c. search rules)
     (λ c. search rules)
-    loop-again
-    loop2-holds
+    loop_again
+    loop2_holds
     (λ c. let s = small c.before in search rules)
     (λ c. search rules)
     (λ c. let s = small c.before.before in search rules)
     (λ c. search rules)
-    loop2-again
+    loop2_again
     (λ c. search rules)
-    loop2-again-2
+    loop2_again_2
     (λ c. let s = small c.before in search rules)
     returns)

@@ -1,7 +1,7 @@
 -- Each turn takes one access unit. The window stays within the buffer, by the contract of the step.
 use Rattle.std.proofs.Common.{arith, rules}
 use Rattle.stream.specs.Window.{Within}
-use Rattle.stream.proofs.Steps.{new-inside}
+use Rattle.stream.proofs.Steps.{new_inside}
 use Rattle.send.proofs.play.Statement.{statement}
 use Rattle.send.proofs.play.Tie as tie
 
@@ -11,14 +11,14 @@ invariant-loop buf₀ out₀ ends₀ w₀ sending₀ turns₀ buf out ends w sen
 abbrev decreases-loop : tie.decreases-loop
 decreases-loop buf₀ out₀ ends₀ w₀ sending₀ turns₀ buf out ends w sending turns = turns
 
-loop-holds : tie.Need-loop-init invariant-loop decreases-loop
-loop-holds c = new-inside _ _ c.new.ensures
+loop_holds : tie.Need-loop-init invariant-loop decreases-loop
+loop_holds c = new_inside _ _ c.new.ensures
 
-sub-turns : tie.Need-overflow-sub-turns invariant-loop decreases-loop
-sub-turns c = omega (arith, c.before.is-over.ensures.1 c.if1.false)
+sub_turns : tie.Need-overflow-sub-turns invariant-loop decreases-loop
+sub_turns c = omega (arith, c.before.is_over.ensures.1 c.if1.false)
 
-loop-less : tie.Need-loop-smaller invariant-loop decreases-loop
-loop-less c = omega (arith, c.before.before.before.before.before.before.before.before.before.before.before.before.before.before.is-over.ensures.1 c.before.before.before.before.before.before.before.before.before.before.before.before.before.if1.false)
+loop_less : tie.Need-loop-smaller invariant-loop decreases-loop
+loop_less c = omega (arith, c.before.before.before.before.before.before.before.before.before.before.before.before.before.before.is_over.ensures.1 c.before.before.before.before.before.before.before.before.before.before.before.before.before.if1.false)
 
 pub play-spec : {M : Type 1} → statement M
 play-spec =
@@ -27,16 +27,16 @@ play-spec =
     invariant-loop
     decreases-loop
     (λ c κs. search rules)
-    loop-holds
+    loop_holds
     (λ c κs. search rules)
-    sub-turns
+    sub_turns
     (λ c κs. search rules)
     (λ c. search rules)
     (λ c κs. search rules)
     (λ c κs. search rules)
     (λ c κs. search rules)
     (λ c κs. search rules)
-    loop-less
+    loop_less
     (λ c. search rules)
     (λ c. search rules)
     (λ c. search rules))

@@ -1,7 +1,7 @@
 -- Each turn takes one packet. The window stays within the buffer, by the contract of the step.
 use Rattle.std.proofs.Common.{arith, rules}
 use Rattle.stream.specs.Window.{Within}
-use Rattle.stream.proofs.Steps.{new-inside}
+use Rattle.stream.proofs.Steps.{new_inside}
 use Rattle.show.proofs.show.Statement.{statement}
 use Rattle.show.proofs.show.Tie as tie
 
@@ -11,14 +11,14 @@ invariant-loop fd vp8 buf₀ w₀ above₀ status₀ turns₀ buf w above status
 abbrev decreases-loop : tie.decreases-loop
 decreases-loop fd vp8 buf₀ w₀ above₀ status₀ turns₀ buf w above status turns = turns
 
-loop-holds : tie.Need-loop-init invariant-loop decreases-loop
-loop-holds c = new-inside _ _ c.before.new.ensures
+loop_holds : tie.Need-loop-init invariant-loop decreases-loop
+loop_holds c = new_inside _ _ c.before.new.ensures
 
-sub-turns : tie.Need-overflow-sub-turns invariant-loop decreases-loop
-sub-turns c = omega (arith, c.before.before.before.before.before.before.is-over.ensures.1 c.before.before.before.before.before.if1.false)
+sub_turns : tie.Need-overflow-sub-turns invariant-loop decreases-loop
+sub_turns c = omega (arith, c.before.before.before.before.before.before.is_over.ensures.1 c.before.before.before.before.before.if1.false)
 
-loop-less : tie.Need-loop-smaller invariant-loop decreases-loop
-loop-less c = omega (arith, c.before.before.before.before.before.before.before.before.before.before.before.before.before.is-over.ensures.1 c.before.before.before.before.before.before.before.before.before.before.before.before.if1.false)
+loop_less : tie.Need-loop-smaller invariant-loop decreases-loop
+loop_less c = omega (arith, c.before.before.before.before.before.before.before.before.before.before.before.before.before.is_over.ensures.1 c.before.before.before.before.before.before.before.before.before.before.before.before.if1.false)
 
 pub show-spec : {M : Type 1} → statement M
 show-spec =
@@ -28,16 +28,16 @@ show-spec =
     decreases-loop
     (λ c κs. search rules)
     (λ c κs. search rules)
-    loop-holds
+    loop_holds
     (λ c κs. search rules)
     (λ c κs. search rules)
     (λ c. search rules)
     (λ c κs. search rules)
-    sub-turns
+    sub_turns
     (λ c κs. search rules)
     (λ c κs. search rules)
     (λ c κs. search rules)
-    loop-less
+    loop_less
     (λ c. search rules)
     (λ c. search rules)
     (λ c. search rules))

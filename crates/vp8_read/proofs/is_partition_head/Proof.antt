@@ -9,24 +9,24 @@ use lib.ListN.{length, get_or}
 use borrow.Author.Rules.{rules}
 use borrow.Author.Tests.{lt-ltb, le-ltb}
 use Rattle.error.specs.Said.{says}
-use Rattle.vp8_read.specs.Partition.{startBit, partitionHead}
+use Rattle.vp8_read.specs.Partition.{start_bit, partition_head}
 use Rattle.vp8_read.proofs.is_partition_head.Statement.{statement}
 use Rattle.vp8_read.proofs.is_partition_head.Tie as tie
 
-within : (s : List ℕ) → length s ≤ 65535 → partitionHead s ≡ says (startBit s)
-unfolding partitionHead
+within : (s : List ℕ) → length s ≤ 65535 → partition_head s ≡ says (start_bit s)
+unfolding partition_head
 within s h = rw (le-ltb 65535 (length s) h)
 
-empty : (s : List ℕ) → length s ≡ 0 → startBit s ≡ false
+empty : (s : List ℕ) → length s ≡ 0 → start_bit s ≡ false
 empty [] h = refl
 empty (b ∷ s) h = absurd (omega arith)
 
-first : (s : List ℕ) → (length s ≡ 0 → ⊥) → startBit s ≡ eqb (get_or s 0 0 / 16 % 2) 1
+first : (s : List ℕ) → (length s ≡ 0 → ⊥) → start_bit s ≡ eqb (get_or s 0 0 / 16 % 2) 1
 first [] h = absurd (h refl)
 first (b ∷ s) h = refl
 
 returns : tie.Need-returns
-unfolding partitionHead
+unfolding partition_head
 returns c = sym (rw (lt-ltb 65535 (length c.before.args.payload.now) c.if1.true))
 
 returns-2 : tie.Need-returns-2

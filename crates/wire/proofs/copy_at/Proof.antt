@@ -1,4 +1,4 @@
--- After i turns the first i bytes of the source stand at the place: `splice-more` is one turn.
+-- After i turns the first i bytes of the source stand at the place: `splice_more` is one turn.
 use mathlib.Core.Path.{◌≡◌, sym, ap, ◌∙◌}
 use mathlib.Core.List.{List}
 use Prim.Native.Nat.{ℕ, ◌+◌, ◌-◌, ◌≤◌}
@@ -7,7 +7,7 @@ use lib.ListN.{length, take, get_or, set, length-set}
 use lib.Seq.{take-length}
 use borrow.Author.Rules.{rules}
 use Rattle.wire.specs.Part.{splice}
-use Rattle.wire.proofs.Part.{splice-nothing, splice-more}
+use Rattle.wire.proofs.Part.{splice_nothing, splice_more}
 use Rattle.wire.proofs.copy_at.Statement.{statement}
 use Rattle.wire.proofs.copy_at.Tie as tie
 
@@ -17,18 +17,18 @@ invariant-loop src dst₀ at i₀ dst i = (i ≤ length src) × (dst ≡ splice 
 abbrev decreases-loop : tie.decreases-loop
 decreases-loop src dst₀ at i₀ dst i = length src - i
 
-loop-holds : tie.Need-loop-init invariant-loop decreases-loop
-loop-holds c = (search rules, sym (splice-nothing _ _), search rules)
+loop_holds : tie.Need-loop-init invariant-loop decreases-loop
+loop_holds c = (search rules, sym (splice_nothing _ _), search rules)
 
-loop-again : tie.Need-loop-preserved invariant-loop decreases-loop
-loop-again c =
+loop_again : tie.Need-loop-preserved invariant-loop decreases-loop
+loop_again c =
     let start = c.before.before.before.args in
     let at_head = c.before.before.loop in
     let src = start.src.now in
     let i = at_head.i in (
       search rules,
       ap (λ (l : List ℕ). set l (start.at + i) (get_or src i 0)) at_head.invariant.1
-          ∙ splice-more start.dst.now start.at src i 0 (search rules) (search rules),
+          ∙ splice_more start.dst.now start.at src i 0 (search rules) (search rules),
       simp length-set (search rules),
     )
 
@@ -47,12 +47,12 @@ copy-at-spec =
     (tie.spec
     invariant-loop
     decreases-loop
-    loop-holds
+    loop_holds
     (λ c. search rules)
     (λ c. search rules)
     (λ c. search rules)
     (λ c. search rules)
     (λ c. search rules)
-    loop-again
+    loop_again
     (λ c. search rules)
     returns)

@@ -1,4 +1,4 @@
--- After i turns i bytes stand at the place: a turn is `splice-same`.
+-- After i turns i bytes stand at the place: a turn is `splice_same`.
 use mathlib.Core.Path.{◌≡◌, sym, ap, ◌∙◌}
 use mathlib.Core.List.{List}
 use Prim.Native.Nat.{ℕ, ◌+◌, ◌-◌, ◌≤◌}
@@ -6,7 +6,7 @@ use native.Mathlib.Omega.{arith}
 use lib.ListN.{length, replicate, set, length-set}
 use borrow.Author.Rules.{rules}
 use Rattle.wire.specs.Part.{splice}
-use Rattle.wire.proofs.Part.{splice-nothing, splice-same}
+use Rattle.wire.proofs.Part.{splice_nothing, splice_same}
 use Rattle.wire.proofs.fill_at.Statement.{statement}
 use Rattle.wire.proofs.fill_at.Tie as tie
 
@@ -16,17 +16,17 @@ invariant-loop dst₀ at len b i₀ dst i = (i ≤ len) × (dst ≡ splice dst�
 abbrev decreases-loop : tie.decreases-loop
 decreases-loop dst₀ at len b i₀ dst i = len - i
 
-loop-holds : tie.Need-loop-init invariant-loop decreases-loop
-loop-holds c = (search rules, sym (splice-nothing _ _), search rules)
+loop_holds : tie.Need-loop-init invariant-loop decreases-loop
+loop_holds c = (search rules, sym (splice_nothing _ _), search rules)
 
-loop-again : tie.Need-loop-preserved invariant-loop decreases-loop
-loop-again c =
+loop_again : tie.Need-loop-preserved invariant-loop decreases-loop
+loop_again c =
     let start = c.before.before.args in
     let at_head = c.before.loop in
     let i = at_head.i in (
       search rules,
       ap (λ (l : List ℕ). set l (start.at + i) start.b) at_head.invariant.1
-          ∙ splice-same start.dst.now start.at i start.b (search rules),
+          ∙ splice_same start.dst.now start.at i start.b (search rules),
       simp length-set (search rules),
     )
 
@@ -43,11 +43,11 @@ fill-at-spec =
     (tie.spec
     invariant-loop
     decreases-loop
-    loop-holds
+    loop_holds
     (λ c. search rules)
     (λ c. search rules)
     (λ c. search rules)
     (λ c. search rules)
-    loop-again
+    loop_again
     (λ c. search rules)
     returns)

@@ -1,28 +1,28 @@
--- As for two bytes, by `be32-of-u32` and `u32-of-be32`.
+-- As for two bytes, by `be32_of_u32` and `u32_of_be32`.
 use mathlib.Core.Path.{◌≡◌, sym, ap, ◌∙◌}
 use mathlib.Core.List.{List, [], ◌∷◌, ◌++◌, reverse}
 use Prim.Native.Nat.{ℕ, ◌+◌, ◌*◌}
 use borrow.Author.Rules.{rules}
 use Rattle.wire.specs.Net.{u32_at, be32}
-use Rattle.wire.proofs.Net.{u32-of-be32, be32-of-u32}
+use Rattle.wire.proofs.Net.{u32_of_be32, be32_of_u32}
 use Rattle.wire.proofs.get_u32.Statement.{statement}
 use Rattle.wire.proofs.get_u32.Tie as tie
 
 returns : tie.Need-returns
 unfolding u32_at
 returns c =
-    let to-second = c.before.before.before in
-    let to-third = to-second.before.before in
+    let to_second = c.before.before.before in
+    let to_third = to_second.before.before in
     let first = c.before.octet324 in
-    let second = to-second.octet323 in
-    let third = to-third.octet322 in
-    let fourth = to-third.before.before.octet32 in
+    let second = to_second.octet323 in
+    let third = to_third.octet322 in
+    let fourth = to_third.before.before.octet32 in
     let turned : be32 c.turned32.result ≡ first.result ∷ second.result ∷ third.result ∷ fourth.result ∷ [] =
     c.turned32.ensures
     ∙ ap reverse
-    (be32-of-u32 fourth.result third.result second.result first.result
+    (be32_of_u32 fourth.result third.result second.result first.result
     fourth.ensures.1 third.ensures.1 second.ensures.1 first.ensures.1) in
-    sym (u32-of-be32 c.turned32.result [] (search rules))
+    sym (u32_of_be32 c.turned32.result [] (search rules))
     ∙ ap (λ (l : List ℕ). u32_at (l ++ []) 0) turned
     ∙ (λ i. first.ensures.0 i * 16777216 + second.ensures.0 i * 65536 + third.ensures.0 i * 256 + fourth.ensures.0 i)
 

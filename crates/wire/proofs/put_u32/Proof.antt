@@ -7,7 +7,7 @@ use lib.ListN.{set, length-set}
 use borrow.Author.Rules.{rules}
 use Rattle.wire.specs.Net.{be32}
 use Rattle.wire.specs.Part.{splice}
-use Rattle.wire.proofs.Part.{splice-one, splice-push}
+use Rattle.wire.proofs.Part.{splice_one, splice_push}
 use Rattle.wire.proofs.put_u32.Statement.{statement}
 use Rattle.wire.proofs.put_u32.Tie as tie
 
@@ -21,10 +21,10 @@ returns c =
     let b : ℕ = r / 256 % 256 in
     let d : ℕ = r / 256 / 256 % 256 in
     let e : ℕ = r / 256 / 256 / 256 % 256 in
-    ap (λ (l : List ℕ). set (set (set l (at + 1) b) (at + 2) d) (at + 3) e) (splice-one s at a (search rules))
-    ∙ ap (λ (l : List ℕ). set (set l (at + 2) d) (at + 3) e) (splice-push s at (a ∷ []) b (search rules))
-    ∙ ap (λ (l : List ℕ). set l (at + 3) e) (splice-push s at (a ∷ b ∷ []) d (search rules))
-    ∙ splice-push s at (a ∷ b ∷ d ∷ []) e (search rules)
+    ap (λ (l : List ℕ). set (set (set l (at + 1) b) (at + 2) d) (at + 3) e) (splice_one s at a (search rules))
+    ∙ ap (λ (l : List ℕ). set (set l (at + 2) d) (at + 3) e) (splice_push s at (a ∷ []) b (search rules))
+    ∙ ap (λ (l : List ℕ). set l (at + 3) e) (splice_push s at (a ∷ b ∷ []) d (search rules))
+    ∙ splice_push s at (a ∷ b ∷ d ∷ []) e (search rules)
     ∙ ap (λ (l : List ℕ). splice s at (reverse l)) c.turned32.ensures
 
 pub put-u32-spec : {M : Type 1} → statement M

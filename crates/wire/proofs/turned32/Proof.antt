@@ -1,9 +1,9 @@
--- As for two octets: they are the number's, the lowest first, by `be32-of-u32`.
+-- As for two octets: they are the number's, the lowest first, by `be32_of_u32`.
 use Prim.Native.Nat.{◌/◌, ◌%◌}
 use native.Mathlib.Omega.{arith}
 use borrow.Author.Rules.{rules}
 use Rattle.wire.specs.Net.{be32}
-use Rattle.wire.proofs.Net.{be32-of-u32}
+use Rattle.wire.proofs.Net.{be32_of_u32}
 use Rattle.wire.proofs.turned32.Statement.{statement}
 use Rattle.wire.proofs.turned32.Tie as tie
 
@@ -11,7 +11,7 @@ returns : tie.Need-returns
 unfolding be32
 returns c =
     let n = c.args.n in
-    be32-of-u32 (n % 256) (n / 256 % 256) (n / 256 / 256 % 256) (n / 256 / 256 / 256 % 256)
+    be32_of_u32 (n % 256) (n / 256 % 256) (n / 256 / 256 % 256) (n / 256 / 256 / 256 % 256)
     (omega arith) (omega arith) (omega arith) (omega arith)
 
 pub turned32-spec : {M : Type 1} → statement M

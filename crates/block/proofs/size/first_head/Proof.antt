@@ -1,4 +1,4 @@
--- The tests are those of `firstHead`.
+-- The tests are those of `first_head`.
 use mathlib.Core.Path.{sym}
 use borrow.Author.Rules.{rules}
 use borrow.Author.Tests.{le-leb, lt-leb}

@@ -1,4 +1,4 @@
--- The tests are those of `firstProfile`.
+-- The tests are those of `first_profile`.
 use mathlib.Core.Path.{sym}
 use borrow.Author.Rules.{rules}
 use borrow.Author.Tests.{le-leb, lt-leb}

@@ -7,7 +7,7 @@ use lib.ListN.{length, take, drop, get_or, set, length-set}
 use lib.Seq.{take-take}
 use borrow.Author.Rules.{rules}
 use Rattle.wire.specs.Part.{splice, part}
-use Rattle.wire.proofs.Part.{splice-nothing, splice-part, length_part}
+use Rattle.wire.proofs.Part.{splice_nothing, splice_part, length_part}
 use Rattle.elements.specs.Runs.{kept}
 use Rattle.elements.proofs.Extensions.keep.Statement.{statement}
 use Rattle.elements.proofs.Extensions.keep.Tie as tie
@@ -20,10 +20,10 @@ module _ (xs zs : List ℕ) (at : ℕ) (ys : List ℕ) (from n i : ℕ) (so_far 
   one_more : at + n ≤ length xs → from + n ≤ length ys → i < n →
       set zs (at + i) (get_or ys (from + i) 0) ≡ splice xs at (take (i + 1) (part ys from n))
   one_more fits within h =
-      ap (λ (l : List ℕ). set l (at + i) (get_or ys (from + i) 0)) so_far ∙ splice-part xs at ys from n i 0 fits within h
+      ap (λ (l : List ℕ). set l (at + i) (get_or ys (from + i) 0)) so_far ∙ splice_part xs at ys from n i 0 fits within h
 
-  all-copied : i ≡ n → zs ≡ splice xs at (part ys from n)
-  all-copied e =
+  all_copied : i ≡ n → zs ≡ splice xs at (part ys from n)
+  all_copied e =
       so_far
       ∙ ap (λ (k : ℕ). splice xs at (take k (part ys from n))) e
       ∙ ap (splice xs at) (take-take n n (drop from ys) (omega arith))
@@ -39,11 +39,11 @@ invariant-loop used old-ids old-lens old-bytes first more at end count ids₀ le
 abbrev decreases-loop : tie.decreases-loop
 decreases-loop used old-ids old-lens old-bytes first more at end count ids₀ lens₀ bytes i₀ ids lens i = more - i
 
-loop-holds : tie.Need-loop-init invariant-loop decreases-loop
-loop-holds c = (search rules, sym (splice-nothing _ _), sym (splice-nothing _ _), search rules, search rules)
+loop_holds : tie.Need-loop-init invariant-loop decreases-loop
+loop_holds c = (search rules, sym (splice_nothing _ _), sym (splice_nothing _ _), search rules, search rules)
 
-loop-again : tie.Need-loop-preserved invariant-loop decreases-loop
-loop-again c =
+loop_again : tie.Need-loop-preserved invariant-loop decreases-loop
+loop_again c =
     let a = c.before.before.before.before.before.before.before.before.before.args in
     let head = c.before.loop in
     let fits : (xs : List ℕ) → length xs ≡ 32 → a.self.count + a.run.count ≤ length xs = λ xs e. search rules in
@@ -57,8 +57,8 @@ loop-again c =
       simp length-set (search rules),
     )
 
-part-copy-at-end : tie.Need-slice-bounds-copy-at-end invariant-loop decreases-loop
-part-copy-at-end c =
+part_copy_at_end : tie.Need-slice-bounds-copy-at-end invariant-loop decreases-loop
+part_copy_at_end c =
     let start = c.before.before.before.before.before.before.before.before.before.before in
     let wide : length start.args.old.bytes ≡ 1024 = search rules in
     omega (arith, start.requires)
@@ -69,7 +69,7 @@ copy-at-requires c κs =
     let run = start.args.run in
     let wide : length start.args.self.bytes ≡ 1024 = search rules in
     let old : length start.args.old.bytes ≡ 1024 = search rules in
-    let part-wide : length (part start.args.old.bytes run.at run.len) ≡ run.len =
+    let part_wide : length (part start.args.old.bytes run.at run.len) ≡ run.len =
     length_part start.args.old.bytes run.at run.len (omega (arith, start.requires)) in
     rw (same_length run.at run.len) (omega (arith, start.requires))
 
@@ -82,8 +82,8 @@ returns c =
     λ i.
     record {
       count = a.self.count + a.run.count;
-      ids = all-copied _ _ a.self.count _ a.run.first a.run.count head.i head.invariant.1 all i;
-      lens = all-copied _ _ a.self.count _ a.run.first a.run.count head.i head.invariant.2 all i;
+      ids = all_copied _ _ a.self.count _ a.run.first a.run.count head.i head.invariant.1 all i;
+      lens = all_copied _ _ a.self.count _ a.run.first a.run.count head.i head.invariant.2 all i;
       bytes = (c.before.copy_at.ensures
           ∙ ap (λ (n : ℕ). splice a.self.bytes a.used (part a.old.bytes a.run.at n))
           (same_length a.run.at a.run.len)) i;
@@ -96,7 +96,7 @@ keep_spec =
     invariant-loop
     decreases-loop
     (λ c. search rules)
-    loop-holds
+    loop_holds
     (λ c. search rules)
     (λ c. search rules)
     (λ c. search rules)
@@ -109,10 +109,10 @@ keep_spec =
     (λ c. search rules)
     (λ c. search rules)
     (λ c. search rules)
-    loop-again
+    loop_again
     (λ c. search rules)
     (λ c. search rules)
-    part-copy-at-end
+    part_copy_at_end
     (λ c. search rules)
     copy-at-requires
     (λ c. search rules)

@@ -6,7 +6,7 @@ use lib.ListN.{drop, get_or}
 use borrow.Author.Rules.{rules}
 use Rattle.elements.specs.Elements.{Element}
 use Rattle.elements.specs.Runs.{Shown, run_of}
-use Rattle.elements.proofs.Runs.{run-here, run_on, run_none}
+use Rattle.elements.proofs.Runs.{run_here, run_on, run_none}
 use Rattle.elements.proofs.change.find.Statement.{statement}
 use Rattle.elements.proofs.change.find.Tie as tie
 
@@ -19,8 +19,8 @@ invariant-loop id count ids lens at₀ i₀ at i =
 abbrev decreases-loop : tie.decreases-loop
 decreases-loop id count ids lens at₀ i₀ at i = count - i
 
-loop-holds : tie.Need-loop-init invariant-loop decreases-loop
-loop-holds c = (search rules, search rules, λ es s. refl)
+loop_holds : tie.Need-loop-init invariant-loop decreases-loop
+loop_holds c = (search rules, search rules, λ es s. refl)
 
 returns : tie.Need-returns invariant-loop decreases-loop
 returns c es s =
@@ -28,11 +28,11 @@ returns c es s =
     let head = c.before.before.before.before.before.loop in
     let len : get_or a.lens.now head.i 0 ≡ c.before.before.wide16.result = search rules in
     ap (λ (n : ℕ). record { first = head.i; count = 1; at = head.at; len = n }) (sym len)
-    ∙ sym (run-here a.id head.i head.at a.count a.ids.now a.lens.now es s (search rules) c.if1.true)
+    ∙ sym (run_here a.id head.i head.at a.count a.ids.now a.lens.now es s (search rules) c.if1.true)
     ∙ head.invariant.2 es s
 
-loop-again : tie.Need-loop-preserved invariant-loop decreases-loop
-loop-again c = (
+loop_again : tie.Need-loop-preserved invariant-loop decreases-loop
+loop_again c = (
   search rules,
   search rules,
   λ es s.
@@ -56,7 +56,7 @@ find_spec =
     (tie.spec
     invariant-loop
     decreases-loop
-    loop-holds
+    loop_holds
     (λ c. search rules)
     (λ c. search rules)
     (λ c κs. search rules)
@@ -65,5 +65,5 @@ find_spec =
     (λ c. search rules)
     (λ c. search rules)
     (λ c. search rules)
-    loop-again
+    loop_again
     returns-2)

@@ -15,11 +15,11 @@ invariant-loop count lens n₀ i₀ n i = (i ≤ count) × (n ≡ sum (take i le
 abbrev decreases-loop : tie.decreases-loop
 decreases-loop count lens n₀ i₀ n i = count - i
 
-loop-holds : tie.Need-loop-init invariant-loop decreases-loop
-loop-holds c = (search rules, refl, search rules)
+loop_holds : tie.Need-loop-init invariant-loop decreases-loop
+loop_holds c = (search rules, refl, search rules)
 
-loop-again : tie.Need-loop-preserved invariant-loop decreases-loop
-loop-again c =
+loop_again : tie.Need-loop-preserved invariant-loop decreases-loop
+loop_again c =
     let lens = c.before.before.before.before.args.lens.now in
     let i = c.before.before.before.loop.i in
     let more : sum (take (i + 1) lens) ≡ sum (take i lens) + get_or lens i 0 = sum_more lens i in
@@ -36,12 +36,12 @@ total-spec =
     (tie.spec
     invariant-loop
     decreases-loop
-    loop-holds
+    loop_holds
     (λ c. search rules)
     (λ c. search rules)
     (λ c κs. search rules)
     (λ c. search rules)
     (λ c. search rules)
     (λ c. search rules)
-    loop-again
+    loop_again
     returns)

@@ -3,15 +3,15 @@ use mathlib.Core.Path.{sym, ap, ◌∙◌}
 use borrow.Author.Rules.{rules}
 use Rattle.header.specs.declared.Header.{Header}
 use Rattle.header.specs.declared.Change.{Change}
-use Rattle.header.specs.Said.{saidChange}
+use Rattle.header.specs.Said.{said_change}
 use Rattle.gateway.specs.declared.refused.Refused.{Refused}
 use Rattle.gateway.specs.declared.rtp_extension.RtpHeaderChanged.{RtpHeaderChanged}
-use Rattle.gateway.specs.HeaderAnswers.{headerChangedAs}
+use Rattle.gateway.specs.HeaderAnswers.{header_changed_as}
 use Rattle.gateway.proofs.rtp_extension.changed.Statement.{statement}
 use Rattle.gateway.proofs.rtp_extension.changed.Tie as tie
 
 abbrev laid : Header → Change → RtpHeaderChanged
-laid h change = headerChangedAs (record { answer = saidChange change; header = h })
+laid h change = header_changed_as (record { answer = said_change change; header = h })
 
 returns : tie.Need-returns
 returns c =

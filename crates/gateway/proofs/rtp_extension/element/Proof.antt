@@ -3,15 +3,15 @@ use mathlib.Core.Path.{sym, ap, ◌∙◌}
 use mathlib.Core.Bool.{true, false}
 use borrow.Author.Rules.{rules}
 use Rattle.header.specs.declared.Got.{Got}
-use Rattle.header.specs.Said.{saidGot}
+use Rattle.header.specs.Said.{said_got}
 use Rattle.gateway.specs.declared.refused.Refused.{Refused}
 use Rattle.gateway.specs.declared.rtp_extension.RtpElement.{RtpElement}
-use Rattle.gateway.specs.HeaderAnswers.{elementAs}
+use Rattle.gateway.specs.HeaderAnswers.{element_as}
 use Rattle.gateway.proofs.rtp_extension.element.Statement.{statement}
 use Rattle.gateway.proofs.rtp_extension.element.Tie as tie
 
 abbrev laid : Got → RtpElement
-laid answer = elementAs (saidGot answer)
+laid answer = element_as (said_got answer)
 
 returns : tie.Need-returns
 returns c =

@@ -4,15 +4,15 @@ use mathlib.Core.List.{List}
 use Prim.Native.Nat.{ℕ}
 use borrow.Author.Rules.{rules}
 use Rattle.header.specs.declared.IdCount.{IdCount}
-use Rattle.header.specs.Said.{saidCount}
+use Rattle.header.specs.Said.{said_count}
 use Rattle.gateway.specs.declared.refused.Refused.{Refused}
 use Rattle.gateway.specs.declared.rtp_extension.RtpIds.{RtpIds}
-use Rattle.gateway.specs.HeaderAnswers.{idsAs}
+use Rattle.gateway.specs.HeaderAnswers.{ids_as}
 use Rattle.gateway.proofs.rtp_extension.listed.Statement.{statement}
 use Rattle.gateway.proofs.rtp_extension.listed.Tie as tie
 
 abbrev laid : List ℕ → IdCount → RtpIds
-laid ids count = idsAs (record { answer = saidCount count; ids = ids })
+laid ids count = ids_as (record { answer = said_count count; ids = ids })
 
 returns : tie.Need-returns
 returns c =

@@ -1,13 +1,13 @@
 -- The answer of the call, laid out.
 use mathlib.Core.Path.{ap, ◌∙◌}
 use borrow.Author.Rules.{rules}
-use Rattle.gateway.specs.HeaderAnswers.{headerChangedAs}
+use Rattle.gateway.specs.HeaderAnswers.{header_changed_as}
 use Rattle.gateway.proofs.rtp_extension.rtp_header_del_extension.Statement.{statement}
 use Rattle.gateway.proofs.rtp_extension.rtp_header_del_extension.Tie as tie
 
 returns : tie.Need-returns
 returns c =
-    c.changed.ensures ∙ ap headerChangedAs c.before.del-extension.ensures
+    c.changed.ensures ∙ ap header_changed_as c.before.del-extension.ensures
 
 pub rtp-header-del-extension-spec : {M : Type 1} → statement M
 rtp-header-del-extension-spec =

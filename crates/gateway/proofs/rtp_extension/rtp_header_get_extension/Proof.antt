@@ -1,13 +1,13 @@
 -- The answer of the call, laid out.
 use mathlib.Core.Path.{ap, ◌∙◌}
 use borrow.Author.Rules.{rules}
-use Rattle.gateway.specs.HeaderAnswers.{elementAs}
+use Rattle.gateway.specs.HeaderAnswers.{element_as}
 use Rattle.gateway.proofs.rtp_extension.rtp_header_get_extension.Statement.{statement}
 use Rattle.gateway.proofs.rtp_extension.rtp_header_get_extension.Tie as tie
 
 returns : tie.Need-returns
 returns c =
-    c.element.ensures ∙ ap elementAs c.before.get-extension.ensures
+    c.element.ensures ∙ ap element_as c.before.get-extension.ensures
 
 pub rtp-header-get-extension-spec : {M : Type 1} → statement M
 rtp-header-get-extension-spec =

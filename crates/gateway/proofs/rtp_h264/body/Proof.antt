@@ -3,12 +3,12 @@ use mathlib.Core.Path.{ap}
 use native.Mathlib.Omega.{arith}
 use borrow.Author.Rules.{rules}
 use borrow.Author.Tests.{ne_eqb, le-ltb}
-use Rattle.h264_packet.specs.Said.{saidShown}
+use Rattle.h264_packet.specs.Said.{said_shown}
 use Rattle.gateway.proofs.rtp_h264.body.Statement.{statement}
 use Rattle.gateway.proofs.rtp_h264.body.Tie as tie
 
-sub-t5 : tie.Need-overflow-sub-t5
-sub-t5 c = c.before.before.requires (ap saidShown c.enum-told2.given.1)
+sub_t5 : tie.Need-overflow-sub-t5
+sub_t5 c = c.before.before.requires (ap said_shown c.enum-told2.given.1)
 
 returns : tie.Need-returns
 returns c gather lies = rw c.before.enum_told.given.1 c.nowhere.ensures
@@ -30,7 +30,7 @@ body-spec =
     (λ c. search rules)
     (λ c κs. search rules)
     (λ c. search rules)
-    sub-t5
+    sub_t5
     (λ c. search rules)
     returns
     returns-2

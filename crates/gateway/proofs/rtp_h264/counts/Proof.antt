@@ -6,12 +6,12 @@ use Rattle.h264.specs.declared.send.Payloads.{Payloads}
 use Rattle.h264.specs.Payload.{said}
 use Rattle.gateway.specs.declared.refused.Refused.{Refused}
 use Rattle.gateway.specs.declared.rtp_h264.Counted.{Counted}
-use Rattle.gateway.specs.H264Answers.{countedAs}
+use Rattle.gateway.specs.H264Answers.{counted_as}
 use Rattle.gateway.proofs.rtp_h264.counts.Statement.{statement}
 use Rattle.gateway.proofs.rtp_h264.counts.Tie as tie
 
 abbrev laid : Payloads → Counted
-laid answer = countedAs (said answer)
+laid answer = counted_as (said answer)
 
 -- the counts, beside what is said of a refusal
 abbrev beside : (packets bytes units pairs : ℕ) → Refused → Counted

@@ -5,17 +5,17 @@ use Prim.Native.Nat.{ℕ}
 use borrow.Author.Rules.{rules}
 use Rattle.h264_packet.specs.declared.Depacketize.{Depacketize}
 use Rattle.h264_packet.specs.declared.Depacketized.{Depacketized}
-use Rattle.h264_packet.specs.Said.{saidDepacketize, saidShown}
+use Rattle.h264_packet.specs.Said.{said_depacketize, said_shown}
 use Rattle.gateway.specs.declared.refused.Refused.{Refused}
 use Rattle.gateway.specs.declared.rtp_h264.RtpBody.{RtpBody}
 use Rattle.gateway.specs.declared.rtp_h264.RtpH264Read.{RtpH264Read}
-use Rattle.gateway.specs.H264Answers.{h264ReadAs}
+use Rattle.gateway.specs.H264Answers.{h264_read_as}
 use Rattle.gateway.proofs.rtp_h264.h264_read.Statement.{statement}
 use Rattle.gateway.proofs.rtp_h264.h264_read.Tie as tie
 
 abbrev laid : Depacketized → ℕ → ℕ → Depacketize → RtpH264Read
 laid d payload gather read =
-    h264ReadAs (record { packet = d.packet; answer = saidDepacketize read; showing = saidShown d.shown; gather = []; out = [] })
+    h264_read_as (record { packet = d.packet; answer = said_depacketize read; showing = said_shown d.shown; gather = []; out = [] })
     payload gather
 
 returns : tie.Need-returns

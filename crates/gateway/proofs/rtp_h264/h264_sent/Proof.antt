@@ -2,13 +2,13 @@
 use mathlib.Core.Path.{ap}
 use borrow.Author.Rules.{rules}
 use Rattle.gateway.specs.declared.rtp_h264.Counted.{Counted}
-use Rattle.gateway.specs.H264Answers.{sentWith}
+use Rattle.gateway.specs.H264Answers.{sent_with}
 use Rattle.gateway.proofs.rtp_h264.h264_sent.Statement.{statement}
 use Rattle.gateway.proofs.rtp_h264.h264_sent.Tie as tie
 
 returns : tie.Need-returns
 returns c =
-    ap (λ (x : Counted). sentWith x c.before.before.before.args.answer.sender) c.before.before.counts.ensures
+    ap (λ (x : Counted). sent_with x c.before.before.before.args.answer.sender) c.before.before.counts.ensures
 
 pub h264-sent-spec : {M : Type 1} → statement M
 h264-sent-spec =

@@ -2,14 +2,14 @@
 use mathlib.Core.Path.{sym, ap, ◌∙◌}
 use borrow.Author.Rules.{rules}
 use Rattle.h264_packet.specs.declared.Head.{Head}
-use Rattle.h264_packet.specs.Said.{saidHead}
+use Rattle.h264_packet.specs.Said.{said_head}
 use Rattle.gateway.specs.declared.refused.RtpTest.{RtpTest}
-use Rattle.gateway.specs.Refused.{testAs}
+use Rattle.gateway.specs.Refused.{test_as}
 use Rattle.gateway.proofs.rtp_h264.head_test.Statement.{statement}
 use Rattle.gateway.proofs.rtp_h264.head_test.Tie as tie
 
 abbrev laid : Head → RtpTest
-laid answer = testAs (saidHead answer)
+laid answer = test_as (said_head answer)
 
 returns : tie.Need-returns
 returns c =

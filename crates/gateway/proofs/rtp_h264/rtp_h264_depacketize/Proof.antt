@@ -3,18 +3,18 @@ use mathlib.Core.Path.{ap, ◌∙◌}
 use lib.ListN.{length}
 use borrow.Author.Rules.{rules}
 use Rattle.h264_packet.specs.Depacketize.{Lies}
-use Rattle.h264_packet.specs.Said.{Heard, saidShown}
-use Rattle.h264_packet.proofs.Never.{shown-lies}
-use Rattle.gateway.specs.H264Answers.{h264ReadAs}
+use Rattle.h264_packet.specs.Said.{Heard, said_shown}
+use Rattle.h264_packet.proofs.Never.{shown_lies}
+use Rattle.gateway.specs.H264Answers.{h264_read_as}
 use Rattle.gateway.proofs.rtp_h264.rtp_h264_depacketize.Statement.{statement}
 use Rattle.gateway.proofs.rtp_h264.rtp_h264_depacketize.Tie as tie
 
 lies : (c : tie.After-depacketize) →
     let a = c.before.before.before.before.before.before.args in
-    Lies (saidShown c.depacketize.result.shown) (length a.payload.now) (length a.gather.now)
+    Lies (said_shown c.depacketize.result.shown) (length a.payload.now) (length a.gather.now)
 lies c =
     let a = c.before.before.before.before.before.before.args in
-    rw (ap (λ (h : Heard). h.showing) c.depacketize.ensures) (shown-lies a.packet a.payload.now a.gather.now a.out.now)
+    rw (ap (λ (h : Heard). h.showing) c.depacketize.ensures) (shown_lies a.packet a.payload.now a.gather.now a.out.now)
 
 h264-read-requires : tie.Need-h264-read-requires
 h264-read-requires c κs e = rw e at (lies c.before.before.before.before)
@@ -23,7 +23,7 @@ returns : tie.Need-returns
 returns c =
     let a = c.before.before.before.before.before.before.before.before.before.before.before.args in
     let read = c.before.before.before.before.before.depacketize.ensures in (
-      c.h264-read.ensures _ (lies c.before.before.before.before.before) ∙ ap (λ (h : Heard). h264ReadAs h (length a.payload.now) (length a.gather.now)) read,
+      c.h264-read.ensures _ (lies c.before.before.before.before.before) ∙ ap (λ (h : Heard). h264_read_as h (length a.payload.now) (length a.gather.now)) read,
       (ap (λ (h : Heard). h.gather) read, ap (λ (h : Heard). h.out) read),
     )
 

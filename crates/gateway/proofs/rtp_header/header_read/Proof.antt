@@ -3,15 +3,15 @@ use mathlib.Core.Path.{sym, ap, ◌∙◌}
 use borrow.Author.Rules.{rules}
 use Rattle.header.specs.declared.Header.{Header}
 use Rattle.header.specs.declared.HeaderRead.{HeaderRead}
-use Rattle.header.specs.Said.{saidRead}
+use Rattle.header.specs.Said.{said_read}
 use Rattle.gateway.specs.declared.refused.Refused.{Refused}
 use Rattle.gateway.specs.declared.rtp_header.RtpHeaderRead.{RtpHeaderRead}
-use Rattle.gateway.specs.HeaderAnswers.{headerReadAs}
+use Rattle.gateway.specs.HeaderAnswers.{header_read_as}
 use Rattle.gateway.proofs.rtp_header.header_read.Statement.{statement}
 use Rattle.gateway.proofs.rtp_header.header_read.Tie as tie
 
 abbrev laid : Header → HeaderRead → RtpHeaderRead
-laid h read = headerReadAs (record { answer = saidRead read; header = h })
+laid h read = header_read_as (record { answer = said_read read; header = h })
 
 returns : tie.Need-returns
 returns c =

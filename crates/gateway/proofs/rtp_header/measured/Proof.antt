@@ -2,15 +2,15 @@
 use mathlib.Core.Path.{sym, ap, ◌∙◌}
 use borrow.Author.Rules.{rules}
 use Rattle.header_write.specs.declared.Length.{Length}
-use Rattle.header_write.specs.Said.{saidLength}
+use Rattle.header_write.specs.Said.{said_length}
 use Rattle.gateway.specs.declared.refused.Refused.{Refused}
 use Rattle.gateway.specs.declared.rtp_header.RtpLength.{RtpLength}
-use Rattle.gateway.specs.HeaderAnswers.{lengthAs}
+use Rattle.gateway.specs.HeaderAnswers.{length_as}
 use Rattle.gateway.proofs.rtp_header.measured.Statement.{statement}
 use Rattle.gateway.proofs.rtp_header.measured.Tie as tie
 
 abbrev laid : Length → RtpLength
-laid answer = lengthAs (saidLength answer)
+laid answer = length_as (said_length answer)
 
 returns : tie.Need-returns
 returns c =

@@ -2,14 +2,14 @@
 use mathlib.Core.Path.{ap, ◌∙◌}
 use borrow.Author.Rules.{rules}
 use Rattle.header.specs.Said.{Written}
-use Rattle.gateway.specs.HeaderAnswers.{lengthAs}
+use Rattle.gateway.specs.HeaderAnswers.{length_as}
 use Rattle.gateway.proofs.rtp_header.rtp_header_marshal_to.Statement.{statement}
 use Rattle.gateway.proofs.rtp_header.rtp_header_marshal_to.Tie as tie
 
 returns : tie.Need-returns
 returns c =
     let wrote = c.before.before.before.marshal-to.ensures in
-    (c.measured.ensures ∙ ap (λ (w : Written). lengthAs w.answer) wrote, ap (λ (w : Written). w.buffer) wrote)
+    (c.measured.ensures ∙ ap (λ (w : Written). length_as w.answer) wrote, ap (λ (w : Written). w.buffer) wrote)
 
 pub rtp-header-marshal-to-spec : {M : Type 1} → statement M
 rtp-header-marshal-to-spec =

@@ -3,15 +3,15 @@ use mathlib.Core.Path.{sym, ap, ◌∙◌}
 use borrow.Author.Rules.{rules}
 use Rattle.joiner.specs.declared.Joiner.{Joiner}
 use Rattle.joiner.specs.declared.Closed.{Closed}
-use Rattle.joiner.specs.Said.{saidClosed}
+use Rattle.joiner.specs.Said.{said_closed}
 use Rattle.gateway.specs.declared.refused.Refused.{Refused}
 use Rattle.gateway.specs.declared.rtp_joiner.RtpClosed.{RtpClosed}
-use Rattle.gateway.specs.JoinerAnswers.{closedAs}
+use Rattle.gateway.specs.JoinerAnswers.{closed_as}
 use Rattle.gateway.proofs.rtp_joiner.closed.Statement.{statement}
 use Rattle.gateway.proofs.rtp_joiner.closed.Tie as tie
 
 abbrev laid : Joiner → Closed → RtpClosed
-laid j answer = closedAs (record { joiner = j; answer = saidClosed answer })
+laid j answer = closed_as (record { joiner = j; answer = said_closed answer })
 
 returns : tie.Need-returns
 returns c =

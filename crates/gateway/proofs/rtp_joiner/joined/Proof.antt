@@ -3,15 +3,15 @@ use mathlib.Core.Path.{sym, ap, ◌∙◌}
 use mathlib.Core.Bool.{true, false}
 use borrow.Author.Rules.{rules}
 use Rattle.joiner.specs.declared.Joined.{Joined}
-use Rattle.joiner.specs.Said.{saidJoined}
+use Rattle.joiner.specs.Said.{said_joined}
 use Rattle.gateway.specs.declared.refused.Refused.{Refused}
 use Rattle.gateway.specs.declared.rtp_joiner.RtpJoined.{RtpJoined}
-use Rattle.gateway.specs.JoinerAnswers.{joinedAs}
+use Rattle.gateway.specs.JoinerAnswers.{joined_as}
 use Rattle.gateway.proofs.rtp_joiner.joined.Statement.{statement}
 use Rattle.gateway.proofs.rtp_joiner.joined.Tie as tie
 
 abbrev laid : Joined → RtpJoined
-laid answer = joinedAs (saidJoined answer)
+laid answer = joined_as (said_joined answer)
 
 returns : tie.Need-returns
 returns c =

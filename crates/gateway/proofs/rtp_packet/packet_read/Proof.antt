@@ -3,15 +3,15 @@ use mathlib.Core.Path.{sym, ap, ◌∙◌}
 use borrow.Author.Rules.{rules}
 use Rattle.header.specs.declared.Header.{Header}
 use Rattle.packet.specs.declared.PacketRead.{PacketRead}
-use Rattle.packet.specs.Said.{saidRead}
+use Rattle.packet.specs.Said.{said_read}
 use Rattle.gateway.specs.declared.refused.Refused.{Refused}
 use Rattle.gateway.specs.declared.rtp_packet.RtpPacketRead.{RtpPacketRead}
-use Rattle.gateway.specs.PacketAnswers.{packetReadAs}
+use Rattle.gateway.specs.PacketAnswers.{packet_read_as}
 use Rattle.gateway.proofs.rtp_packet.packet_read.Statement.{statement}
 use Rattle.gateway.proofs.rtp_packet.packet_read.Tie as tie
 
 abbrev laid : Header → PacketRead → RtpPacketRead
-laid h read = packetReadAs (record { answer = saidRead read; header = h })
+laid h read = packet_read_as (record { answer = said_read read; header = h })
 
 returns : tie.Need-returns
 returns c =

@@ -3,14 +3,14 @@ use mathlib.Core.Path.{sym, ap, ◌∙◌}
 use Prim.Native.Nat.{ℕ}
 use borrow.Author.Rules.{rules}
 use Rattle.header_write.specs.declared.Length.{Length}
-use Rattle.header_write.specs.Said.{saidLength}
+use Rattle.header_write.specs.Said.{said_length}
 use Rattle.gateway.specs.declared.rtp_parts.RtpBytes.{RtpBytes}
-use Rattle.gateway.specs.PartsAnswers.{bytesAs}
+use Rattle.gateway.specs.PartsAnswers.{bytes_as}
 use Rattle.gateway.proofs.rtp_parts.counted.Statement.{statement}
 use Rattle.gateway.proofs.rtp_parts.counted.Tie as tie
 
 abbrev laid : Length → RtpBytes
-laid answer = bytesAs (saidLength answer)
+laid answer = bytes_as (said_length answer)
 
 returns : tie.Need-returns
 returns c = sym (ap laid c.before.answer.given.1)

@@ -4,14 +4,14 @@ use Prim.Native.Nat.{ℕ}
 use borrow.Author.Rules.{rules}
 use Rattle.header.specs.declared.Front.{Front}
 use Rattle.header.specs.declared.HeaderRead.{HeaderRead}
-use Rattle.header.specs.Said.{saidRead}
+use Rattle.header.specs.Said.{said_read}
 use Rattle.gateway.specs.declared.rtp_parts.RtpHeaderFront.{RtpHeaderFront}
-use Rattle.gateway.specs.PartsAnswers.{headerFrontAs}
+use Rattle.gateway.specs.PartsAnswers.{header_front_as}
 use Rattle.gateway.proofs.rtp_parts.header_front.Statement.{statement}
 use Rattle.gateway.proofs.rtp_parts.header_front.Tie as tie
 
 abbrev laid : Front → HeaderRead → RtpHeaderFront
-laid f read = headerFrontAs (record { answer = saidRead read; front = f })
+laid f read = header_front_as (record { answer = said_read read; front = f })
 
 returns : tie.Need-returns
 returns c = sym (ap (laid c.before.before.before.before.args.answer.front) c.before.read.given.1)

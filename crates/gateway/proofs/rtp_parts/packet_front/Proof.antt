@@ -4,14 +4,14 @@ use Prim.Native.Nat.{ℕ}
 use borrow.Author.Rules.{rules}
 use Rattle.header.specs.declared.Front.{Front}
 use Rattle.packet.specs.declared.PacketRead.{PacketRead}
-use Rattle.packet.specs.Said.{saidRead}
+use Rattle.packet.specs.Said.{said_read}
 use Rattle.gateway.specs.declared.rtp_parts.RtpPacketFront.{RtpPacketFront}
-use Rattle.gateway.specs.PartsAnswers.{packetFrontAs}
+use Rattle.gateway.specs.PartsAnswers.{packet_front_as}
 use Rattle.gateway.proofs.rtp_parts.packet_front.Statement.{statement}
 use Rattle.gateway.proofs.rtp_parts.packet_front.Tie as tie
 
 abbrev laid : Front → PacketRead → RtpPacketFront
-laid f read = packetFrontAs (record { answer = saidRead read; front = f })
+laid f read = packet_front_as (record { answer = said_read read; front = f })
 
 returns : tie.Need-returns
 returns c = sym (ap (laid c.before.before.before.before.args.answer.front) c.before.read.given.1)

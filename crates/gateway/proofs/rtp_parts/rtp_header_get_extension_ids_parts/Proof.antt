@@ -1,13 +1,13 @@
 -- The answer of the call, laid out.
 use mathlib.Core.Path.{ap, ◌∙◌}
 use borrow.Author.Rules.{rules}
-use Rattle.gateway.specs.HeaderAnswers.{idsAs}
+use Rattle.gateway.specs.HeaderAnswers.{ids_as}
 use Rattle.gateway.proofs.rtp_parts.rtp_header_get_extension_ids_parts.Statement.{statement}
 use Rattle.gateway.proofs.rtp_parts.rtp_header_get_extension_ids_parts.Tie as tie
 
 returns : tie.Need-returns
 returns c =
-    c.listed.ensures ∙ ap idsAs c.before.get-extension-ids-parts.ensures
+    c.listed.ensures ∙ ap ids_as c.before.get-extension-ids-parts.ensures
 
 pub rtp-header-get-extension-ids-parts-spec : {M : Type 1} → statement M
 rtp-header-get-extension-ids-parts-spec =

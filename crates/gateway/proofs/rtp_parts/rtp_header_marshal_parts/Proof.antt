@@ -2,14 +2,14 @@
 use mathlib.Core.Path.{ap, ◌∙◌}
 use borrow.Author.Rules.{rules}
 use Rattle.header.specs.Said.{Written}
-use Rattle.gateway.specs.PartsAnswers.{bytesAs}
+use Rattle.gateway.specs.PartsAnswers.{bytes_as}
 use Rattle.gateway.proofs.rtp_parts.rtp_header_marshal_parts.Statement.{statement}
 use Rattle.gateway.proofs.rtp_parts.rtp_header_marshal_parts.Tie as tie
 
 returns : tie.Need-returns
 returns c =
     let wrote = c.before.before.before.marshal-parts.ensures in
-    (c.counted.ensures ∙ ap (λ (w : Written). bytesAs w.answer) wrote, ap (λ (w : Written). w.buffer) wrote)
+    (c.counted.ensures ∙ ap (λ (w : Written). bytes_as w.answer) wrote, ap (λ (w : Written). w.buffer) wrote)
 
 pub rtp-header-marshal-parts-spec : {M : Type 1} → statement M
 rtp-header-marshal-parts-spec =

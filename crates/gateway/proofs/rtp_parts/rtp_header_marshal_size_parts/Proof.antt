@@ -1,13 +1,13 @@
 -- The answer of the call, laid out.
 use mathlib.Core.Path.{ap, ◌∙◌}
 use borrow.Author.Rules.{rules}
-use Rattle.gateway.specs.PartsAnswers.{bytesAs}
+use Rattle.gateway.specs.PartsAnswers.{bytes_as}
 use Rattle.gateway.proofs.rtp_parts.rtp_header_marshal_size_parts.Statement.{statement}
 use Rattle.gateway.proofs.rtp_parts.rtp_header_marshal_size_parts.Tie as tie
 
 returns : tie.Need-returns
 returns c =
-    c.counted.ensures ∙ ap bytesAs c.before.marshal-size-parts.ensures
+    c.counted.ensures ∙ ap bytes_as c.before.marshal-size-parts.ensures
 
 pub rtp-header-marshal-size-parts-spec : {M : Type 1} → statement M
 rtp-header-marshal-size-parts-spec =

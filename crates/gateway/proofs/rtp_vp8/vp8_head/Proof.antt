@@ -2,14 +2,14 @@
 use mathlib.Core.Path.{sym, ap, ◌∙◌}
 use borrow.Author.Rules.{rules}
 use Rattle.vp8_read.specs.declared.Vp8PartitionHead.{Vp8PartitionHead}
-use Rattle.vp8_read.specs.Partition.{saidHead}
+use Rattle.vp8_read.specs.Partition.{said_head}
 use Rattle.gateway.specs.declared.refused.RtpTest.{RtpTest}
-use Rattle.gateway.specs.Refused.{testAs}
+use Rattle.gateway.specs.Refused.{test_as}
 use Rattle.gateway.proofs.rtp_vp8.vp8_head.Statement.{statement}
 use Rattle.gateway.proofs.rtp_vp8.vp8_head.Tie as tie
 
 abbrev laid : Vp8PartitionHead → RtpTest
-laid answer = testAs (saidHead answer)
+laid answer = test_as (said_head answer)
 
 returns : tie.Need-returns
 returns c =

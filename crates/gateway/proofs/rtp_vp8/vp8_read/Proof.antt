@@ -3,15 +3,15 @@ use mathlib.Core.Path.{sym, ap, ◌∙◌}
 use borrow.Author.Rules.{rules}
 use Rattle.vp8_read.specs.declared.Vp8Packet.{Vp8Packet}
 use Rattle.vp8_read.specs.declared.Vp8Read.{Vp8Read}
-use Rattle.vp8_read.specs.ReadAnswer.{saidRead}
+use Rattle.vp8_read.specs.ReadAnswer.{said_read}
 use Rattle.gateway.specs.declared.refused.Refused.{Refused}
 use Rattle.gateway.specs.declared.rtp_vp8.RtpVp8Read.{RtpVp8Read}
-use Rattle.gateway.specs.Vp8Answers.{vp8ReadAs}
+use Rattle.gateway.specs.Vp8Answers.{vp8_read_as}
 use Rattle.gateway.proofs.rtp_vp8.vp8_read.Statement.{statement}
 use Rattle.gateway.proofs.rtp_vp8.vp8_read.Tie as tie
 
 abbrev laid : Vp8Packet → Vp8Read → RtpVp8Read
-laid fields read = vp8ReadAs (record { packet = fields; said = saidRead read })
+laid fields read = vp8_read_as (record { packet = fields; said = said_read read })
 
 returns : tie.Need-returns
 returns c =

@@ -4,15 +4,15 @@ use mathlib.Core.List.{[]}
 use borrow.Author.Rules.{rules}
 use Rattle.vp8_send.specs.declared.Vp8Payloader.{Vp8Payloader}
 use Rattle.vp8_send.specs.declared.Vp8Answer.{Vp8Answer}
-use Rattle.vp8_send.specs.SendAnswer.{saidSent}
+use Rattle.vp8_send.specs.SendAnswer.{said_sent}
 use Rattle.gateway.specs.declared.refused.Refused.{Refused}
 use Rattle.gateway.specs.declared.rtp_vp8.RtpVp8Sent.{RtpVp8Sent}
-use Rattle.gateway.specs.Vp8Answers.{vp8SentAs}
+use Rattle.gateway.specs.Vp8Answers.{vp8_sent_as}
 use Rattle.gateway.proofs.rtp_vp8.vp8_sent.Statement.{statement}
 use Rattle.gateway.proofs.rtp_vp8.vp8_sent.Tie as tie
 
 abbrev laid : Vp8Payloader → Vp8Answer → RtpVp8Sent
-laid payloader answer = vp8SentAs (record { payloader = payloader; said = saidSent answer; out = []; ends = [] })
+laid payloader answer = vp8_sent_as (record { payloader = payloader; said = said_sent answer; out = []; ends = [] })
 
 returns : tie.Need-returns
 returns c =

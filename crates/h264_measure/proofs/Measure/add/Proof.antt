@@ -1,36 +1,36 @@
 -- One law for each fate.
 use mathlib.Core.Path.{refl, sym, ◌∙◌}
-use Rattle.h264_measure.proofs.Measures.{measured-empty, measured-dropped, measured-sps, measured-pps}
-use Rattle.h264_put.proofs.UnitFates.{coded-some}
+use Rattle.h264_measure.proofs.Measures.{measured_empty, measured_dropped, measured_sps, measured_pps}
+use Rattle.h264_put.proofs.UnitFates.{coded_some}
 use borrow.Author.Rules.{rules}
 use Rattle.h264_measure.proofs.Measure.add.Statement.{statement}
 use Rattle.h264_measure.proofs.Measure.add.Tie as tie
 
 coded-requires : tie.Need-coded-requires
 coded-requires c κs =
-    let some = coded-some c.before.before.before.before.args.unit.now
+    let some = coded_some c.before.before.before.before.args.unit.now
     (sym c.before.before.fate-of.ensures ∙ c.enum-told5.given.1) in
     (search rules, search rules, some, search rules)
 
 returns : tie.Need-returns
 returns c =
     let start = c.before.before.before.before.args in
-    (search rules, λ v l. measured-empty start.self start.mtu v start.unit.now l (sym c.before.before.fate-of.ensures ∙ c.enum_told.given.1))
+    (search rules, λ v l. measured_empty start.self start.mtu v start.unit.now l (sym c.before.before.fate-of.ensures ∙ c.enum_told.given.1))
 
 returns-2 : tie.Need-returns-2
 returns-2 c =
     let start = c.before.before.before.before.args in
-    (search rules, λ v l. measured-dropped start.self start.mtu v start.unit.now l (sym c.before.before.fate-of.ensures ∙ c.enum-told2.given.1))
+    (search rules, λ v l. measured_dropped start.self start.mtu v start.unit.now l (sym c.before.before.fate-of.ensures ∙ c.enum-told2.given.1))
 
 returns-3 : tie.Need-returns-3
 returns-3 c =
     let start = c.before.before.before.before.before.args in
-    (search rules, λ v l. measured-sps start.self start.mtu v start.unit.now l (sym c.before.before.before.fate-of.ensures ∙ c.before.enum-told3.given.1) c.over.result c.over.ensures)
+    (search rules, λ v l. measured_sps start.self start.mtu v start.unit.now l (sym c.before.before.before.fate-of.ensures ∙ c.before.enum-told3.given.1) c.over.result c.over.ensures)
 
 returns-4 : tie.Need-returns-4
 returns-4 c =
     let start = c.before.before.before.before.before.args in
-    (search rules, λ v l. measured-pps start.self start.mtu v start.unit.now l (sym c.before.before.before.fate-of.ensures ∙ c.before.enum-told4.given.1) c.over2.result c.over2.ensures)
+    (search rules, λ v l. measured_pps start.self start.mtu v start.unit.now l (sym c.before.before.before.fate-of.ensures ∙ c.before.enum-told4.given.1) c.over2.result c.over2.ensures)
 
 returns-5 : tie.Need-returns-5
 returns-5 c =

@@ -1,25 +1,25 @@
--- The tests are those of `headTest`.
+-- The tests are those of `head_test`.
 use mathlib.Core.Path.{sym}
 use borrow.Author.Rules.{rules}
 use borrow.Author.Tests.{lt-ltb, le-ltb, eq-eqb, ne_eqb}
-use Rattle.h264_packet.specs.Depacketize.{headTest}
+use Rattle.h264_packet.specs.Depacketize.{head_test}
 use Rattle.h264_packet.proofs.partition.is_partition_head.Statement.{statement}
 use Rattle.h264_packet.proofs.partition.is_partition_head.Tie as tie
 
 returns : tie.Need-returns
-unfolding headTest
+unfolding head_test
 returns c = sym (rw (lt-ltb 65535 _ c.if1.true))
 
 returns-2 : tie.Need-returns-2
-unfolding headTest
+unfolding head_test
 returns-2 c = sym (rw (le-ltb 65535 _ c.before.if1.false, lt-ltb _ 2 c.if2.true))
 
 returns-3 : tie.Need-returns-3
-unfolding headTest
+unfolding head_test
 returns-3 c = sym (rw (le-ltb 65535 _ c.before.before.before.before.if1.false, le-ltb _ 2 c.before.before.before.if2.false, eq-eqb _ 28 c.before.if3.true))
 
 returns-4 : tie.Need-returns-4
-unfolding headTest
+unfolding head_test
 returns-4 c =
     sym
     (rw (
@@ -30,7 +30,7 @@ returns-4 c =
     ))
 
 returns-5 : tie.Need-returns-5
-unfolding headTest
+unfolding head_test
 returns-5 c =
     sym
     (rw (

@@ -2,16 +2,16 @@
 use mathlib.Core.Path.{refl, sym, ap}
 use borrow.Author.Rules.{rules}
 use Rattle.nal.specs.declared.Handed.{Handed}
-use Rattle.nal.specs.Said.{saidHanded}
+use Rattle.nal.specs.Said.{said_handed}
 use Rattle.nal.specs.Ran.{with_run}
 use Rattle.h264_packet.proofs.read.with_run.Statement.{statement}
 use Rattle.h264_packet.proofs.read.with_run.Tie as tie
 
 returns : tie.Need-returns
-returns c = (sym (ap (λ (h : Handed). with_run c.before.before.before.args.gathered (saidHanded h)) c.before.handed.given.1), refl)
+returns c = (sym (ap (λ (h : Handed). with_run c.before.before.before.args.gathered (said_handed h)) c.before.handed.given.1), refl)
 
 returns-2 : tie.Need-returns-2
-returns-2 c = (sym (ap (λ (h : Handed). with_run c.before.before.before.args.gathered (saidHanded h)) c.before.handed2.given.1), tt)
+returns-2 c = (sym (ap (λ (h : Handed). with_run c.before.before.before.args.gathered (said_handed h)) c.before.handed2.given.1), tt)
 
 pub with-run-spec : {M : Type 1} → statement M
 with-run-spec =

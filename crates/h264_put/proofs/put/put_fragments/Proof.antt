@@ -3,15 +3,15 @@ use mathlib.Core.Path.{◌≡◌, refl, ◌∙◌}
 use Prim.Native.Nat.{◌-◌}
 use lib.ListN.{length, drop}
 use Rattle.wire.specs.Packets.{put_all}
-use Rattle.h264_put.specs.Step.{sinkAt}
-use Rattle.h264_put.proofs.Fragments.{later, Going, room-first-part, going-first, first-same, room_next, going_on, room-last, going-last}
+use Rattle.h264_put.specs.Step.{sink_at}
+use Rattle.h264_put.proofs.Fragments.{later, Going, room_first_part, going_first, first_same, room_next, going_on, room_last, going_last}
 use borrow.Author.Rules.{rules}
 use Rattle.h264_put.proofs.put.put_fragments.Statement.{statement}
 use Rattle.h264_put.proofs.put.put_fragments.Tie as tie
 
 abbrev invariant-loop : tie.invariant-loop
 invariant-loop unit size out₀ ends₀ head i₀ p₀ out ends i p =
-    Going unit size head (put_all (sinkAt out₀ ends₀ p₀) (later head (length unit - 1) size (drop i₀ unit))) (sinkAt out ends p) i
+    Going unit size head (put_all (sink_at out₀ ends₀ p₀) (later head (length unit - 1) size (drop i₀ unit))) (sink_at out ends p) i
     × (length out ≡ length out₀)
     × (length ends ≡ length ends₀)
 
@@ -21,14 +21,14 @@ decreases-loop unit size out₀ ends₀ head i₀ p₀ out ends i p = length uni
 put-fragment-requires : tie.Need-put-fragment-requires invariant-loop decreases-loop
 put-fragment-requires c κs =
     let start = c.before.before.before.before.before.before.before in
-    let room = room-first-part start.args.unit.now start.args.size
-    (sinkAt start.args.out.now start.args.ends.now start.args.to) (search rules) start.requires.2 in
+    let room = room_first_part start.args.unit.now start.args.size
+    (sink_at start.args.out.now start.args.ends.now start.args.to) (search rules) start.requires.2 in
     (search rules, room.bytes, room.place)
 
-loop-holds : tie.Need-loop-init invariant-loop decreases-loop
-loop-holds c =
+loop_holds : tie.Need-loop-init invariant-loop decreases-loop
+loop_holds c =
     let start = c.before.before.before.before.before.before.before.before.before.before.before.before in
-    (going-first start.args.unit.now start.args.size (sinkAt start.args.out.now start.args.ends.now start.args.to) (search rules) start.requires.2 _ c.before.before.before.before.put-fragment.ensures, refl, refl)
+    (going_first start.args.unit.now start.args.size (sink_at start.args.out.now start.args.ends.now start.args.to) (search rules) start.requires.2 _ c.before.before.before.before.put-fragment.ensures, refl, refl)
 
 put-fragment-requires-2 : tie.Need-put-fragment-requires-2 invariant-loop decreases-loop
 put-fragment-requires-2 c κs =
@@ -36,17 +36,17 @@ put-fragment-requires-2 c κs =
     = c.before.before.before.before.before.before.before.before.before.before.before.before.before.before.before.before.before
     in
     let at_head = c.before.before.before.before.loop in
-    let room = room_next start.args.unit.now start.args.size _ _ (sinkAt at_head.out at_head.ends at_head.p) at_head.i
+    let room = room_next start.args.unit.now start.args.size _ _ (sink_at at_head.out at_head.ends at_head.p) at_head.i
     at_head.invariant.0 start.pre.0 c.before.before.before.loop-test.true in
     (search rules, room.bytes, room.place)
 
-loop-again : tie.Need-loop-preserved invariant-loop decreases-loop
-loop-again c =
+loop_again : tie.Need-loop-preserved invariant-loop decreases-loop
+loop_again c =
     let start
     = c.before.before.before.before.before.before.before.before.before.before.before.before.before.before.before.before.before.before.before.before.before.before
     in
     let at_head = c.before.before.before.before.before.before.before.before.before.loop in (
-      going_on start.args.unit.now start.args.size _ _ (sinkAt at_head.out at_head.ends at_head.p) at_head.i
+      going_on start.args.unit.now start.args.size _ _ (sink_at at_head.out at_head.ends at_head.p) at_head.i
           at_head.invariant.0 start.pre.0
           c.before.before.before.before.before.before.before.before.loop-test.true _
           c.before.before.before.before.put-fragment2.ensures,
@@ -60,7 +60,7 @@ put-fragment-requires-3 c κs =
     = c.before.before.before.before.before.before.before.before.before.before.before.before.before.before.before.before.before
     in
     let at_head = c.before.before.before.before.loop in
-    let room = room-last start.args.unit.now start.args.size _ _ (sinkAt at_head.out at_head.ends at_head.p) at_head.i
+    let room = room_last start.args.unit.now start.args.size _ _ (sink_at at_head.out at_head.ends at_head.p) at_head.i
     at_head.invariant.0 c.before.before.before.loop-test.false in
     (search rules, room.bytes, room.place)
 
@@ -69,8 +69,8 @@ same_length c = c.before.before.before.before.put-fragment3.auto.1.1.1.0
     ∙ c.before.before.before.before.before.before.before.before.before.loop.invariant.1
     ∙ c.before.before.before.before.before.before.before.before.before.before.before.before.before.before.put-fragment.auto.1.1.1.0
 
-same-length-2 : tie.Need-same-length-2 invariant-loop decreases-loop
-same-length-2 c = c.before.before.before.before.put-fragment3.auto.1.1.1.1.0
+same_length_2 : tie.Need-same-length-2 invariant-loop decreases-loop
+same_length_2 c = c.before.before.before.before.put-fragment3.auto.1.1.1.1.0
     ∙ c.before.before.before.before.before.before.before.before.before.loop.invariant.2
     ∙ c.before.before.before.before.before.before.before.before.before.before.before.before.before.before.put-fragment.auto.1.1.1.1.0
 
@@ -81,9 +81,9 @@ returns c =
     in
     let at_head = c.before.before.before.before.before.before.before.before.before.loop in
     c.before.before.before.before.put-fragment3.ensures
-    ∙ going-last start.args.unit.now start.args.size _ _ (sinkAt at_head.out at_head.ends at_head.p) at_head.i
+    ∙ going_last start.args.unit.now start.args.size _ _ (sink_at at_head.out at_head.ends at_head.p) at_head.i
     at_head.invariant.0 c.before.before.before.before.before.before.before.before.loop-test.false
-    ∙ first-same start.args.unit.now start.args.size (sinkAt start.args.out.now start.args.ends.now start.args.to)
+    ∙ first_same start.args.unit.now start.args.size (sink_at start.args.out.now start.args.ends.now start.args.to)
     (search rules) start.pre.2 _
     c.before.before.before.before.before.before.before.before.before.before.before.before.before.before.put-fragment.ensures
 
@@ -99,7 +99,7 @@ put-fragments-spec =
     (λ c. search rules)
     (λ c. search rules)
     put-fragment-requires
-    loop-holds
+    loop_holds
     (λ c. search rules)
     (λ c. search rules)
     (λ c. search rules)
@@ -107,11 +107,11 @@ put-fragments-spec =
     (λ c. search rules)
     put-fragment-requires-2
     (λ c. search rules)
-    loop-again
+    loop_again
     (λ c. search rules)
     (λ c. search rules)
     (λ c. search rules)
     put-fragment-requires-3
     same_length
-    same-length-2
+    same_length_2
     returns)

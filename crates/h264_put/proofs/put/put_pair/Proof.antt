@@ -6,8 +6,8 @@ use native.Mathlib.Omega.{arith}
 use lib.ListN.{length, length-set}
 use Rattle.wire.specs.Net.{be16}
 use Rattle.wire.specs.Part.{splice}
-use Rattle.h264_put.specs.Groups.{stapA}
-use Rattle.h264_put.proofs.Sinks.{put_is, splice-pair, length-stapA}
+use Rattle.h264_put.specs.Groups.{stap_a}
+use Rattle.h264_put.proofs.Sinks.{put_is, splice_pair, length_stap_a}
 use borrow.Author.Rules.{rules}
 use Rattle.h264_put.proofs.put.put_pair.Statement.{statement}
 use Rattle.h264_put.proofs.put.put_pair.Tie as tie
@@ -33,12 +33,12 @@ returns c =
     let sps = start.sps.now in
     let pps = start.pps.now in
     let at = start.to.at in
-    put_is out start.ends.now c.before.before.put-set2.new.1.0 start.to (stapA sps pps) _
+    put_is out start.ends.now c.before.before.put-set2.new.1.0 start.to (stap_a sps pps) _
     (c.before.before.put-set2.ensures
     ∙ ap (λ (l : List ℕ). splice l (at + 3 + length sps) (be16 (length pps) ++ pps))
     c.before.before.before.before.before.before.put-set.ensures
-    ∙ splice-pair out at sps pps (search rules))
-    (rw (length-stapA sps pps) (omega arith))
+    ∙ splice_pair out at sps pps (search rules))
+    (rw (length_stap_a sps pps) (omega arith))
 
 pub put-pair-spec : {M : Type 1} → statement M
 put-pair-spec =

@@ -3,9 +3,9 @@ use mathlib.Core.Path.{sym, ap, ap₂, ◌∙◌}
 use Rattle.h264_put.specs.declared.fate.Fate.TheVariants.{Empty, Dropped, Sps, Pps, Coded}
 use Rattle.h264_put.specs.declared.outcome.UnitOutcome.{UnitOutcome}
 use Rattle.h264_put.specs.declared.outcome.PairOutcome.{PairOutcome}
-use Rattle.h264_put.specs.Step.{sinkAt}
-use Rattle.h264_walk.proofs.Pairs.{forget-waits}
-use Rattle.h264_walk.proofs.Steps.{told-by, done-empty, done-dropped, done-sps, done-pps, room-pair, room-unit, done_coded}
+use Rattle.h264_put.specs.Step.{sink_at}
+use Rattle.h264_walk.proofs.Pairs.{forget_waits}
+use Rattle.h264_walk.proofs.Steps.{told_by, done_empty, done_dropped, done_sps, done_pps, room_pair, room_unit, done_coded}
 use borrow.Author.Rules.{rules}
 use Rattle.h264_walk.proofs.step.emit.Statement.{statement}
 use Rattle.h264_walk.proofs.step.emit.Tie as tie
@@ -15,14 +15,14 @@ put-waiting-requires c κs =
     let arm = c.before.before in
     let start = arm.before.before.before.before.before.before.before.before.before in
     let e = sym arm.before.before.fate-of.ensures ∙ arm.enum-told5.given.1 in
-    (start.requires.waits, room-pair start.requires e)
+    (start.requires.waits, room_pair start.requires e)
 
 put-unit-requires : tie.Need-put-unit-requires
 put-unit-requires c κs =
     let arm = c.before.before.before.before.before.before.before.before.before.before in
     let start = arm.before.before.before.before.before.before.before.before.before in
     let e = sym arm.before.before.fate-of.ensures ∙ arm.enum-told5.given.1 in
-    room-unit start.requires e _ c.before.before.before.before.before.before.before.put-waiting.ensures.0
+    room_unit start.requires e _ c.before.before.before.before.before.before.before.put-waiting.ensures.0
 
 returns : tie.Need-returns
 returns c =
@@ -30,8 +30,8 @@ returns c =
     let start = arm.before.before.before.before.before.before.before.before.before in
     let e = sym arm.before.before.fate-of.ensures ∙ arm.enum_told.given.1 in
     let left = c.unsent in (
-      done-empty start.requires left.result.waiting _ (ap (sinkAt start.args.out.now start.args.ends.now) left.ensures.1) e left.ensures.0,
-      told-by start.requires Empty e left.result.outcome left.ensures.2,
+      done_empty start.requires left.result.waiting _ (ap (sink_at start.args.out.now start.args.ends.now) left.ensures.1) e left.ensures.0,
+      told_by start.requires Empty e left.result.outcome left.ensures.2,
     )
 
 returns-2 : tie.Need-returns-2
@@ -40,8 +40,8 @@ returns-2 c =
     let start = arm.before.before.before.before.before.before.before.before.before in
     let e = sym arm.before.before.fate-of.ensures ∙ arm.enum-told2.given.1 in
     let left = c.unsent2 in (
-      done-dropped start.requires left.result.waiting _ (ap (sinkAt start.args.out.now start.args.ends.now) left.ensures.1) e left.ensures.0,
-      told-by start.requires Dropped e left.result.outcome left.ensures.2,
+      done_dropped start.requires left.result.waiting _ (ap (sink_at start.args.out.now start.args.ends.now) left.ensures.1) e left.ensures.0,
+      told_by start.requires Dropped e left.result.outcome left.ensures.2,
     )
 
 returns-3 : tie.Need-returns-3
@@ -50,8 +50,8 @@ returns-3 c =
     let start = arm.before.before.before.before.before.before.before.before.before in
     let e = sym arm.before.before.fate-of.ensures ∙ arm.enum-told3.given.1 in
     let left = c.unsent3 in (
-      done-sps start.requires left.result.waiting _ (ap (sinkAt start.args.out.now start.args.ends.now) left.ensures.1) e _ c.before.before.unit2.ensures (left.ensures.0 ∙ c.before.with-sps.ensures),
-      told-by start.requires Sps e left.result.outcome left.ensures.2,
+      done_sps start.requires left.result.waiting _ (ap (sink_at start.args.out.now start.args.ends.now) left.ensures.1) e _ c.before.before.unit2.ensures (left.ensures.0 ∙ c.before.with-sps.ensures),
+      told_by start.requires Sps e left.result.outcome left.ensures.2,
     )
 
 returns-4 : tie.Need-returns-4
@@ -60,8 +60,8 @@ returns-4 c =
     let start = arm.before.before.before.before.before.before.before.before.before in
     let e = sym arm.before.before.fate-of.ensures ∙ arm.enum-told4.given.1 in
     let left = c.unsent4 in (
-      done-pps start.requires left.result.waiting _ (ap (sinkAt start.args.out.now start.args.ends.now) left.ensures.1) e _ c.before.before.unit3.ensures (left.ensures.0 ∙ c.before.with-pps.ensures),
-      told-by start.requires Pps e left.result.outcome left.ensures.2,
+      done_pps start.requires left.result.waiting _ (ap (sink_at start.args.out.now start.args.ends.now) left.ensures.1) e _ c.before.before.unit3.ensures (left.ensures.0 ∙ c.before.with-pps.ensures),
+      told_by start.requires Pps e left.result.outcome left.ensures.2,
     )
 
 returns-5 : tie.Need-returns-5
@@ -72,8 +72,8 @@ returns-5 c =
     let waiting = c.before.before.before.before.before.before.before.before.before.before.before.before.before.before.put-waiting in
     let put = c.before.before.before.before.before.before.put-unit in (
       done_coded start.requires e _ _ c.forget.result waiting.ensures.0 put.ensures.0
-          (forget-waits start.requires.waits c.forget.result c.forget.ensures),
-      told-by start.requires Coded e _
+          (forget_waits start.requires.waits c.forget.result c.forget.ensures),
+      told_by start.requires Coded e _
           (ap₂ (λ (u : UnitOutcome) (p : PairOutcome). record { unit = u; pair = p }) put.ensures.1 waiting.ensures.1),
     )
 

@@ -1,8 +1,8 @@
 -- One law of the definition for each way through the code.
 use mathlib.Core.Path.{sym, ◌∙◌}
 use borrow.Author.Tests.{not-true, not-false}
-use Rattle.h264_put.specs.Step.{sinkAt}
-use Rattle.h264_walk.proofs.Pairs.{waiting_none, waiting-not-due, waiting-over, waiting-dropped, waiting-room, waiting-sent, waiting-told}
+use Rattle.h264_put.specs.Step.{sink_at}
+use Rattle.h264_walk.proofs.Pairs.{waiting_none, waiting_not_due, waiting_over, waiting_dropped, waiting_room, waiting_sent, waiting_told}
 use borrow.Author.Rules.{rules}
 use native.Mathlib.Omega.{arith}
 use Rattle.h264_walk.proofs.step.put_waiting.Statement.{statement}
@@ -12,26 +12,26 @@ returns : tie.Need-returns
 returns c =
     let none = c in
     let start = none.before.before.before.before.before.before.before.before.before in
-    let s = sinkAt start.args.out.now start.args.ends.now start.args.to in
+    let s = sink_at start.args.out.now start.args.ends.now start.args.to in
     let e = sym none.before.both.ensures ∙ not-true _ none.if1.true in (
       waiting_none start.requires.0 start.args.mtu s e,
-      waiting-not-due start.requires.0 start.args.mtu s e,
+      waiting_not_due start.requires.0 start.args.mtu s e,
     )
 
-add-if2 : tie.Need-overflow-add-if2
-add-if2 c = let start = c.before.before.before.before.before.before.before.before.before.before in omega (arith, start.requires.0.of-sps.short)
+add_if2 : tie.Need-overflow-add-if2
+add_if2 c = let start = c.before.before.before.before.before.before.before.before.before.before in omega (arith, start.requires.0.of_sps.short)
 
-add-if2-2 : tie.Need-overflow-add-if2-2
-add-if2-2 c = let start = c.before.before.before.before.before.before.before.before.before.before.before in omega (arith, start.requires.0.of-sps.short, start.requires.0.of-pps.short)
+add_if2_2 : tie.Need-overflow-add-if2-2
+add_if2_2 c = let start = c.before.before.before.before.before.before.before.before.before.before.before in omega (arith, start.requires.0.of_sps.short, start.requires.0.of_pps.short)
 
 returns-2 : tie.Need-returns-2
 returns-2 c =
     let waits = c.before.before.before in
     let start = waits.before.before.before.before.before.before.before.before.before in
-    let s = sinkAt start.args.out.now start.args.ends.now start.args.to in
+    let s = sink_at start.args.out.now start.args.ends.now start.args.to in
     let e = sym waits.before.both.ensures ∙ not-false _ waits.if1.false in (
-      waiting-over start.requires.0 start.args.mtu s e c.if2.true,
-      waiting-dropped start.requires.0 start.args.mtu s e c.if2.true,
+      waiting_over start.requires.0 start.args.mtu s e c.if2.true,
+      waiting_dropped start.requires.0 start.args.mtu s e c.if2.true,
     )
 
 put-pair-requires : tie.Need-put-pair-requires
@@ -39,8 +39,8 @@ put-pair-requires c κs =
     let fits = c.before.before.before.before in
     let waits = fits.before.before.before in
     let start = waits.before.before.before.before.before.before.before.before.before in
-    let s = sinkAt start.args.out.now start.args.ends.now start.args.to in
-    waiting-room start.requires.0 start.args.mtu s
+    let s = sink_at start.args.out.now start.args.ends.now start.args.to in
+    waiting_room start.requires.0 start.args.mtu s
     (sym waits.before.both.ensures ∙ not-false _ waits.if1.false) fits.if2.false
     _ _ c.before.before.before.bytes.ensures c.before.before.bytes2.ensures start.requires.1
 
@@ -49,12 +49,12 @@ returns-3 c =
     let fits = c.before.before.before.before.before.before.before.before.before in
     let waits = fits.before.before.before in
     let start = waits.before.before.before.before.before.before.before.before.before in
-    let s = sinkAt start.args.out.now start.args.ends.now start.args.to in
+    let s = sink_at start.args.out.now start.args.ends.now start.args.to in
     let e = sym waits.before.both.ensures ∙ not-false _ waits.if1.false in (
       c.before.before.before.before.put-pair.ensures
-          ∙ waiting-sent start.requires.0 start.args.mtu s e fits.if2.false
+          ∙ waiting_sent start.requires.0 start.args.mtu s e fits.if2.false
           _ _ c.before.before.before.before.before.before.before.before.bytes.ensures c.before.before.before.before.before.before.before.bytes2.ensures,
-      waiting-told start.requires.0 start.args.mtu s e fits.if2.false,
+      waiting_told start.requires.0 start.args.mtu s e fits.if2.false,
     )
 
 pub put-waiting-spec : {M : Type 1} → statement M
@@ -63,8 +63,8 @@ put-waiting-spec =
     (tie.spec
     (λ c κs. search rules)
     returns
-    add-if2
-    add-if2-2
+    add_if2
+    add_if2_2
     returns-2
     (λ c κs. search rules)
     (λ c κs. search rules)

@@ -2,15 +2,15 @@
 use mathlib.Core.Path.{ap, ◌∙◌}
 use borrow.Author.Rules.{rules}
 use Rattle.header.specs.declared.Header.{Header}
-use Rattle.header.specs.Extension.{getExtension}
-use Rattle.header.proofs.Parts.{together-of}
+use Rattle.header.specs.Extension.{get_extension}
+use Rattle.header.proofs.Parts.{together_of}
 use Rattle.header.proofs.Header.get_extension.Statement.{statement}
 use Rattle.header.proofs.Header.get_extension.Tie as tie
 
 returns : tie.Need-returns
 returns c =
     let fixed = c.before.before.before.before.before.before in
-    c.get-extension-parts.ensures ∙ ap (λ (h : Header). getExtension h fixed.before.args.id) (together-of fixed.before.args.t1 fixed.fixed.ensures)
+    c.get-extension-parts.ensures ∙ ap (λ (h : Header). get_extension h fixed.before.args.id) (together_of fixed.before.args.t1 fixed.fixed.ensures)
 
 pub get-extension-spec : {M : Type 1} → statement M
 get-extension-spec = tie.close (tie.spec (λ c κs. search rules) (λ c κs. search rules) returns)

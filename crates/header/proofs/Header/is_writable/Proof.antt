@@ -3,12 +3,12 @@ use mathlib.Core.Path.{◌≡◌, sym, ap, ◌∙◌}
 use borrow.Author.Rules.{rules}
 use Rattle.header_write.specs.declared.Fixed.{Fixed}
 use Rattle.header_write.specs.Parts.{measured}
-use Rattle.header_write.specs.Said.{saidLength}
-use Rattle.header_write.proofs.Domain.{measured-says, measured-refuses}
+use Rattle.header_write.specs.Said.{said_length}
+use Rattle.header_write.proofs.Domain.{measured_says, measured_refuses}
 use Rattle.header.specs.declared.Header.{Header}
 use Rattle.header.specs.Parts.{fixed_of}
 use Rattle.header.proofs.Sizes.{Arrays}
-use Rattle.header.proofs.Writing.{fine-domain, not-fine}
+use Rattle.header.proofs.Writing.{fine_domain, not_fine}
 use Rattle.header.proofs.Header.is_writable.Statement.{statement}
 use Rattle.header.proofs.Header.is_writable.Tie as tie
 
@@ -22,7 +22,7 @@ arrays : (c : tie.Start) → Arrays (header c)
 arrays c = record { csrc = search rules; ids = search rules; lens = search rules; bytes = search rules }
 
 asked : (c : tie.After-measure) → let h = header (begun c) in
-    saidLength c.measure.result
+    said_length c.measure.result
     ≡ measured (fixed_of h) h.csrc_count h.extension_profile h.extensions.count h.extensions.ids h.extensions.lens h.extensions_padding
 asked c =
     let h = header (begun c) in
@@ -37,8 +37,8 @@ returns c =
     let m = c.before.before in
     let h = header (begun m) in
     sym
-    (fine-domain h (arrays (begun m))
-    (measured-says (fixed_of h) h.csrc_count h.extension_profile h.extensions.count h.extensions.ids h.extensions.lens
+    (fine_domain h (arrays (begun m))
+    (measured_says (fixed_of h) h.csrc_count h.extension_profile h.extensions.count h.extensions.ids h.extensions.lens
     h.extensions_padding m.measure.result (asked m) _ c.enum_told.given.1).0)
 
 returns-2 : tie.Need-returns-2
@@ -46,8 +46,8 @@ returns-2 c =
     let m = c.before.before in
     let h = header (begun m) in
     sym
-    (not-fine h (arrays (begun m))
-    (measured-refuses (fixed_of h) h.csrc_count h.extension_profile h.extensions.count h.extensions.ids h.extensions.lens
+    (not_fine h (arrays (begun m))
+    (measured_refuses (fixed_of h) h.csrc_count h.extension_profile h.extensions.count h.extensions.ids h.extensions.lens
     h.extensions_padding m.measure.result (asked m) _ c.enum-told2.given.1))
 
 pub is-writable-spec : {M : Type 1} → statement M

@@ -3,9 +3,9 @@ use mathlib.Core.Path.{ap, ◌∙◌}
 use borrow.Author.Rules.{rules}
 use lib.ListN.{length}
 use Rattle.header.specs.declared.Header.{Header}
-use Rattle.header.specs.Write.{writeHeader}
+use Rattle.header.specs.Write.{write_header}
 use Rattle.header.specs.Said.{written}
-use Rattle.header.proofs.Parts.{together-of}
+use Rattle.header.proofs.Parts.{together_of}
 use Rattle.header.proofs.Header.marshal_to.Statement.{statement}
 use Rattle.header.proofs.Header.marshal_to.Tie as tie
 
@@ -16,7 +16,7 @@ returns c =
     let a = fixed.before.before.args in
     let buf = a.buf.now in
     put.marshal-parts.ensures
-    ∙ ap (λ (h : Header). written buf (writeHeader h (length buf))) (together-of a.t1 fixed.fixed.ensures)
+    ∙ ap (λ (h : Header). written buf (write_header h (length buf))) (together_of a.t1 fixed.fixed.ensures)
 
 pub marshal-to-spec : {M : Type 1} → statement M
 marshal-to-spec =

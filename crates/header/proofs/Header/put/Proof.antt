@@ -7,51 +7,51 @@ use lib.ListN.{length, take}
 use borrow.Author.Rules.{rules}
 use Rattle.error.specs.Said.{says}
 use Rattle.elements.specs.declared.Extensions.{Extensions}
-use Rattle.elements.specs.Elements.{Element, data_of, elementsOf, sum}
-use Rattle.elements.specs.Runs.{element, replacedAt}
+use Rattle.elements.specs.Elements.{Element, data_of, elements_of, sum}
+use Rattle.elements.specs.Runs.{element, replaced_at}
 use Rattle.elements.proofs.Packed.{PackedIn}
-use Rattle.elements.proofs.Runs.{packed-by, Bounded, bounded}
-use Rattle.elements.proofs.Changes.{put-many, put-bytes}
+use Rattle.elements.proofs.Runs.{packed_by, Bounded, bounded}
+use Rattle.elements.proofs.Changes.{put_many, put_bytes}
 use Rattle.header.specs.declared.Header.{Header}
 use Rattle.header.specs.Extension.{extended, changed}
-use Rattle.header.specs.Said.{changeHeard}
-use Rattle.header.proofs.Changes.{too_many, too_long, room-left}
+use Rattle.header.specs.Said.{change_heard}
+use Rattle.header.proofs.Changes.{too_many, too_long_lem, room_left}
 use Rattle.header.proofs.Header.put.Statement.{statement}
 use Rattle.header.proofs.Header.put.Tie as tie
 
-packed-self : (c : tie.Start) → PackedIn c.args.t1.extensions
-packed-self c = packed-by c.args.t1.extensions c.args.run (search rules) (search rules) (search rules) c.requires
+packed_self : (c : tie.Start) → PackedIn c.args.t1.extensions
+packed_self c = packed_by c.args.t1.extensions c.args.run (search rules) (search rules) (search rules) c.requires
 
 lies : (c : tie.Start) → Bounded c.args.t1.extensions c.args.run
-lies c = bounded c.args.t1.extensions (packed-self c) c.args.run c.requires
+lies c = bounded c.args.t1.extensions (packed_self c) c.args.run c.requires
 
 -- the list with the element in its place
 abbrev put : tie.Start → List Element
-put c = replacedAt c.args.run (element c.args.id c.args.payload.now ∷ []) (elementsOf c.args.t1.extensions)
+put c = replaced_at c.args.run (element c.args.id c.args.payload.now ∷ []) (elements_of c.args.t1.extensions)
 
 many : (c : tie.Start) → length (put c) ≡ c.args.t1.extensions.count - c.args.run.count + 1
-many c = put-many c.args.t1.extensions (packed-self c) c.args.run c.requires c.args.id c.args.payload.now
+many c = put_many c.args.t1.extensions (packed_self c) c.args.run c.requires c.args.id c.args.payload.now
 
 bytes : (c : tie.Start) → length (data_of (put c))
     ≡ sum (take c.args.t1.extensions.count c.args.t1.extensions.lens) - c.args.run.len + length c.args.payload.now
-bytes c = put-bytes c.args.t1.extensions (packed-self c) c.args.run c.requires c.args.id c.args.payload.now
+bytes c = put_bytes c.args.t1.extensions (packed_self c) c.args.run c.requires c.args.id c.args.payload.now
 
-sub-if1 : tie.Need-overflow-sub-if1
-sub-if1 c = omega (arith, lies c.before.before)
+sub_if1 : tie.Need-overflow-sub-if1
+sub_if1 c = omega (arith, lies c.before.before)
 
 returns : tie.Need-returns
 returns c =
     let start = c.before.before.before.before in
     let a = start.args in
     c.refused.ensures
-    ∙ sym (ap (changeHeard a.t1)
+    ∙ sym (ap (change_heard a.t1)
     (too_many a.t1 a.profile (put start) a.padding (omega (arith, many start, c.before.if1.true))))
 
-sub-others : tie.Need-overflow-sub-others
-sub-others c = omega (arith, lies c.before.before.before.before.before.before.before, c.before.total.ensures)
+sub_others : tie.Need-overflow-sub-others
+sub_others c = omega (arith, lies c.before.before.before.before.before.before.before, c.before.total.ensures)
 
-sub-if2 : tie.Need-overflow-sub-if2
-sub-if2 c =
+sub_if2 : tie.Need-overflow-sub-if2
+sub_if2 c =
     omega (arith, c.before.total.ensures, c.before.before.before.before.before.before.before.requires.fits)
 
 returns-2 : tie.Need-returns-2
@@ -59,8 +59,8 @@ returns-2 c =
     let start = c.before.before.before.before.before.before.before.before.before in
     let a = start.args in
     c.refused2.ensures
-    ∙ sym (ap (changeHeard a.t1)
-    (too_long a.t1 a.profile (put start) a.padding
+    ∙ sym (ap (change_heard a.t1)
+    (too_long_lem a.t1 a.profile (put start) a.padding
     (omega (arith, many start, c.before.before.before.before.before.before.if1.false))
     (omega (arith, bytes start, c.before.before.before.total.ensures, c.before.if2.true, start.requires.fits))))
 
@@ -81,8 +81,8 @@ returns-3 c =
     let made : c.extended.result ≡ changed a.t1 a.profile (put start) a.padding =
     c.extended.ensures ∙ ap (λ (x : Extensions). extended a.t1 a.profile x a.padding) c.before.replaced.ensures in
     ap (λ (h : Header). record { answer = says tt; header = h }) made
-    ∙ sym (ap (changeHeard a.t1)
-    (room-left a.t1 a.profile (put start) a.padding
+    ∙ sym (ap (change_heard a.t1)
+    (room_left a.t1 a.profile (put start) a.padding
     (omega (arith, many start, c.before.before.before.before.before.before.before.before.if1.false))
     (omega (arith, bytes start, c.before.before.before.before.before.total.ensures, c.before.before.before.if2.false, lies start))))
 
@@ -90,12 +90,12 @@ pub put_spec : {M : Type 1} → statement M
 put_spec =
     tie.close
     (tie.spec
-    sub-if1
+    sub_if1
     (λ c κs. search rules)
     returns
     (λ c κs. omega (arith, c.before.before.before.before.before.requires.few))
-    sub-others
-    sub-if2
+    sub_others
+    sub_if2
     (λ c κs. search rules)
     returns-2
     replaced-requires

@@ -5,19 +5,19 @@ use native.Mathlib.Omega.{arith}
 use lib.ListN.{length}
 use borrow.Author.Rules.{rules}
 use Rattle.error.specs.Said.{Said}
-use Rattle.elements.specs.Elements.{elementsOf}
+use Rattle.elements.specs.Elements.{elements_of}
 use Rattle.elements.specs.Named.{find}
 use Rattle.elements.specs.Runs.{Holds}
 use Rattle.elements.proofs.Runs.{bounded}
 use Rattle.elements.proofs.Changes.{Placed}
-use Rattle.block.specs.Form.{form_of, perElement}
+use Rattle.block.specs.Form.{form_of, per_element}
 use Rattle.block.specs.Padding.{grown}
 use Rattle.header.specs.declared.Header.{Header}
 use Rattle.header.specs.declared.Change.{Change}
-use Rattle.header.specs.Extension.{change, setFound, setLater}
-use Rattle.header.specs.Said.{unless, saidChange, changeHeard}
+use Rattle.header.specs.Extension.{change, set_found, set_later}
+use Rattle.header.specs.Said.{unless, said_change, change_heard}
 use Rattle.header.proofs.Sizes.{Arrays, LimitsOf, limits_of, packed}
-use Rattle.header.proofs.Changes.{placed-in, holds-in}
+use Rattle.header.proofs.Changes.{placed_in, holds_in}
 use Rattle.header.proofs.Header.set_later.Statement.{statement}
 use Rattle.header.proofs.Header.set_later.Tie as tie
 
@@ -31,13 +31,13 @@ domain c = limits_of c.args.t1 c.requires
 abbrev next : tie.Start → Said Header
 next c =
     let a = c.args in
-    setFound a.t1 (elementsOf a.t1.extensions) a.id a.payload.now (find a.id 0 (elementsOf a.t1.extensions))
+    set_found a.t1 (elements_of a.t1.extensions) a.id a.payload.now (find a.id 0 (elements_of a.t1.extensions))
 
 abbrev asked : tie.Start → Said Header
-asked c = setLater c.args.t1 (elementsOf c.args.t1.extensions) c.args.id c.args.payload.now
+asked c = set_later c.args.t1 (elements_of c.args.t1.extensions) c.args.id c.args.payload.now
 
-later : (c : tie.After-allowed) → asked c.before.before ≡ unless (saidChange c.allowed.result) (next c.before.before)
-unfolding setLater
+later : (c : tie.After-allowed) → asked c.before.before ≡ unless (said_change c.allowed.result) (next c.before.before)
+unfolding set_later
 later c = c.allowed.ensures (next c.before.before)
 
 returns : tie.Need-returns
@@ -45,19 +45,19 @@ returns c =
     let checked = c.before.before.before.before in
     let start = checked.before.before in
     c.refused.ensures
-    ∙ sym (ap (changeHeard start.args.t1)
-    (later checked ∙ ap (λ (r : Change). unless (saidChange r) (next start)) c.before.before.answer.given.1))
+    ∙ sym (ap (change_heard start.args.t1)
+    (later checked ∙ ap (λ (r : Change). unless (said_change r) (next start)) c.before.before.answer.given.1))
 
 abbrev entry : tie.After-find → tie.Start
 entry c = c.before.before.before.before.before.before.before.before
 
 -- what is found, in the record's list
-found : (c : tie.After-find) → Placed (entry c).args.id (elementsOf (entry c).args.t1.extensions) c.find.result
+found : (c : tie.After-find) → Placed (entry c).args.id (elements_of (entry c).args.t1.extensions) c.find.result
 found c =
-    placed-in (entry c).args.t1 (arrays (entry c)) (entry c).requires (entry c).args.id c.find.result c.find.ensures
+    placed_in (entry c).args.t1 (arrays (entry c)) (entry c).requires (entry c).args.id c.find.result c.find.ensures
 
 holds : (c : tie.After-find) → Holds (entry c).args.t1.extensions c.find.result
-holds c = holds-in (entry c).args.t1 (arrays (entry c)) (entry c).requires c.find.result (found c).stands
+holds c = holds_in (entry c).args.t1 (arrays (entry c)) (entry c).requires c.find.result (found c).stands
 
 -- what is found is no longer than all data
 short : (c : tie.After-find) → c.find.result.len ≤ 1024
@@ -68,38 +68,38 @@ short c =
 taken : (c : tie.After-find) → asked (entry c) ≡ next (entry c)
 taken c =
     later c.before.before.before.before.before.before
-    ∙ ap (λ (r : Change). unless (saidChange r) (next (entry c))) c.before.before.before.before.enum_told.given.1
+    ∙ ap (λ (r : Change). unless (said_change r) (next (entry c))) c.before.before.before.before.enum_told.given.1
 
-add-grow : tie.Need-overflow-add-grow
-add-grow c = omega (arith, c.per-element.ensures.1)
+add_grow : tie.Need-overflow-add-grow
+add_grow c = omega (arith, c.per-element.ensures.1)
 
 returns-2 : tie.Need-returns-2
 returns-2 c =
-    let at-find = c.before.before.before.before.before in
-    let a = (entry at-find).args in
+    let at_find = c.before.before.before.before.before in
+    let a = (entry at_find).args in
     let h = a.t1 in
-    let es = elementsOf h.extensions in
+    let es = elements_of h.extensions in
     let none = c.before.before.before.if1.true in
     let pads : c.before.grow.result
-    ≡ grown h.extensions_padding (length a.payload.now + perElement (form_of h.extension_profile)) =
+    ≡ grown h.extensions_padding (length a.payload.now + per_element (form_of h.extension_profile)) =
     c.before.grow.ensures
     ∙ ap (λ (n : ℕ). grown h.extensions_padding (length a.payload.now + n)) c.before.before.per-element.ensures.0 in
     c.put.ensures
-    ∙ ap (changeHeard h)
-    (ap₂ (change h h.extension_profile) ((found at-find).appended none a.payload.now) pads
-    ∙ sym (taken at-find ∙ ap (setFound h es a.id a.payload.now) ((found at-find).none none)))
+    ∙ ap (change_heard h)
+    (ap₂ (change h h.extension_profile) ((found at_find).appended none a.payload.now) pads
+    ∙ sym (taken at_find ∙ ap (set_found h es a.id a.payload.now) ((found at_find).none none)))
 
 returns-3 : tie.Need-returns-3
 returns-3 c =
-    let at-find = c.before.before.before.before in
-    let a = (entry at-find).args in
+    let at_find = c.before.before.before.before in
+    let a = (entry at_find).args in
     let h = a.t1 in
-    let es = elementsOf h.extensions in
+    let es = elements_of h.extensions in
     let some = c.before.before.if1.false in
     c.put2.ensures
-    ∙ ap (changeHeard h)
-    (ap₂ (change h h.extension_profile) ((found at-find).replaced some a.payload.now) c.before.resize.ensures
-    ∙ sym (taken at-find ∙ ap (setFound h es a.id a.payload.now) ((found at-find).some some)))
+    ∙ ap (change_heard h)
+    (ap₂ (change h h.extension_profile) ((found at_find).replaced some a.payload.now) c.before.resize.ensures
+    ∙ sym (taken at_find ∙ ap (set_found h es a.id a.payload.now) ((found at_find).some some)))
 
 pub set-later-spec : {M : Type 1} → statement M
 set-later-spec =
@@ -112,7 +112,7 @@ set-later-spec =
     (λ c. search rules)
     (λ c κs. (domain c.before.before.before.before.before.before.before).elements)
     (λ c κs. search rules)
-    add-grow
+    add_grow
     (λ c κs. (domain (entry c.before.before.before)).zeros)
     (λ c κs. holds c.before.before.before.before)
     returns-2

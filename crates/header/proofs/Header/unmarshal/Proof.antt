@@ -2,9 +2,9 @@
 use mathlib.Core.Path.{ap, ◌∙◌}
 use borrow.Author.Rules.{rules}
 use Rattle.header.specs.declared.Header.{Header}
-use Rattle.header.specs.Read.{readHeader}
+use Rattle.header.specs.Read.{read_header}
 use Rattle.header.specs.Said.{heard}
-use Rattle.header.proofs.Fronts.{whole-heard}
+use Rattle.header.proofs.Fronts.{whole_heard}
 use Rattle.header.proofs.Header.unmarshal.Statement.{statement}
 use Rattle.header.proofs.Header.unmarshal.Tie as tie
 
@@ -12,7 +12,7 @@ returns : tie.Need-returns
 returns c =
     let q = c.before.before.unmarshal-parts in
     ap (λ (h : Header). heard (record { read = q.result.read; header = h })) c.with.ensures
-    ∙ whole-heard q.result _ (readHeader c.before.before.before.before.before.before.before.before.args.packet.now) q.ensures.0 q.ensures.1
+    ∙ whole_heard q.result _ (read_header c.before.before.before.before.before.before.before.before.args.packet.now) q.ensures.0 q.ensures.1
 
 pub unmarshal-spec : {M : Type 1} → statement M
 unmarshal-spec =

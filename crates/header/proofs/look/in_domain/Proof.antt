@@ -1,15 +1,15 @@
 -- The limits of a record are those of its parts, and each array, lent as a slice, tells its length.
 use borrow.Author.Rules.{rules}
-use Rattle.header.specs.Fields.{inDomain}
+use Rattle.header.specs.Fields.{in_domain}
 use Rattle.header.specs.Parts.{together}
 use Rattle.header.proofs.look.in_domain.Statement.{statement}
 use Rattle.header.proofs.look.in_domain.Tie as tie
 
 returns : tie.Need-returns
-unfolding inDomain together
+unfolding in_domain together
 returns c =
     record {
-      answer = c.in-limits.ensures;
+      answer = c.in_limits_lem.ensures;
       arrays = record { csrc = search rules; ids = search rules; lens = search rules; bytes = search rules };
     }
 

@@ -1,4 +1,4 @@
--- Three tests are all of `inWritingDomain` where there is nothing to count, and then the refusals and the octets are those of the record.
+-- Three tests are all of `in_writing_domain` where there is nothing to count, and then the refusals and the octets are those of the record.
 use mathlib.Core.Path.{sym, ap}
 use mathlib.Core.List.{List}
 use mathlib.Core.Logic.{⊎_elim}
@@ -7,14 +7,14 @@ use native.Mathlib.Omega.{arith}
 use lib.ListN.{length}
 use borrow.Author.Rules.{rules}
 use borrow.Author.Tests.{ltb-true, ltb-false}
-use Rattle.elements.specs.Elements.{layElements}
+use Rattle.elements.specs.Elements.{lay_elements}
 use Rattle.header.specs.declared.Header.{Header}
 use Rattle.header.specs.Fields.{fields_of}
-use Rattle.header.specs.Size.{headerSize}
+use Rattle.header.specs.Size.{header_size}
 use Rattle.header.specs.Said.{written}
 use Rattle.header.specs.Parts.{together, bare}
-use Rattle.header.proofs.Writing.{Measured, sized, octets-room, short-written, judge-written, put_written, write-outside}
-use Rattle.header.proofs.Parts.{bare-measured, bare-outside}
+use Rattle.header.proofs.Writing.{Measured, sized, octets_room, short_written, judge_written, put_written, write_outside}
+use Rattle.header.proofs.Parts.{bare_measured, bare_outside}
 use Rattle.header.proofs.write.marshal_bare.Statement.{statement}
 use Rattle.header.proofs.write.marshal_bare.Tie as tie
 
@@ -29,14 +29,14 @@ buffer c = c.args.buf.now
 abbrev known_start : tie.Else3 → tie.Start
 known_start c = c.before.before.before.before.before.before
 
-abbrev room-known : tie.Else4 → tie.Else3
-room-known c = c.before.before
+abbrev room_known : tie.Else4 → tie.Else3
+room_known c = c.before.before
 
-abbrev room-start : tie.Else4 → tie.Start
-room-start c = known_start (room-known c)
+abbrev room_start : tie.Else4 → tie.Start
+room_start c = known_start (room_known c)
 
-abbrev judged-room : tie.After-enum-told → tie.Else4
-judged-room c = c.before.before.before
+abbrev judged_room : tie.After-enum-told → tie.Else4
+judged_room c = c.before.before.before
 
 -- ---- 8
 
@@ -45,15 +45,15 @@ returns c =
     let start = c.before.before.before in
     sym
     (ap (written (buffer start))
-    (write-outside (header start) (length (buffer start))
-    (bare-outside start.args.fixed start.args.profile start.args.padding
+    (write_outside (header start) (length (buffer start))
+    (bare_outside start.args.fixed start.args.profile start.args.padding
     (λ v t z.
     ⊎_elim (λ h. omega arith) (λ h. ⊎_elim (λ i. omega (arith, ltb-true)) (λ i. omega (arith, ltb-true)) h) c.if1.branch))))
 
 known : (c : tie.Else3) → Measured (header (known_start c)) 0
 known c =
     let a = (known_start c).args in
-    bare-measured a.fixed a.profile a.padding (omega arith) (omega (arith, ltb-false)) (omega (arith, ltb-false))
+    bare_measured a.fixed a.profile a.padding (omega arith) (omega (arith, ltb-false)) (omega (arith, ltb-false))
 
 -- ---- 5
 
@@ -62,39 +62,39 @@ unfolding bare together
 returns-2 c =
     let k = c.before.before in
     let start = known_start k in
-    short-written (header start) 0 (known k) (buffer start) (omega (arith, c.before.type_size.ensures, c.if4.true))
+    short_written (header start) 0 (known k) (buffer start) (omega (arith, c.before.type_size.ensures, c.if4.true))
 
-roomy : (c : tie.Else4) → headerSize (fields_of (header (room-start c))) ≤ length (buffer (room-start c))
+roomy : (c : tie.Else4) → header_size (fields_of (header (room_start c))) ≤ length (buffer (room_start c))
 unfolding bare together
-roomy c = omega (arith, sized (header (room-start c)) 0 (known (room-known c)), c.before.type_size.ensures, c.if4.false)
+roomy c = omega (arith, sized (header (room_start c)) 0 (known (room_known c)), c.before.type_size.ensures, c.if4.false)
 
 -- ---- 9, 10
 
 returns-3 : tie.Need-returns-3
-unfolding bare together layElements
+unfolding bare together lay_elements
 returns-3 c =
     let room = c.before.before.before in
-    let start = room-start room in
+    let start = room_start room in
     let j = c.before.before.judge in
-    judge-written (header start) 0 (known (room-known room)) (buffer start) (roomy room) j.result j.ensures _ c.enum-told2.given.1
+    judge_written (header start) 0 (known (room_known room)) (buffer start) (roomy room) j.result j.ensures _ c.enum-told2.given.1
 
 -- ---- the octets
 
 put-bare-requires : tie.Need-put-bare-requires
-unfolding bare together layElements
+unfolding bare together lay_elements
 put-bare-requires c κs =
-    let room = judged-room c.before in
-    let m = known (room-known room) in
-    ((m.can.version, m.can.type), octets-room (header (room-start room)) 0 m (length (buffer (room-start room))) (roomy room))
+    let room = judged_room c.before in
+    let m = known (room_known room) in
+    ((m.can.version, m.can.type), octets_room (header (room_start room)) 0 m (length (buffer (room_start room))) (roomy room))
 
 returns-4 : tie.Need-returns-4
-unfolding bare together layElements
+unfolding bare together lay_elements
 returns-4 c =
     let judged = c.before.before.before.before in
-    let room = judged-room judged in
-    let start = room-start room in
+    let room = judged_room judged in
+    let start = room_start room in
     let j = judged.before.before.judge in
-    put_written (header start) 0 (known (room-known room)) (buffer start) (roomy room) j.result j.ensures _ judged.enum_told.given.1 _ _
+    put_written (header start) 0 (known (room_known room)) (buffer start) (roomy room) j.result j.ensures _ judged.enum_told.given.1 _ _
     c.before.before.put-bare.ensures
 
 pub marshal-bare-spec : {M : Type 1} → statement M

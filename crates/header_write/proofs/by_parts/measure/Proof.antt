@@ -8,10 +8,10 @@ use borrow.Author.Rules.{rules}
 use borrow.Author.Tests.{ltb-true, ltb-false}
 use Rattle.error.specs.Said.{Said, says, refuse}
 use Rattle.block.specs.Form.{form_of}
-use Rattle.block.proofs.Form.{heads-few}
-use Rattle.block_write.proofs.Octets.{weight-fit, weight-within}
+use Rattle.block.proofs.Form.{heads_few}
+use Rattle.block_write.proofs.Octets.{weight_fit, weight_within}
 use Rattle.header_write.specs.Parts.{measured}
-use Rattle.header_write.proofs.Domain.{Fine, measured-fine, measured-outside}
+use Rattle.header_write.proofs.Domain.{Fine, measured_fine, measured_outside}
 use Rattle.header_write.proofs.by_parts.measure.Statement.{statement}
 use Rattle.header_write.proofs.by_parts.measure.Tie as tie
 
@@ -24,7 +24,7 @@ asked c = let a = c.args in measured a.fixed a.csrc-count a.profile a.count a.id
 outside : (c : tie.Start) → (Can c → ⊥) → refuse 8 ≡ asked c
 outside c out =
     let a = c.args in
-    sym (measured-outside a.fixed a.csrc-count a.profile a.count a.ids.now a.lens.now a.padding out)
+    sym (measured_outside a.fixed a.csrc-count a.profile a.count a.ids.now a.lens.now a.padding out)
 
 returns : tie.Need-returns
 returns c =
@@ -44,7 +44,7 @@ returns-3 c =
     let a = start.args in
     outside start
     (λ w.
-    let weight = weight-fit (form_of a.profile) (take a.count a.ids.now) (take a.count a.lens.now) w.fit in
+    let weight = weight_fit (form_of a.profile) (take a.count a.ids.now) (take a.count a.lens.now) w.fit in
     omega (arith, w.limits.bytes, c.if6.true, c.before.weigh.ensures))
 
 -- the heads of 32 elements
@@ -52,14 +52,14 @@ heads : (c : tie.After-per-element) → let a = c.before.before.before.before.be
     a.count * c.per-element.result ≤ 64
 heads c =
     let a = c.before.before.before.before.before.before.before.before.before.before.args in
-    rw c.per-element.ensures.0 (heads-few a.profile a.count (omega (arith, ltb-false)))
+    rw c.per-element.ensures.0 (heads_few a.profile a.count (omega (arith, ltb-false)))
 
 returns-4 : tie.Need-returns-4
 returns-4 c =
     let weighed = c.before.before in
     let start = weighed.before.before.before.before.before.before.before.before in
     let a = start.args in
-    let w = weight-within (form_of a.profile) (take a.count a.ids.now) (take a.count a.lens.now)
+    let w = weight_within (form_of a.profile) (take a.count a.ids.now) (take a.count a.lens.now)
     (omega (arith, c.before.if6.false, weighed.weigh.ensures)) in
     let many = weighed.before.before.before.before.before.before.if2.false in
     let zeros = weighed.before.before.before.before.before.if3.false in
@@ -75,7 +75,7 @@ returns-4 c =
       fit = w.0;
     } in
     ap₂ (λ (n k : ℕ). says (n + a.count * k)) (weighed.weigh.ensures ∙ w.1) c.per-element.ensures.0
-    ∙ sym (measured-fine a.fixed a.csrc-count a.profile a.count a.ids.now a.lens.now a.padding fine)
+    ∙ sym (measured_fine a.fixed a.csrc-count a.profile a.count a.ids.now a.lens.now a.padding fine)
 
 pub measure-spec : {M : Type 1} → statement M
 measure-spec =

@@ -7,9 +7,9 @@ use lib.ListN.{length, take}
 use lib.Seq.{length-take-le}
 use borrow.Author.Rules.{rules}
 use Rattle.wire.specs.Part.{splice, Put}
-use Rattle.elements.specs.Elements.{Element, elementsIn}
-use Rattle.header_write.specs.Fixed.{csrcOctets, fixedFor}
-use Rattle.header_write.proofs.Octets.{figure, figure-put, figure-fits, extension-fits, put_on, put-off}
+use Rattle.elements.specs.Elements.{Element, elements_in}
+use Rattle.header_write.specs.Fixed.{csrc_octets, fixed_for}
+use Rattle.header_write.proofs.Octets.{figure, figure_put, figure_fits, extension_fits, put_on, put_off}
 use Rattle.header_write.proofs.by_parts.put_header.Statement.{statement}
 use Rattle.header_write.proofs.by_parts.put_header.Tie as tie
 
@@ -17,13 +17,13 @@ abbrev sources : tie.Start → List ℕ
 sources c = take c.args.csrc-count c.args.csrc.now
 
 abbrev elements : tie.Start → List Element
-elements c = elementsIn c.args.count c.args.ids.now c.args.lens.now c.args.bytes.now
+elements c = elements_in c.args.count c.args.ids.now c.args.lens.now c.args.bytes.now
 
 abbrev begun : tie.After-put-csrcs → tie.Start
 begun c = c.before.before.before.before.before.before.before.before.before.before
 
-room : (c : tie.Start) → 12 + length (csrcOctets (sources c)) ≤ length c.args.buf.now
-room c = omega (arith, figure-fits c.args.fixed (sources c) c.args.profile c.args.len (elements c), c.requires.1.1.1.1.1)
+room : (c : tie.Start) → 12 + length (csrc_octets (sources c)) ≤ length c.args.buf.now
+room c = omega (arith, figure_fits c.args.fixed (sources c) c.args.profile c.args.len (elements c), c.requires.1.1.1.1.1)
 
 put-csrcs-requires : tie.Need-put-csrcs-requires
 put-csrcs-requires c κs =
@@ -35,11 +35,11 @@ put : (c : tie.After-put-csrcs) → Put (begun c).args.buf.now 0 (figure (begun 
 put c =
     let a = (begun c).args in
     let fixed = c.before.before.before.before.before in
-    figure-put a.fixed a.buf.now fixed.put-fixed.new.0 c.put-csrcs.new.0 a.csrc-count (sources (begun c)) c.put-csrcs.result
+    figure_put a.fixed a.buf.now fixed.put-fixed.new.0 c.put-csrcs.new.0 a.csrc-count (sources (begun c)) c.put-csrcs.result
     (sym (length-take-le a.csrc-count a.csrc.now (begun c).requires.1.0.1))
     (fixed.put-fixed.ensures
-    ∙ ap₂ (λ (b d : ℕ). splice a.buf.now 0 (fixedFor b d a.fixed.sequence_number a.fixed.timestamp a.fixed.ssrc []))
-    fixed.before.before.before.first-octet.ensures fixed.before.before.second-octet.ensures)
+    ∙ ap₂ (λ (b d : ℕ). splice a.buf.now 0 (fixed_for b d a.fixed.sequence_number a.fixed.timestamp a.fixed.ssrc []))
+    fixed.before.before.before.first_octet_lem.ensures fixed.before.before.second_octet_lem.ensures)
     c.put-csrcs.ensures
 
 kept : (c : tie.After-put-csrcs) → length c.put-csrcs.new.0 ≡ length (begun c).args.buf.now
@@ -51,7 +51,7 @@ put-extension-requires c κs =
     let done = on.before.before.before in
     let start = begun done in
     let a = start.args in
-    let fits = extension-fits a.fixed (sources start) a.profile a.len (elements start) on.if1.true done.put-csrcs.result
+    let fits = extension_fits a.fixed (sources start) a.profile a.len (elements start) on.if1.true done.put-csrcs.result
     (omega (arith, (put done).next)) in
     (start.pre.1.1.0, (start.pre.1.1.1.0, (start.pre.1.1.1.1.0, omega (arith, fits, start.pre.1.1.1.1.1, kept done))))
 
@@ -69,7 +69,7 @@ returns-2 c =
     let done = c.before.before.before in
     let start = begun done in
     let a = start.args in
-    put-off a.fixed (sources start) a.profile a.len (elements start) c.if1.false a.buf.now done.put-csrcs.new.0
+    put_off a.fixed (sources start) a.profile a.len (elements start) c.if1.false a.buf.now done.put-csrcs.new.0
     done.put-csrcs.result (put done)
 
 pub put-header-spec : {M : Type 1} → statement M

@@ -7,21 +7,21 @@ use lib.ListN.{length, set, length-set}
 use borrow.Author.Rules.{rules}
 use Rattle.wire.specs.Net.{be16, be32}
 use Rattle.wire.specs.Part.{splice}
-use Rattle.wire.proofs.Part.{splice-one, splice-push, splice-on}
-use Rattle.header_write.specs.Fixed.{fixedFor}
+use Rattle.wire.proofs.Part.{splice_one, splice_push, splice_on}
+use Rattle.header_write.specs.Fixed.{fixed_for}
 use Rattle.header_write.proofs.figure.put_fixed.Statement.{statement}
 use Rattle.header_write.proofs.figure.put_fixed.Tie as tie
 
 figure : (buf : List ℕ) (a b number time ssrc : ℕ) → 12 ≤ length buf →
     splice (splice (splice (set (set buf 0 a) 1 b) 2 (be16 number)) 4 (be32 time)) 8 (be32 ssrc)
-    ≡ splice buf 0 (fixedFor a b number time ssrc [])
-unfolding fixedFor be16 be32
+    ≡ splice buf 0 (fixed_for a b number time ssrc [])
+unfolding fixed_for be16 be32
 figure buf a b number time ssrc h =
-    ap (λ (l : List ℕ). splice (splice (splice (set l 1 b) 2 (be16 number)) 4 (be32 time)) 8 (be32 ssrc)) (splice-one buf 0 a (omega arith))
-    ∙ ap (λ (l : List ℕ). splice (splice (splice l 2 (be16 number)) 4 (be32 time)) 8 (be32 ssrc)) (splice-push buf 0 (a ∷ []) b (omega arith))
-    ∙ ap (λ (l : List ℕ). splice (splice l 4 (be32 time)) 8 (be32 ssrc)) (splice-on buf 0 (a ∷ b ∷ []) (be16 number) (omega arith))
-    ∙ ap (λ (l : List ℕ). splice l 8 (be32 ssrc)) (splice-on buf 0 (a ∷ b ∷ be16 number) (be32 time) (omega arith))
-    ∙ splice-on buf 0 (a ∷ b ∷ (be16 number ++ be32 time)) (be32 ssrc) (omega arith)
+    ap (λ (l : List ℕ). splice (splice (splice (set l 1 b) 2 (be16 number)) 4 (be32 time)) 8 (be32 ssrc)) (splice_one buf 0 a (omega arith))
+    ∙ ap (λ (l : List ℕ). splice (splice (splice l 2 (be16 number)) 4 (be32 time)) 8 (be32 ssrc)) (splice_push buf 0 (a ∷ []) b (omega arith))
+    ∙ ap (λ (l : List ℕ). splice (splice l 4 (be32 time)) 8 (be32 ssrc)) (splice_on buf 0 (a ∷ b ∷ []) (be16 number) (omega arith))
+    ∙ ap (λ (l : List ℕ). splice l 8 (be32 ssrc)) (splice_on buf 0 (a ∷ b ∷ be16 number) (be32 time) (omega arith))
+    ∙ splice_on buf 0 (a ∷ b ∷ (be16 number ++ be32 time)) (be32 ssrc) (omega arith)
 
 put-u16-requires : tie.Need-put-u16-requires
 put-u16-requires c κs = simp length-set (omega arith)

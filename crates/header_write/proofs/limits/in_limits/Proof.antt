@@ -1,4 +1,4 @@
--- The tests go in the order of `inLimits`.
+-- The tests go in the order of `in_limits`.
 use mathlib.Core.Path.{◌≡◌, refl, sym, ap, ◌∙◌}
 use mathlib.Core.Bool.{Bool, true, false, ◌&&◌}
 use native.Mathlib.Omega.{arith}

@@ -45,9 +45,9 @@ use denote.Triple.Walked.{says, Stays, stay_ref, stay_dropped, gave_slice, walk_
 use denote.Exit.{yes}
 use Rattle.joiner.specs.declared.Joiner.{Joiner}
 use Rattle.joiner.specs.declared.Step.{Step}
-use Rattle.joiner.specs.Join.{joinStep}
-use Rattle.joiner.specs.Said.{stepHeard}
-use Rattle.joiner.proofs.Records.{vals, answer, slice, parts, typed, typed-step, typed-answer}
+use Rattle.joiner.specs.Join.{join_step}
+use Rattle.joiner.specs.Said.{step_heard}
+use Rattle.joiner.proofs.Records.{vals, answer, slice, parts, typed, typed_step, typed_answer}
 use Rattle.joiner.specs.contracts.Joiner as J
 use Rattle.joiner.proofs.Joiner.TheLaws as J'
 use Rattle.joiner.specs.contracts.Joined as R
@@ -104,17 +104,17 @@ module _ {M : Type 1} {𝓤 : Ura M} (𝓛 : Logic 𝓤) (at_mem : Memory → SP
   Tokens = alive 𝓛 joins.signature κs qs
 
   -- what `join`'s triple binds outside: the slices' own lifetimes, shares and values
-  abbrev to-join : (Join 𝓛 at_mem run).Ghost
-  to-join = ((κs, qs, tt, (j.now, a.1), (vals j.now, at.1)), tt)
+  abbrev to_join : (Join 𝓛 at_mem run).Ghost
+  to_join = ((κs, qs, tt, (j.now, a.1), (vals j.now, at.1)), tt)
 
-  goes : ent 𝓤 (sep 𝓤 Tokens (sep 𝓤 (sem 𝓛 ((J.the_row).own_val j.now (vals j.now))) (sem 𝓛 Slices))) ((Join 𝓛 at_mem run).pre to-join)
+  goes : ent 𝓤 (sep 𝓤 Tokens (sep 𝓤 (sem 𝓛 ((J.the_row).own_val j.now (vals j.now))) (sem 𝓛 Slices))) ((Join 𝓛 at_mem run).pre to_join)
   goes =
       qed 𝓛 (raw Tokens ∷ ‵ ((J.the_row).own_val j.now (vals j.now)) ∷ ‵ Slices ∷ []) ∵
       move ! (1 ∷ 2 ∷ []) $ fjoin ! $ move ! (1 ∷ 0 ∷ []) $ join ! $ frame ! $ done !
 
   -- what `join` ensures of its answer r and of the last lists gs and os
   abbrev Told : Step → List ℕ → List ℕ → Type 0
-  Told r gs os = stepHeard r gs os ≡ joinStep j.now packet.now gather.now out.now
+  Told r gs os = step_heard r gs os ≡ join_step j.now packet.now gather.now out.now
 
   -- what the walk has at its end: the record's borrow at the joiner answered, the tokens, and what says the last lists
   abbrev Ends : Step → List ℕ → List ℕ → List (Item 𝓤)
@@ -144,16 +144,16 @@ module _ {M : Type 1} {𝓤 : Ura M} (𝓛 : Logic 𝓤) (at_mem : Memory → SP
         -- the record's borrow is opened
         move ! (23 ∷ []) $ fsplit ! $ fsplit3 ! $ drop ! $ move ! (25 ∷ []) $ split ! $ move ! (2 ∷ 3 ∷ 0 ∷ []) $
         opens ! tt J.the_row {h = j.now} j.ref_ptr.0 j.ref_ptr.1 (λ vs. spelt ! J.the_row (Is J.the_row) (shows 𝓛 J.the_row) vals (LL.tells J.the_type J'.the_laws) full_share j.now vs j.ref_ptr.0 j.ref_ptr.1 $
-        move ! (1 ∷ []) $ peeks ! J.the_row (Is J.the_row) (shows 𝓛 J.the_row) j.now (vals j.now) (λ is-old. move ! (1 ∷ 0 ∷ []) $
+        move ! (1 ∷ []) $ peeks ! J.the_row (Is J.the_row) (shows 𝓛 J.the_row) j.now (vals j.now) (λ is_old. move ! (1 ∷ 0 ∷ []) $
         -- [the record's cell; what a Joiner owns; the open borrow; obs; auth; the other tokens; the slices; _10; …; _1; …; room for _0; …]
-        assigns ! (of_opd ! (load ! (from ! (hop ! (look ! 25 refl) (stop !))) (look_raw ! 0 refl))) (from ! (stop !)) (init ! 17 refl (typed 𝓛 j.now is-old)) $
+        assigns ! (of_opd ! (load ! (from ! (hop ! (look ! 25 refl) (stop !))) (look_raw ! 0 refl))) (from ! (stop !)) (init ! 17 refl (typed 𝓛 j.now is_old)) $
         assigns ! (addr ! (from ! (fld ! refl (hop ! (look_in ! 21 (sub ! 0 refl (whole !))) (stop !))))) (from ! (stop !)) (init ! 13 refl (tt, tt)) $
         assigns ! (agg ! (and_then ! (load ! (from ! (stop !)) (look ! 13 refl)) (and_then ! (load ! (from ! (fld ! refl (stop !))) (look_in ! 21 (sub ! 1 refl (whole !)))) (no_more !)))) (from ! (stop !)) (init ! 11 refl (tt, (tt, (record { fits = fits-g.0 }, tt)))) $
         assigns ! (addr ! (from ! (fld ! refl (hop ! (look_in ! 19 (sub ! 0 refl (whole !))) (stop !))))) (from ! (stop !)) (init ! 9 refl (tt, tt)) $
         assigns ! (agg ! (and_then ! (load ! (from ! (stop !)) (look ! 9 refl)) (and_then ! (load ! (from ! (fld ! refl (stop !))) (look_in ! 19 (sub ! 1 refl (whole !)))) (no_more !)))) (from ! (stop !)) (init ! 7 refl (tt, (tt, (record { fits = fits-o.0 }, tt)))) $
         -- `join`, at some answer r and some last lists
-        move ! (5 ∷ 1 ∷ 6 ∷ []) $ use3 𝓛 (raw ((Join 𝓛 at_mem run).pre to-join)) goes $
-        calls_at ! fm (Join 𝓛 at_mem run) known to-join (and_then ! (load ! (from ! (stop !)) (look ! 15 refl)) (and_then ! (load ! (from ! (stop !)) (look ! 21 refl)) (and_then ! (load ! (from ! (stop !)) (look ! 9 refl)) (and_then ! (load ! (from ! (stop !)) (look ! 5 refl)) (no_more !))))) (λ w.
+        move ! (5 ∷ 1 ∷ 6 ∷ []) $ use3 𝓛 (raw ((Join 𝓛 at_mem run).pre to_join)) goes $
+        calls_at ! fm (Join 𝓛 at_mem run) known to_join (and_then ! (load ! (from ! (stop !)) (look ! 15 refl)) (and_then ! (load ! (from ! (stop !)) (look ! 21 refl)) (and_then ! (load ! (from ! (stop !)) (look ! 9 refl)) (and_then ! (load ! (from ! (stop !)) (look ! 5 refl)) (no_more !))))) (λ w.
         use1 𝓛 (later (some (λ (r : Step). (raw Tokens ⊛ ‵ ((S.the_row).own_val r (w ∷ []))) ⊛ raw (ensured 𝓛 joins.ended (joins.clauses 𝓛 at_mem run) κs (j.now, a.1) tt r)))) (id⊢ 𝓤 _) $
         await ! tt $ pick ! (λ r.
         split ! $ move ! (1 ∷ []) $
@@ -164,11 +164,11 @@ module _ {M : Type 1} {𝓤 : Ura M} (𝓛 : Logic 𝓤) (at_mem : Memory → SP
         move ! (1 ∷ []) $ feq_l ! (λ lo.
         -- [out's last list; true; gather's last list; the tokens and the answer; the record's cell; the open borrow; obs; auth; _10; …]
         move ! (3 ∷ []) $ split ! $ move ! (1 ∷ []) $ peeks ! S.the_row (Is S.the_row) (shows 𝓛 S.the_row) r (w ∷ []) (λ is.
-        land ! (from ! (stop !)) (init ! 17 refl (typed-step 𝓛 r w is)) $
+        land ! (from ! (stop !)) (init ! 17 refl (typed_step 𝓛 r w is)) $
         rewrite ! 17 (λ (u : Val). ‵ (fat full_share S'.mir l₆ 0 u)) (ap only (LL.tells S.the_type S'.the_laws r _ is)) refl $
         -- [what the Step owns; the other tokens; out's last list; true; gather's last list; the record's cell; the open borrow; obs; auth; _10; …]
         assigns ! (of_opd ! (load ! (from ! (fld ! refl (stop !))) (look_in ! 17 (sub ! 0 refl (whole !))))) (from ! (hop ! (look ! 27 refl) (stop !))) (store_raw ! 5 refl (typed 𝓛 r.joiner (parts r w is).0)) $
-        assigns ! (of_opd ! (load ! (from ! (fld ! refl (stop !))) (look_in ! 17 (sub ! 1 refl (whole !))))) (from ! (stop !)) (init ! 29 refl (typed-answer 𝓛 r.answer (answer r.answer) (parts r w is).1)) $
+        assigns ! (of_opd ! (load ! (from ! (fld ! refl (stop !))) (look_in ! 17 (sub ! 1 refl (whole !))))) (from ! (stop !)) (init ! 29 refl (typed_answer 𝓛 r.answer (answer r.answer) (parts r w is).1)) $
         -- the borrow is closed at the joiner that was answered
         owned ! J.the_row (Is J.the_row) (LL.makes J.the_type J'.the_plain 𝓛) r.joiner (vals r.joiner) (parts r w is).0 $
         move ! (6 ∷ 0 ∷ 7 ∷ 8 ∷ 9 ∷ []) $ closes ! tt J.the_row r.joiner (vals r.joiner) j.ptr.0 j.ptr.1 $
@@ -184,8 +184,8 @@ module _ {M : Type 1} {𝓤 : Ura M} (𝓛 : Logic 𝓤) (at_mem : Memory → SP
 module _ {M : Type 1} {𝓤 : Ura M} (𝓛 : Logic 𝓤) (at_mem : Memory → SProp 𝓤) (run : Routine → Fun 𝓤) where
   open 𝓛 use {H}
 
-  place-walks : (C : Calls 𝓤 H) (Λ : Loops 𝓤 H) → FmC 𝓤 H 𝓛.laws C → Triple 𝓤 (C #joiner·Joiner·join) (Join 𝓛 at_mem run) → Walks 𝓛 place.ended stayed (WpFn 𝓤 H C Λ code.function) (place.clauses 𝓛 at_mem run)
-  place-walks C Λ fm known = walked 𝓛 place.ended stayed (place.clauses 𝓛 at_mem run) (WpFn 𝓤 H C Λ code.function)
+  place_walks : (C : Calls 𝓤 H) (Λ : Loops 𝓤 H) → FmC 𝓤 H 𝓛.laws C → Triple 𝓤 (C #joiner·Joiner·join) (Join 𝓛 at_mem run) → Walks 𝓛 place.ended stayed (WpFn 𝓤 H C Λ code.function) (place.clauses 𝓛 at_mem run)
+  place_walks C Λ fm known = walked 𝓛 place.ended stayed (place.clauses 𝓛 at_mem run) (WpFn 𝓤 H C Λ code.function)
       (λ κs. (mut_vals, (shr_slice_vals, (mut_slice_vals, (mut_slice_vals, tt))))) (λ κs. (mut_Tells (named 0) κs.0 J.the_row, (shr_slice_Tells (named 1) κs.1.0 u8, (mut_slice_Tells (named 2) κs.1.1.0 u8, (mut_slice_Tells (named 3) κs.1.1.1.0 u8, tt)))))
       (λ κs qs bounds a _ are. via 𝓤 _ (fst∗ 𝓤 _ (emp 𝓤))
       (walk 𝓛 at_mem run κs.0 κs.1 qs.0 qs.1 a.0 a.1.0 a.1.1.0 a.1.1.1.0 C Λ fm known are.1.0.0.1 are.1.1.0.0.1 are.1.1.1.0.0.1))
@@ -199,16 +199,16 @@ module _ {M : Type 1} {𝓤 : Ura M} (𝓛 : Logic 𝓤) (at_mem : Memory → SP
     ),
   )
 
-place-meets : {M : Type 1} {𝓤 : Ura M} (𝓛 : Logic 𝓤) → (at_mem : Memory → SProp 𝓤) (run : Routine → Fun 𝓤) (𝓣 : Tables 𝓤 𝓛.H) → Triple 𝓤 (𝓣.C #joiner·Joiner·join) (Join 𝓛 at_mem run)
+place_meets : {M : Type 1} {𝓤 : Ura M} (𝓛 : Logic 𝓤) → (at_mem : Memory → SProp 𝓤) (run : Routine → Fun 𝓤) (𝓣 : Tables 𝓤 𝓛.H) → Triple 𝓤 (𝓣.C #joiner·Joiner·join) (Join 𝓛 at_mem run)
     → Meets 𝓛 place.signature (WpFn 𝓤 𝓛.H 𝓣.C 𝓣.Λ code.function) (place.spec 𝓛 at_mem run)
-place-meets {𝓤 = 𝓤} 𝓛 at_mem run 𝓣 known =
+place_meets {𝓤 = 𝓤} 𝓛 at_mem run 𝓣 known =
     walk_Meets 𝓛 place.ended stayed (all_go 𝓛 at_mem run) (place.clauses 𝓛 at_mem run)
-    (WpFn 𝓤 𝓛.H 𝓣.C 𝓣.Λ code.function) (WpFn-mono 𝓤 𝓛.H 𝓛.laws 𝓣 code.function) (place-walks 𝓛 at_mem run 𝓣.C 𝓣.Λ (fm_of 𝓤 𝓛.H 𝓛.laws 𝓣) known)
+    (WpFn 𝓤 𝓛.H 𝓣.C 𝓣.Λ code.function) (WpFn-mono 𝓤 𝓛.H 𝓛.laws 𝓣 code.function) (place_walks 𝓛 at_mem run 𝓣.C 𝓣.Λ (fm_of 𝓤 𝓛.H 𝓛.laws 𝓣) known)
 
 pub join-in-place-spec : {M : Type 1} → stated.statement M
 unfolding code.routine tables_of
 join-in-place-spec 𝓤 𝓛 𝓜 𝓡 =
     entered 𝓤 𝓛.H (triple_of 𝓛 place.signature (place.spec 𝓛 𝓜.mem 𝓡.run))
     (tables 𝓤 𝓛.H 𝓜 𝓡 code.env).C (tables 𝓤 𝓛.H 𝓜 𝓡 code.env).Λ #joiner·place·join-in-place code.function (code.unfolded 𝓤 𝓛.H 𝓜 𝓡)
-    (place-meets 𝓛 𝓜.mem 𝓡.run (tables_of 𝓤 𝓛.H 𝓜 (tables 𝓤 𝓛.H 𝓜 𝓡 code.env))
+    (place_meets 𝓛 𝓜.mem 𝓡.run (tables_of 𝓤 𝓛.H 𝓜 (tables 𝓤 𝓛.H 𝓜 𝓡 code.env))
     (cited 𝓤 𝓛.H (Join 𝓛 𝓜.mem 𝓡.run) 𝓜 𝓡 code.env #joiner·Joiner·join join-def.routine code.calls-joiner::Joiner::join (join-thm.met 𝓤 𝓛 𝓜 𝓡)))

@@ -5,10 +5,10 @@ use Prim.Native.Nat.{ℕ, ◌+◌, ◌-◌}
 use native.Mathlib.Omega.{arith}
 use lib.ListN.{length}
 use borrow.Author.Rules.{rules}
-use Rattle.wire.specs.Net.{u16At}
-use Rattle.nal.specs.Said.{measureOf}
+use Rattle.wire.specs.Net.{u16_at}
+use Rattle.nal.specs.Said.{measure_of}
 use Rattle.nal.specs.Unpack.{right, past}
-use Rattle.nal.proofs.Unpacking.{going-first, going_end, going-cut, going-past, Measuring, measuring-unit}
+use Rattle.nal.proofs.Unpacking.{going_first, going_end, going_cut, going_past, Measuring, measuring_unit}
 use Rattle.nal.proofs.aggregate.measure.Statement.{statement}
 use Rattle.nal.proofs.aggregate.measure.Tie as tie
 
@@ -18,18 +18,18 @@ invariant-loop sized at₀ count₀ bytes₀ at count bytes = Measuring sized at
 abbrev decreases-loop : tie.decreases-loop
 decreases-loop sized at₀ count₀ bytes₀ at count bytes = length sized - at
 
-loop-holds : tie.Need-loop-init invariant-loop decreases-loop
-loop-holds c =
-    record { units = []; going = going-first _; many = refl; long = refl; fewer-than = omega arith; shorter = omega arith }
+loop_holds : tie.Need-loop-init invariant-loop decreases-loop
+loop_holds c =
+    record { units = []; going = going_first _; many = refl; long = refl; fewer_than = omega arith; shorter = omega arith }
 
 returns : tie.Need-returns invariant-loop decreases-loop
 returns c =
     let m = c.before.before.loop.invariant in
-    sym (ap measureOf (going-cut _ _ _ m.units m.going (search rules) c.if1.true))
+    sym (ap measure_of (going_cut _ _ _ m.units m.going (search rules) c.if1.true))
 
 -- the size that the code reads is the one that the packet says
 size : (c : tie.After-wide16 invariant-loop decreases-loop) →
-    c.wide16.result ≡ u16At c.before.before.before.before.before.before.args.sized.now c.before.before.before.before.loop.at
+    c.wide16.result ≡ u16_at c.before.before.before.before.before.before.args.sized.now c.before.before.before.before.loop.at
 size c = c.wide16.ensures.0 ∙ c.before.get-u16.ensures
 
 returns-2 : tie.Need-returns-2 invariant-loop decreases-loop
@@ -39,18 +39,18 @@ returns-2 c =
     let m = c.before.before.before.before.before.loop.invariant in
     let e = size c.before in
     ap (λ (n : ℕ). past n (length s - (at + 2))) e
-    ∙ sym (ap measureOf (going-past s _ at m.units m.going (search rules) (omega (arith, e, c.if2.true))))
+    ∙ sym (ap measure_of (going_past s _ at m.units m.going (search rules) (omega (arith, e, c.if2.true))))
 
-loop-again : tie.Need-loop-preserved invariant-loop decreases-loop
-loop-again c =
-    measuring-unit _ _ _ _ _ c.before.before.before.before.before.loop.invariant (search rules) (size c.before) c.if2.false
+loop_again : tie.Need-loop-preserved invariant-loop decreases-loop
+loop_again c =
+    measuring_unit _ _ _ _ _ c.before.before.before.before.before.loop.invariant (search rules) (size c.before) c.if2.false
 
 returns-3 : tie.Need-returns-3 invariant-loop decreases-loop
 returns-3 c =
     let h = c.before.loop in
     let m = h.invariant in
     ap₂ (λ (n b : ℕ). right (record { count = n; bytes = b })) m.many m.long
-    ∙ sym (ap measureOf (going_end _ _ _ m.units m.going c.loop-test.false))
+    ∙ sym (ap measure_of (going_end _ _ _ m.units m.going c.loop-test.false))
 
 pub measure-spec : {M : Type 1} → statement M
 measure-spec =
@@ -58,7 +58,7 @@ measure-spec =
     (tie.spec
     invariant-loop
     decreases-loop
-    loop-holds
+    loop_holds
     (λ c. search rules)
     returns
     (λ c κs. search rules)
@@ -70,5 +70,5 @@ measure-spec =
     (λ c. search rules)
     (λ c. search rules)
     (λ c. search rules)
-    loop-again
+    loop_again
     returns-3)

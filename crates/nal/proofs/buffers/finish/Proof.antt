@@ -8,9 +8,9 @@ use lib.ListN.{length, take, length-append}
 use borrow.Author.Rules.{rules}
 use Rattle.error.specs.Said.{says, refuse}
 use Rattle.wire.specs.Part.{splice}
-use Rattle.wire.proofs.Part.{splice-from}
+use Rattle.wire.proofs.Part.{splice_from}
 use Rattle.nal.specs.Fed.{prefixed}
-use Rattle.nal.proofs.Handing.{length-gathered, length-one, both_long, both_by, bytes-short, bytes_fit, run_of, laid-path}
+use Rattle.nal.proofs.Handing.{length_gathered, length_one, both_long, both_by, bytes_short, bytes_fit, run_of, laid_path}
 use Rattle.nal.proofs.buffers.finish.Statement.{statement}
 use Rattle.nal.proofs.buffers.finish.Tie as tie
 
@@ -21,24 +21,24 @@ kept c = take c.args.at c.args.gather.now ++ c.args.part.now
 abbrev unit : tie.Start → List ℕ
 unit c = c.args.head.now ++ kept c
 
-length-kept : (c : tie.Start) → length (kept c) ≡ c.args.at + length c.args.part.now
-length-kept c = length-gathered c.args.gather.now c.args.part.now c.args.at (search rules)
+length_kept : (c : tie.Start) → length (kept c) ≡ c.args.at + length c.args.part.now
+length_kept c = length_gathered c.args.gather.now c.args.part.now c.args.at (search rules)
 
 -- the unit behind its prefix
 length_whole : (c : tie.Start) →
     length (prefixed c.args.avc (unit c ∷ [])) ≡ 4 + length c.args.head.now + (c.args.at + length c.args.part.now)
 length_whole c =
-    length-one c.args.avc (unit c) ∙ omega (arith, length-append c.args.head.now (kept c), length-kept c)
+    length_one c.args.avc (unit c) ∙ omega (arith, length-append c.args.head.now (kept c), length_kept c)
 
 returns : tie.Need-returns
 returns c =
     let a = c.before.before.before.before.before.args in
-    sym (both_long a.avc a.gather.now a.out.now (kept c.before.before.before.before.before) (unit c.before.before.before.before.before ∷ []) (inl (omega (arith, length-kept c.before.before.before.before.before, c.if1.true))))
+    sym (both_long a.avc a.gather.now a.out.now (kept c.before.before.before.before.before) (unit c.before.before.before.before.before ∷ []) (inl (omega (arith, length_kept c.before.before.before.before.before, c.if1.true))))
 
 returns-2 : tie.Need-returns-2
 returns-2 c =
     let a = c.before.before.before.before.before.before.args in
-    sym (both_long a.avc a.gather.now a.out.now (kept c.before.before.before.before.before.before) (unit c.before.before.before.before.before.before ∷ []) (inr (omega (arith, length-kept c.before.before.before.before.before.before, c.if2.true))))
+    sym (both_long a.avc a.gather.now a.out.now (kept c.before.before.before.before.before.before) (unit c.before.before.before.before.before.before ∷ []) (inr (omega (arith, length_kept c.before.before.before.before.before.before, c.if2.true))))
 
 returns-3 : tie.Need-returns-3
 returns-3 c =
@@ -46,12 +46,12 @@ returns-3 c =
     let a = s.args in
     sym
     (both_by a.avc a.gather.now a.out.now (kept s) (unit s ∷ []) (record { answer = refuse 5; out = a.out.now })
-    (omega (arith, length-kept s, c.before.before.if1.false)) (omega (arith, length-kept s, c.before.if2.false))
-    (bytes-short a.out.now (prefixed a.avc (unit s ∷ [])) (omega (arith, length_whole s, c.if3.true))))
+    (omega (arith, length_kept s, c.before.before.if1.false)) (omega (arith, length_kept s, c.before.if2.false))
+    (bytes_short a.out.now (prefixed a.avc (unit s ∷ [])) (omega (arith, length_whole s, c.if3.true))))
 
 -- the gather buffer when the fragment was put into it
 gathered : (c : tie.After-copy-at) → c.copy_at.new.1.0 ≡ splice c.before.before.before.before.before.before.before.before.before.args.gather.now 0 (kept c.before.before.before.before.before.before.before.before.before)
-gathered c = c.copy_at.ensures ∙ sym (splice-from c.before.before.before.before.before.before.before.before.before.args.gather.now c.before.before.before.before.before.before.before.before.before.args.at c.before.before.before.before.before.before.before.before.before.args.part.now (search rules))
+gathered c = c.copy_at.ensures ∙ sym (splice_from c.before.before.before.before.before.before.before.before.before.args.gather.now c.before.before.before.before.before.before.before.before.before.args.at c.before.before.before.before.before.before.before.before.before.args.part.now (search rules))
 
 -- the unit's body, as the code lends it on
 body : (c : tie.After-copy-at) → take (c.before.before.before.before.before.before.before.before.before.args.at + length c.before.before.before.before.before.before.before.before.before.args.part.now - 0) c.copy_at.new.1.0 ≡ kept c.before.before.before.before.before.before.before.before.before
@@ -66,22 +66,22 @@ body c =
 put-joined-requires : tie.Need-put-joined-requires
 put-joined-requires c κs =
     rw (body c.before.before.before.before.before) (
-      omega (arith, length-kept c.before.before.before.before.before.before.before.before.before.before.before.before.before.before, c.before.before.before.before.before.before.before.if3.false),
+      omega (arith, length_kept c.before.before.before.before.before.before.before.before.before.before.before.before.before.before, c.before.before.before.before.before.before.before.if3.false),
       search rules,
-      omega (arith, length-kept c.before.before.before.before.before.before.before.before.before.before.before.before.before.before, c.before.before.before.before.before.before.before.before.if2.false),
+      omega (arith, length_kept c.before.before.before.before.before.before.before.before.before.before.before.before.before.before, c.before.before.before.before.before.before.before.before.if2.false),
     )
 
 returns-4 : tie.Need-returns-4
 returns-4 c =
     let s = c.before.before.before.before.before.before.before.before.before.before.before.before.before.before.before.before.before in
     let a = s.args in
-    laid-path (sym (length_whole s)) (gathered c.before.before.before.before.before.before.before.before)
+    laid_path (sym (length_whole s)) (gathered c.before.before.before.before.before.before.before.before)
     (c.before.before.put-joined.ensures
     ∙ ap (λ (b : List ℕ). splice a.out.now 0 (prefixed a.avc ((a.head.now ++ b) ∷ []))) (body c.before.before.before.before.before.before.before.before))
     ∙ sym
     (both_by a.avc a.gather.now a.out.now (kept s) (unit s ∷ [])
     (record { answer = says (length (prefixed a.avc (unit s ∷ []))); out = splice a.out.now 0 (prefixed a.avc (unit s ∷ [])) })
-    (omega (arith, length-kept s, c.before.before.before.before.before.before.before.before.before.before.before.before.if1.false)) (omega (arith, length-kept s, c.before.before.before.before.before.before.before.before.before.before.before.if2.false))
+    (omega (arith, length_kept s, c.before.before.before.before.before.before.before.before.before.before.before.before.if1.false)) (omega (arith, length_kept s, c.before.before.before.before.before.before.before.before.before.before.before.if2.false))
     (bytes_fit a.out.now (prefixed a.avc (unit s ∷ [])) (omega (arith, length_whole s, c.before.before.before.before.before.before.before.before.before.before.if3.false))))
 
 pub finish_spec : {M : Type 1} → statement M

@@ -8,23 +8,23 @@ use borrow.Author.Rules.{rules}
 use Rattle.error.specs.Said.{says}
 use Rattle.wire.specs.Part.{splice}
 use Rattle.nal.specs.Fed.{prefixed}
-use Rattle.nal.proofs.Handing.{prefixed-one, length-one, bytes-short, bytes_fit}
+use Rattle.nal.proofs.Handing.{prefixed_one, length_one, bytes_short, bytes_fit}
 use Rattle.nal.proofs.buffers.hand_plain.Statement.{statement}
 use Rattle.nal.proofs.buffers.hand_plain.Tie as tie
 
 returns : tie.Need-returns
 returns c =
     let a = c.before.before.before.args in
-    let n : length (prefixed a.avc (a.unit.now ∷ [])) ≡ length a.unit.now + 4 = length-one a.avc a.unit.now in
-    sym (bytes-short a.out.now (prefixed a.avc (a.unit.now ∷ [])) (omega (arith, n, c.if1.true)))
+    let n : length (prefixed a.avc (a.unit.now ∷ [])) ≡ length a.unit.now + 4 = length_one a.avc a.unit.now in
+    sym (bytes_short a.out.now (prefixed a.avc (a.unit.now ∷ [])) (omega (arith, n, c.if1.true)))
 
 returns-2 : tie.Need-returns-2
 returns-2 c =
     let a = c.before.before.before.before.before.before.before.args in
     let u = a.unit.now in
-    let n : length (prefixed a.avc (u ∷ [])) ≡ length u + 4 = length-one a.avc u in
+    let n : length (prefixed a.avc (u ∷ [])) ≡ length u + 4 = length_one a.avc u in
     ap₂ (λ (k : ℕ) (l : List ℕ). record { answer = says k; out = l }) (sym n)
-    (c.before.before.put-unit.ensures ∙ ap (splice a.out.now 0) (sym (prefixed-one a.avc u)))
+    (c.before.before.put-unit.ensures ∙ ap (splice a.out.now 0) (sym (prefixed_one a.avc u)))
     ∙ sym (bytes_fit a.out.now (prefixed a.avc (u ∷ [])) (omega (arith, n, c.before.before.before.before.if1.false)))
 
 pub hand-plain-spec : {M : Type 1} → statement M

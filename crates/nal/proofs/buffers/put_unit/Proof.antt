@@ -1,13 +1,13 @@
--- The unit is put right behind its prefix: `splice-on`.
+-- The unit is put right behind its prefix: `splice_on`.
 use mathlib.Core.Path.{◌≡◌, sym, ap, ◌∙◌}
 use mathlib.Core.List.{List}
 use Prim.Native.Nat.{ℕ, ◌+◌}
 use lib.ListN.{length}
 use borrow.Author.Rules.{rules}
 use Rattle.wire.specs.Part.{splice}
-use Rattle.wire.proofs.Part.{splice-on}
+use Rattle.wire.proofs.Part.{splice_on}
 use Rattle.nal.specs.Fed.{prefix_of}
-use Rattle.nal.proofs.Handing.{length-prefixFor}
+use Rattle.nal.proofs.Handing.{length_prefix_for}
 use Rattle.nal.proofs.buffers.put_unit.Statement.{statement}
 use Rattle.nal.proofs.buffers.put_unit.Tie as tie
 
@@ -16,11 +16,11 @@ returns c =
     let a = c.before.before.before.before.before.before.before.before.before.before.args in
     let u = a.unit.now in
     let p = prefix_of a.avc u in
-    let four : length p ≡ 4 = length-prefixFor a.avc (length u) in
+    let four : length p ≡ 4 = length_prefix_for a.avc (length u) in
     c.before.before.copy_at.ensures
     ∙ ap (λ (l : List ℕ). splice l (a.at + 4) u) c.before.before.before.before.before.before.put-prefix.ensures
     ∙ ap (λ (k : ℕ). splice (splice a.out.now a.at p) (a.at + k) u) (sym four)
-    ∙ splice-on a.out.now a.at p u (search rules)
+    ∙ splice_on a.out.now a.at p u (search rules)
 
 pub put-unit-spec : {M : Type 1} → statement M
 put-unit-spec =

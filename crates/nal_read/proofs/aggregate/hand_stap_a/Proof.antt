@@ -4,9 +4,9 @@ use native.Mathlib.Omega.{arith}
 use lib.ListN.{length-drop}
 use borrow.Author.Rules.{rules}
 use Rattle.error.specs.Said.{says}
-use Rattle.nal.specs.Fed.{layUnits}
+use Rattle.nal.specs.Fed.{lay_units}
 use Rattle.nal.proofs.Handing.{rest_of}
-use Rattle.nal_read.specs.Said.{measureSaid, measureOf}
+use Rattle.nal_read.specs.Said.{measure_said, measure_of}
 use Rattle.nal_read.specs.Unpack.{unpack}
 use Rattle.nal_read.proofs.Stap.{measured, unmeasured}
 use Rattle.nal_read.proofs.aggregate.hand_stap_a.Statement.{statement}
@@ -14,8 +14,8 @@ use Rattle.nal_read.proofs.aggregate.hand_stap_a.Tie as tie
 
 -- what the measure says
 said : (c : tie.After-known-told) →
-    measureOf (unpack c.before.before.before.before.before.before.args.payload.now) ≡ says (record { count = c.before.decreases.given.0.0; bytes = c.before.decreases.given.0.1.0 })
-said c = sym c.before.before.before.measure.ensures ∙ ap measureSaid c.before.decreases.given.1
+    measure_of (unpack c.before.before.before.before.before.before.args.payload.now) ≡ says (record { count = c.before.decreases.given.0.0; bytes = c.before.decreases.given.0.1.0 })
+said c = sym c.before.before.before.measure.ensures ∙ ap measure_said c.before.decreases.given.1
 
 hand-units-requires : tie.Need-hand-units-requires
 hand-units-requires c κs =
@@ -25,14 +25,14 @@ hand-units-requires c κs =
 returns : tie.Need-returns
 returns c =
     let a = c.before.before.before.before.before.before.before.before.before.before.before.args in
-    c.before.before.hand-units.ensures ∙ sym (ap (layUnits a.avc a.out.now) (measured a.payload.now _ (said c.before.before.before.before.before)).1)
+    c.before.before.hand-units.ensures ∙ sym (ap (lay_units a.avc a.out.now) (measured a.payload.now _ (said c.before.before.before.before.before)).1)
 
 returns-2 : tie.Need-returns-2
 returns-2 c =
     let a = c.before.before.before.before.before.before.args in
     sym
-    (ap (layUnits a.avc a.out.now)
-    (unmeasured (unpack a.payload.now) _ (sym c.before.before.before.measure.ensures ∙ ap measureSaid c.before.measured2.given.1)))
+    (ap (lay_units a.avc a.out.now)
+    (unmeasured (unpack a.payload.now) _ (sym c.before.before.before.measure.ensures ∙ ap measure_said c.before.measured2.given.1)))
 
 pub hand-stap-a-spec : {M : Type 1} → statement M
 hand-stap-a-spec =

@@ -5,8 +5,8 @@ use Rattle.packet.specs.Said.{Begins, unpadded}
 use Rattle.packet.proofs.read.unpadded.Statement.{statement}
 use Rattle.packet.proofs.read.unpadded.Tie as tie
 
-sub-t6 : tie.Need-overflow-sub-t6
-sub-t6 c =
+sub_t6 : tie.Need-overflow-sub-t6
+sub_t6 c =
     let start = c.before.before.before in
     subst (Begins start.args.len) c.before.read.given.1 start.requires
 
@@ -17,4 +17,4 @@ returns-2 : tie.Need-returns-2
 returns-2 c = sym (ap (unpadded c.before.before.before.args.len) c.before.read2.given.1)
 
 pub unpadded-spec : {M : Type 1} → statement M
-unpadded-spec = tie.close (tie.spec (λ c. search rules) sub-t6 (λ c. search rules) returns returns-2)
+unpadded-spec = tie.close (tie.spec (λ c. search rules) sub_t6 (λ c. search rules) returns returns-2)

@@ -4,8 +4,8 @@ use lib.Bits.{and_mask}
 use Rattle.packet.proofs.write.get_padding.Statement.{statement}
 use Rattle.packet.proofs.write.get_padding.Tie as tie
 
-sub-result : tie.Need-overflow-sub-result
-sub-result c = omega (arith, and_mask c.before.args.len 2)
+sub_result : tie.Need-overflow-sub-result
+sub_result c = omega (arith, and_mask c.before.args.len 2)
 
 returns : tie.Need-returns
 returns c = (omega (arith, and_mask c.before.args.len 2), omega arith)
@@ -14,4 +14,4 @@ returns-2 : tie.Need-returns-2
 returns-2 c = let low = and_mask c.before.args.len 2 in (omega (arith, low), omega (arith, low))
 
 pub get-padding-spec : {M : Type 1} → statement M
-get-padding-spec = tie.close (tie.spec sub-result returns returns-2)
+get-padding-spec = tie.close (tie.spec sub_result returns returns-2)

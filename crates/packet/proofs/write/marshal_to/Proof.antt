@@ -4,8 +4,8 @@ use lib.ListN.{length}
 use borrow.Author.Rules.{rules}
 use Rattle.header.specs.declared.Header.{Header}
 use Rattle.header.specs.Said.{written}
-use Rattle.header.proofs.Parts.{together-of}
-use Rattle.packet.specs.Write.{writePacket}
+use Rattle.header.proofs.Parts.{together_of}
+use Rattle.packet.specs.Write.{write_packet}
 use Rattle.packet.proofs.write.marshal_to.Statement.{statement}
 use Rattle.packet.proofs.write.marshal_to.Tie as tie
 
@@ -16,7 +16,7 @@ returns c =
     let a = fixed.before.before.before.args in
     let buf = a.buf.now in
     put.marshal-parts.ensures
-    ∙ ap (λ (h : Header). written buf (writePacket h a.payload.now (length buf))) (together-of a.t1 fixed.fixed.ensures)
+    ∙ ap (λ (h : Header). written buf (write_packet h a.payload.now (length buf))) (together_of a.t1 fixed.fixed.ensures)
 
 pub marshal-to-spec : {M : Type 1} → statement M
 marshal-to-spec = tie.close (tie.spec (λ c κs. search rules) (λ c κs. search rules) (λ c. search rules) returns)

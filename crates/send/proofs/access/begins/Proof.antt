@@ -1,13 +1,13 @@
 -- The tests are those of `begins`.
 use Rattle.std.proofs.Common.{◌%◌, Bool, ◌&&◌, ◌||◌, leb, sym, ap, ◌∙◌, ap₂, rules}
-use Rattle.send.specs.Access.{hasHeader}
+use Rattle.send.specs.Access.{has_header}
 use Rattle.send.proofs.access.begins.Statement.{statement}
 use Rattle.send.proofs.access.begins.Tie as tie
 
 returns : tie.Need-returns
 returns c =
     let a = c.before.before.args in
-    ap (λ (x : Bool). x || (hasHeader (a.head % 32) && leb 128 a.next)) (sym c.if1.true ∙ c.before.is-before.ensures)
+    ap (λ (x : Bool). x || (has_header (a.head % 32) && leb 128 a.next)) (sym c.if1.true ∙ c.before.is-before.ensures)
 
 returns-2 : tie.Need-returns-2
 returns-2 c =

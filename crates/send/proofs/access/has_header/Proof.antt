@@ -1,4 +1,4 @@
--- The tests are those of `hasHeader`.
+-- The tests are those of `has_header`.
 use Rattle.std.proofs.Common.{sym, rules, eq-eqb, ne_eqb}
 use Rattle.send.proofs.access.has_header.Statement.{statement}
 use Rattle.send.proofs.access.has_header.Tie as tie

@@ -1,4 +1,4 @@
--- The tests are those of `isBefore`.
+-- The tests are those of `is_before`.
 use Rattle.std.proofs.Common.{sym, arith, rules, le-leb}
 use borrow.Author.Tests.{lt-leb}
 use Rattle.send.proofs.access.is_before.Statement.{statement}

@@ -3,7 +3,7 @@ use Rattle.std.proofs.Common.{◌≡◌, ℕ, ◌+◌, ◌-◌, ◌≤◌, List,
 use Rattle.wire.specs.Part.{splice, part}
 use Rattle.wire.proofs.Part.{length_part}
 use Rattle.header.proofs.Writing.{written_out}
-use Rattle.packet.specs.Write.{writePacket}
+use Rattle.packet.specs.Write.{write_packet}
 use Rattle.send.proofs.packets.write_packet.Statement.{statement}
 use Rattle.send.proofs.packets.write_packet.Tie as tie
 
@@ -18,7 +18,7 @@ frame-requires c κs =
     let m = c.before.before.before.before.before.before.marshal-to in
     let size = length a.«record».now - 2 in
     let place = part a.«record».now 2 size in
-    let w = written_out m.result place m.new.1.1.0 (writePacket a.h a.payload.now (length place)) _ m.ensures c.before.before.length.given.1 in
+    let w = written_out m.result place m.new.1.1.0 (write_packet a.h a.payload.now (length place)) _ m.ensures c.before.before.length.given.1 in
     let room : length place ≡ size = length_part a.«record».now 2 size (omega arith) in
     let fits : c.before.before.length.given.0.0 ≤ size =
     omega (arith, w.count, within place w.octets m.new.1.1.0 w.buffer m.auto.1.1.0) in

@@ -2,15 +2,15 @@
 use Rattle.std.proofs.Common.{◌≡◌, ℕ, ◌+◌, ◌-◌, ◌≤◌, List, length, take, refl, ap, ◌∙◌, arith, rules}
 use borrow.Rule.Slice.PartMut.{take_put, same_len_mid}
 use Rattle.wire.specs.Part.{splice, part}
-use Rattle.wire.proofs.Part.{length_part, take-through}
+use Rattle.wire.proofs.Part.{length_part, take_through}
 use Rattle.stream.proofs.window.refill.Statement.{statement}
 use Rattle.stream.proofs.window.refill.Tie as tie
 
 -- a list with a part of it put in front
-in-front : (xs : List ℕ) (at n : ℕ) → at + n ≤ length xs → take n (splice xs 0 (part xs at n)) ≡ part xs at n
-in-front xs at n h =
+in_front : (xs : List ℕ) (at n : ℕ) → at + n ≤ length xs → take n (splice xs 0 (part xs at n)) ≡ part xs at n
+in_front xs at n h =
     let l : n ≡ 0 + length (part xs at n) = omega (arith, length_part xs at n h) in
-    ap (λ (k : ℕ). take k (splice xs 0 (part xs at n))) l ∙ take-through xs 0 (part xs at n) (omega arith)
+    ap (λ (k : ℕ). take k (splice xs 0 (part xs at n))) l ∙ take_through xs 0 (part xs at n) (omega arith)
 
 returns : tie.Need-returns
 returns c =
@@ -28,7 +28,7 @@ returns c =
       kept =
           take_put n size buf got (omega arith)
           ∙ ap (take n) {y = splice a.buf.now 0 (part a.buf.now at n)} moved.ensures
-          ∙ in-front a.buf.now at n (omega arith);
+          ∙ in_front a.buf.now at n (omega arith);
       more = search rules;
       inside = rw (same_len_mid n size buf got read.auto.1.0) (omega (arith, read.ensures.0, read.auto.1.0, length_part buf n size (omega arith)));
     }

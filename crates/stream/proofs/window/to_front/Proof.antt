@@ -3,7 +3,7 @@
 use Rattle.std.proofs.Common.{◌≡◌, ℕ, ◌+◌, ◌-◌, ◌≤◌, List, length, get_or, take, drop, set, sym, ap, ◌∙◌, arith, length-set, length-take-le, get_or-drop, rules}
 use lib.Seq.{take-length}
 use Rattle.wire.specs.Part.{splice, part}
-use Rattle.wire.proofs.Part.{splice-nothing, splice-part, drop-splice, length_part}
+use Rattle.wire.proofs.Part.{splice_nothing, splice_part, drop_splice, length_part}
 use Rattle.stream.proofs.window.to_front.Statement.{statement}
 use Rattle.stream.proofs.window.to_front.Tie as tie
 
@@ -12,7 +12,7 @@ still : (xs ys : List ℕ) (j k : ℕ) → length ys ≡ j → get_or (splice xs
 still xs ys j k e =
     let l : 0 + length ys ≡ j = omega arith in
     let same : drop j (splice xs 0 ys) ≡ drop j xs =
-    ap (λ (n : ℕ). drop n (splice xs 0 ys)) (sym l) ∙ drop-splice xs 0 ys (omega arith) ∙ ap (λ (n : ℕ). drop n xs) l in
+    ap (λ (n : ℕ). drop n (splice xs 0 ys)) (sym l) ∙ drop_splice xs 0 ys (omega arith) ∙ ap (λ (n : ℕ). drop n xs) l in
     sym (get_or-drop j (splice xs 0 ys) k 0) ∙ ap (λ (l : List ℕ). get_or l k 0) same ∙ get_or-drop j xs k 0
 
 abbrev invariant-loop : tie.invariant-loop
@@ -22,11 +22,11 @@ invariant-loop buf₀ at end i₀ buf i =
 abbrev decreases-loop : tie.decreases-loop
 decreases-loop buf₀ at end i₀ buf i = end - at - i
 
-loop-holds : tie.Need-loop-init invariant-loop decreases-loop
-loop-holds c = (search rules, sym (splice-nothing _ _), search rules)
+loop_holds : tie.Need-loop-init invariant-loop decreases-loop
+loop_holds c = (search rules, sym (splice_nothing _ _), search rules)
 
-loop-again : tie.Need-loop-preserved invariant-loop decreases-loop
-loop-again c =
+loop_again : tie.Need-loop-preserved invariant-loop decreases-loop
+loop_again c =
     let start = c.before.before.before.args in
     let head = c.before.before.loop in
     let buf₀ = start.buf.now in
@@ -46,7 +46,7 @@ loop-again c =
       ap (λ (v : ℕ). set head.buf i v) read
           ∙ ap (λ (b : List ℕ). set b i (get_or buf₀ (at + i) 0)) head.invariant.1
           ∙ ap (λ (k : ℕ). set (splice buf₀ 0 (take i (part buf₀ at n))) k (get_or buf₀ (at + i) 0)) front
-          ∙ splice-part buf₀ 0 buf₀ at n i 0 (omega arith) (omega arith) (omega arith),
+          ∙ splice_part buf₀ 0 buf₀ at n i 0 (omega arith) (omega arith) (omega arith),
       simp length-set (search rules),
     )
 
@@ -65,13 +65,13 @@ to-front-spec =
     (tie.spec
     invariant-loop
     decreases-loop
-    loop-holds
+    loop_holds
     (λ c. search rules)
     (λ c. search rules)
     (λ c. search rules)
     (λ c. search rules)
     (λ c. search rules)
     (λ c. search rules)
-    loop-again
+    loop_again
     (λ c. search rules)
     returns)

@@ -3,12 +3,12 @@ use mathlib.Core.Path.{sym, ap, ◌∙◌}
 use Prim.Native.Nat.{◌+◌}
 use borrow.Author.Rules.{rules}
 use Rattle.vp8_read.specs.declared.Vp8Packet.{Vp8Packet}
-use Rattle.vp8_read.proofs.Stages.{stage, flags-no, flags-at}
+use Rattle.vp8_read.proofs.Stages.{stage, flags_no, flags_at}
 use Rattle.vp8_read.proofs.Reader.flags.Statement.{statement}
 use Rattle.vp8_read.proofs.Reader.flags.Tie as tie
 
 returns : tie.Need-returns
-returns c = (sym (flags-no _ c.if1.true), search rules)
+returns c = (sym (flags_no _ c.if1.true), search rules)
 
 returns-2 : tie.Need-returns-2
 returns-2 c =
@@ -16,7 +16,7 @@ returns-2 c =
     let at = start.self.at in
     let s = start.packet.now in (
       ap (λ (p : Vp8Packet). stage p (at + 1) s) c.flags.ensures
-          ∙ sym (flags-at start.self.packet at s c.before.before.if1.false),
+          ∙ sym (flags_at start.self.packet at s c.before.before.if1.false),
       search rules,
     )
 

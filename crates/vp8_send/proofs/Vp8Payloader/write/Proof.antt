@@ -8,11 +8,11 @@ use mir.Val.{Fits}
 use lib.ListN.{length, length-set}
 use borrow.Author.Rules.{rules}
 use Rattle.wire.specs.Packets.{put_all}
-use Rattle.wire.proofs.Packets.{putAll-whole}
+use Rattle.wire.proofs.Packets.{put_all_whole}
 use Rattle.vp8_send.specs.Send.{headed, parts_of, from0}
-use Rattle.vp8_send.proofs.Parts.{some-headed}
-use Rattle.vp8_send.proofs.Deliver.{all-sent}
-use Rattle.vp8_send.proofs.Going.{Going, room-here, turn, ended}
+use Rattle.vp8_send.proofs.Parts.{some_headed}
+use Rattle.vp8_send.proofs.Deliver.{all_sent}
+use Rattle.vp8_send.proofs.Going.{Going, room_here, turn, ended}
 use Rattle.vp8_send.proofs.Vp8Payloader.write.Statement.{statement}
 use Rattle.vp8_send.proofs.Vp8Payloader.write.Tie as tie
 
@@ -26,8 +26,8 @@ invariant-loop self size frame out₀ ends₀ start₀ from₀ at₀ n₀ out en
 abbrev decreases-loop : tie.decreases-loop
 decreases-loop self size frame out₀ ends₀ start₀ from₀ at₀ n₀ out ends start from at n = length frame - from
 
-loop-holds : tie.Need-loop-init invariant-loop decreases-loop
-loop-holds c =
+loop_holds : tie.Need-loop-init invariant-loop decreases-loop
+loop_holds c =
     let start = c.before.before.before in (
       record {
         fuel = length start.args.frame.now;
@@ -44,12 +44,12 @@ put-requires : tie.Need-put-requires invariant-loop decreases-loop
 put-requires c κs =
     let head = c.before.before.before.before in (
       head.before.before.before.before.requires.id,
-      (room-here _ _ _ _ _ _ _ head.loop.invariant.0 _ c.before.before.end_of_lem.ensures c.before.before.before.loop-test.true).0,
+      (room_here _ _ _ _ _ _ _ head.loop.invariant.0 _ c.before.before.end_of_lem.ensures c.before.before.before.loop-test.true).0,
     )
 
 -- the turn's place in the table
 place : (c : tie.After-end-of invariant-loop decreases-loop) → c.before.before.loop.n < length c.before.before.loop.ends
-place c = (room-here _ _ _ _ _ _ _ c.before.before.loop.invariant.0 _ c.end_of_lem.ensures c.before.loop-test.true).1
+place c = (room_here _ _ _ _ _ _ _ c.before.before.loop.invariant.0 _ c.end_of_lem.ensures c.before.loop-test.true).1
 
 -- so its number, and its number of bytes, fit
 fits : (c : tie.After-slice-known3 invariant-loop decreases-loop) →
@@ -62,8 +62,8 @@ fits c =
     let kept = head.loop.invariant.2 in
     (omega (arith, there, table, kept), omega (arith, there, table, kept))
 
-loop-again : tie.Need-loop-preserved invariant-loop decreases-loop
-loop-again c =
+loop_again : tie.Need-loop-preserved invariant-loop decreases-loop
+loop_again c =
     let head = c.before.before.before.before.before.before.before in
     let start = head.before.before.before.before in
     let put = c.before.before.put in (
@@ -79,8 +79,8 @@ returns c =
     let a = start.args in
     let ps = headed a.self true (parts_of a.size a.frame.now) in
     let all = ended _ _ _ _ _ _ _ c.before.before.before.loop.invariant.0 c.before.before.loop-test.false
-    ∙ putAll-whole (from0 a.out.now a.ends.now) ps start.requires.room in
-    all-sent _ _ ps _ _ _ _ all (some-headed a.self a.size a.frame.now start.requires.positive start.requires.some)
+    ∙ put_all_whole (from0 a.out.now a.ends.now) ps start.requires.room in
+    all_sent _ _ ps _ _ _ _ all (some_headed a.self a.size a.frame.now start.requires.positive start.requires.some)
     c.before.next.ensures c.sent.ensures
 
 pub write_spec : {M : Type 1} → statement M
@@ -89,7 +89,7 @@ write_spec =
     (tie.spec
     invariant-loop
     decreases-loop
-    loop-holds
+    loop_holds
     (λ c κs. search rules)
     (λ c. search rules)
     (λ c. search rules)
@@ -105,7 +105,7 @@ write_spec =
       c.before.before.before.before.before.before.loop-test.true,
       c.before.before.before.before.before.before.before.before.before.before.before.requires.positive,
     ))
-    loop-again
+    loop_again
     (λ c κs. search rules)
     (λ c κs. search rules)
     (λ c. search rules)

@@ -8,10 +8,10 @@ squared n =
     let h : n % 2147483647 < 2147483647 = mod-lt n (omega arith) in
     omega (arith, mul-le-mul_left (n % 2147483647) (le_of_lt h))
 
-mul-result : tie.Need-overflow-mul-result
-mul-result c = record { fits = squared _ }
+mul_result : tie.Need-overflow-mul-result
+mul_result c = record { fits = squared _ }
 
 pub number-spec : {M : Type 1} → statement M
 number-spec =
     tie.close
-    (tie.spec (λ c. search rules) (λ c. search rules) (λ c. search rules) mul-result (λ c. search rules))
+    (tie.spec (λ c. search rules) (λ c. search rules) (λ c. search rules) mul_result (λ c. search rules))

@@ -5,9 +5,9 @@ use Prim.Native.Nat.{ℕ}
 use native.Mathlib.Omega.{arith}
 use lib.ListN.{length}
 use Rattle.h264.specs.declared.send.Payloads.{Payloads}
-use Rattle.h264.specs.Payload.{Lent, savedLent, lendOut, outsideBy, said, LeftIn, leftWith, lent_of}
-use Rattle.h264.proofs.State.{lend-back}
-use Rattle.h264.proofs.Calls.{call-stated}
+use Rattle.h264.specs.Payload.{Lent, saved_lent, lend_out, outside_by, said, LeftIn, left_with, lent_of}
+use Rattle.h264.proofs.State.{lend_back}
+use Rattle.h264.proofs.Calls.{call_stated}
 use borrow.Author.Rules.{rules}
 use Rattle.h264.proofs.lent.LentPayloader.payload.Statement.{statement}
 use Rattle.h264.proofs.lent.LentPayloader.payload.Tie as tie
@@ -20,18 +20,18 @@ deliver-requires : tie.Need-deliver-requires
 deliver-requires c κs = (omega (arith, (full c).0), omega (arith, (full c).1))
 
 store-requires : tie.Need-store-requires
-store-requires c κs = c.before.before.before.before.before.before.before.before.deliver.ensures.0.of-sps
+store-requires c κs = c.before.before.before.before.before.before.before.before.deliver.ensures.0.of_sps
 
 store-requires-2 : tie.Need-store-requires-2
-store-requires-2 c κs = c.before.before.before.before.before.before.before.before.before.before.deliver.ensures.0.of-pps
+store-requires-2 c κs = c.before.before.before.before.before.before.before.before.before.before.deliver.ensures.0.of_pps
 
 -- the state, by its lengths and by what its buffers hold
-state-is : (n n' m m' : ℕ) (x x' y y' : List ℕ) (a : Payloads) (out ends : List ℕ) → n ≡ n' → m ≡ m' → x ≡ x' → y ≡ y' →
-    ◌≡◌ {A = LeftIn Lent} (leftWith (record { sender = record { sps_len = n; pps_len = m }; sps = x; pps = y }) a out ends)
-    (leftWith (record { sender = record { sps_len = n'; pps_len = m' }; sps = x'; pps = y' }) a out ends)
-state-is n n' m m' x x' y y' a out ends en em ex ey =
-    ap₂ (λ (i j : ℕ). leftWith (record { sender = record { sps_len = i; pps_len = j }; sps = x; pps = y }) a out ends) en em
-    ∙ ap₂ (λ (s p : List ℕ). leftWith (record { sender = record { sps_len = n'; pps_len = m' }; sps = s; pps = p }) a out ends) ex ey
+state_is : (n n' m m' : ℕ) (x x' y y' : List ℕ) (a : Payloads) (out ends : List ℕ) → n ≡ n' → m ≡ m' → x ≡ x' → y ≡ y' →
+    ◌≡◌ {A = LeftIn Lent} (left_with (record { sender = record { sps_len = n; pps_len = m }; sps = x; pps = y }) a out ends)
+    (left_with (record { sender = record { sps_len = n'; pps_len = m' }; sps = x'; pps = y' }) a out ends)
+state_is n n' m m' x x' y y' a out ends en em ex ey =
+    ap₂ (λ (i j : ℕ). left_with (record { sender = record { sps_len = i; pps_len = j }; sps = x; pps = y }) a out ends) en em
+    ∙ ap₂ (λ (s p : List ℕ). left_with (record { sender = record { sps_len = n'; pps_len = m' }; sps = s; pps = p }) a out ends) ex ey
 
 returns : tie.Need-returns
 unfolding lent_of
@@ -41,10 +41,10 @@ returns c =
     let delivered = c.before.before.before.before.before.before.before.before.before.before.before.before.before.deliver in
     let w = delivered.result.waiting in
     let answer = delivered.result.answer in
-    state-is _ _ _ _ _ _ _ _ answer _ _ c.before.after.ensures c.after2.ensures c.before.before.before.before.store.ensures c.before.before.store2.ensures
-    ∙ call-stated l (lendOut l) (outsideBy a.self.sps_len a.self.pps_len a.mtu a.frame.now) (savedLent l) a.mtu a.frame.now a.out.now a.ends.now _ answer _ _
+    state_is _ _ _ _ _ _ _ _ answer _ _ c.before.after.ensures c.after2.ensures c.before.before.before.before.store.ensures c.before.before.store2.ensures
+    ∙ call_stated l (lend_out l) (outside_by a.self.sps_len a.self.pps_len a.mtu a.frame.now) (saved_lent l) a.mtu a.frame.now a.out.now a.ends.now _ answer _ _
     delivered.ensures.1.1 _
-    (lend-back a.sps.now a.pps.now a.frame.now w delivered.ensures.0 a.self.sps_len a.self.pps_len (said answer) delivered.ensures.1.0)
+    (lend_back a.sps.now a.pps.now a.frame.now w delivered.ensures.0 a.self.sps_len a.self.pps_len (said answer) delivered.ensures.1.0)
 
 pub payload-spec : {M : Type 1} → statement M
 payload-spec =

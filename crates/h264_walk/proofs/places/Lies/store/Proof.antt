@@ -5,7 +5,7 @@ use native.Mathlib.Omega.{arith}
 use lib.ListN.{take, drop}
 use borrow.Author.Rules.{rules}
 use Rattle.wire.specs.Part.{splice}
-use Rattle.h264_walk.proofs.Bytes.{saved-bytes, here-bytes, saved-within, here-within, splice_front}
+use Rattle.h264_walk.proofs.Bytes.{saved_bytes, here_bytes, saved_within, here_within, splice_front}
 use Rattle.h264_walk.proofs.places.Lies.store.Statement.{statement}
 use Rattle.h264_walk.proofs.places.Lies.store.Tie as tie
 
@@ -15,15 +15,15 @@ returns c =
     let held = start.args.held.now in
     let frame = start.args.frame.now in
     let l = start.args.self in
-    sym (ap (splice held 0) (saved-bytes held frame l c.if1.true) ∙ splice_front held l.len (saved-within held frame l start.requires c.if1.true))
+    sym (ap (splice held 0) (saved_bytes held frame l c.if1.true) ∙ splice_front held l.len (saved_within held frame l start.requires c.if1.true))
 
-add-end : tie.Need-overflow-add-end
-add-end c =
-    let start = c.before.before in omega (arith, here-within start.args.held.now start.args.frame.now start.args.self start.requires c.if1.false)
+add_end : tie.Need-overflow-add-end
+add_end c =
+    let start = c.before.before in omega (arith, here_within start.args.held.now start.args.frame.now start.args.self start.requires c.if1.false)
 
-part-copy-at-end : tie.Need-slice-bounds-copy-at-end
-part-copy-at-end c =
-    let start = c.before.before in here-within start.args.held.now start.args.frame.now start.args.self start.requires c.if1.false
+part_copy_at_end : tie.Need-slice-bounds-copy-at-end
+part_copy_at_end c =
+    let start = c.before.before in here_within start.args.held.now start.args.frame.now start.args.self start.requires c.if1.false
 
 returns-2 : tie.Need-returns-2
 returns-2 c =
@@ -34,7 +34,7 @@ returns-2 c =
     let at = l.from - 1 in
     let n : at + l.len - at ≡ l.len = omega arith in
     c.copy_at.ensures
-    ∙ ap (splice held 0) (ap (λ (k : ℕ). take k (drop at frame)) n ∙ sym (here-bytes held frame l c.before.before.before.if1.false))
+    ∙ ap (splice held 0) (ap (λ (k : ℕ). take k (drop at frame)) n ∙ sym (here_bytes held frame l c.before.before.before.if1.false))
 
 pub store_spec : {M : Type 1} → statement M
 store_spec =
@@ -42,9 +42,9 @@ store_spec =
     (tie.spec
     returns
     (λ c. search rules)
-    add-end
+    add_end
     (λ c. search rules)
     (λ c. search rules)
-    part-copy-at-end
+    part_copy_at_end
     (λ c κs. search rules)
     returns-2)

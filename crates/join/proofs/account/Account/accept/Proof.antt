@@ -1,11 +1,11 @@
 -- Each count is as `more` answers it.
 use Rattle.std.proofs.Common.{rules}
-use Rattle.join.specs.Account.{acceptedBy}
+use Rattle.join.specs.Account.{accepted_by}
 use Rattle.join.proofs.account.Account.accept.Statement.{statement}
 use Rattle.join.proofs.account.Account.accept.Tie as tie
 
 returns : tie.Need-returns
-unfolding acceptedBy
+unfolding accepted_by
 returns c =
     let a = c.before.before.before.before.before.args.self in
     λ i. record {

@@ -1,11 +1,11 @@
 -- Each count is as `more` answers it.
 use Rattle.std.proofs.Common.{rules}
-use Rattle.join.specs.Account.{cameLate}
+use Rattle.join.specs.Account.{came_late}
 use Rattle.join.proofs.account.Account.come_late.Statement.{statement}
 use Rattle.join.proofs.account.Account.come_late.Tie as tie
 
 returns : tie.Need-returns
-unfolding cameLate
+unfolding came_late
 returns c =
     let a = c.before.before.args.self in
     λ i. record {

@@ -1,6 +1,6 @@
 -- The digits are those of the kit's `decimal`, and the words go one behind the other. Assumes nothing.
 use Rattle.std.proofs.Common.{◌∙◌, ap₂, rules}
-use Rattle.stream.specs.Text.{wordOn}
+use Rattle.stream.specs.Text.{word_on}
 use Rattle.stream.proofs.text.Text.number.Statement.{statement}
 use Rattle.stream.proofs.text.Text.number.Tie as tie
 
@@ -10,7 +10,7 @@ returns c =
     record {
       places = dec.result;
       fewest = dec.ensures.1.0;
-      text = c.word2.ensures ∙ ap₂ wordOn c.before.before.word.ensures dec.ensures.1.1;
+      text = c.word2.ensures ∙ ap₂ word_on c.before.before.word.ensures dec.ensures.1.1;
     }
 
 pub number-spec : {M : Type 1} → statement M
