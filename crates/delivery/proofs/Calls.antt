@@ -30,8 +30,7 @@ use Rattle.error.proofs.Refusing.{not_says, same_answer}
 use Rattle.sequence.specs.Number.{number_of}
 use Rattle.sequence.specs.Arrival.{Arrival, ours, other, raised, Window}
 use Rattle.sequence.specs.Joiner.{bytes_of}
-use Rattle.joiner.specs.declared.Prefix.{Prefix}
-use Rattle.joiner.specs.Join.{avc_for}
+use Rattle.joiner.specs.Join.{avc_of, opened}
 use Rattle.delivery.specs.Show.{payloads, count, payload, packet}
 use Rattle.delivery.specs.Play.{our_joiner, arriving}
 use Rattle.delivery.specs.Demand.{DeliveredOn}
@@ -178,7 +177,7 @@ calls_answer avc x p lent w =
     all_answer x.mtu (omega (arith, p.mtu_high)) nothing_saved lent x.frames (record { sps = omega arith; pps = omega arith })
     (each_by (λ (f : List ℕ). length f ≤ 16777216) (FrameOk x.mtu) (λ f ok. ok.short) x.frames p.frames) w
 
-module _ (chosen : Prefix) (x : Sending) (p : SendingPremises (avc_for chosen) x) (lent : ℕ → Lent) (none : NoneRefused (calls_for x lent)) where
+module _ (avc : Bool) (x : Sending) (p : SendingPremises avc x) (lent : ℕ → Lent) (none : NoneRefused (calls_for x lent)) where
   wrote_payloads : written (calls_for x lent) ≡ payloads (show_of x)
   wrote_payloads =
       calls_cut x.mtu nothing_saved lent x.frames none ∙ sym (same_packets (groups_sent x.mtu x.frames))
@@ -192,7 +191,7 @@ module _ (chosen : Prefix) (x : Sending) (p : SendingPremises (avc_for chosen) x
   writes_packets i room h enough =
       ap (λ (s : List ℕ). writing x i s room) (same_payload i)
       ∙ plain_written (x.stamps i) (number_of x.first i) x.source (payload (show_of x) i) (p.received.stamps i) (omega arith)
-      p.received.source room (short_at (payloads (show_of x)) i (short_payloads (avc_for chosen) x p)) (omega (arith, enough, ap length (same_payload i)))
+      p.received.source room (short_at (payloads (show_of x)) i (short_payloads avc x p)) (omega (arith, enough, ap length (same_payload i)))
 
   -- what the packet writer wrote is the show's packets
   arrives : (on_wire : ℕ → List ℕ) → ((i : ℕ) → i < count (show_of x) → Wrote x lent on_wire i) → map (bytes_of on_wire) x.arrivals ≡ arriving (show_of x)
@@ -201,11 +200,11 @@ module _ (chosen : Prefix) (x : Sending) (p : SendingPremises (avc_for chosen) x
       (λ i h. let k : Wrote x lent on_wire i = wrote i h in same_answer _ (on_wire i) (packet (show_of x) i) k.wrote (writes_packets i k.room h k.enough))
       x.arrivals p.received.window
 
-  pub from_the_calls : FromTheCalls chosen x lent
-  from_the_calls =
+  pub from_the_calls : avc_of (opened x.source x.first) ≡ avc → FromTheCalls avc x lent
+  from_the_calls prefix =
       record {
         wrote_payloads = wrote_payloads;
         writes_packets = writes_packets;
         delivered =
-            λ on_wire wrote. subst (DeliveredOn (avc_for chosen) (our_joiner chosen) (show_of x)) (sym (arrives on_wire wrote)) (all_delivered chosen (show_of x) p.received (sent_show (avc_for chosen) x p));
+            λ on_wire wrote. subst (DeliveredOn avc our_joiner (show_of x)) (sym (arrives on_wire wrote)) (all_delivered avc (show_of x) prefix p.received (sent_show avc x p));
       }

@@ -36,8 +36,7 @@ use Rattle.wire.proofs.Bools.{or_false_left}
 use Rattle.joiner_step.proofs.Rooms.{Small, small_enough}
 use Rattle.joiner_step.proofs.Playing.{accepted_as, refused_as, handed_as, rooms, Plays, plays}
 use Rattle.joiner_feed.specs.Content.{Timed, Note}
-use Rattle.joiner.specs.declared.Prefix.{Prefix}
-use Rattle.joiner.specs.Join.{Stepped, Known, known, arrived_in, choice, kept_of, avc_for, join_step, opened_with}
+use Rattle.joiner.specs.Join.{Stepped, Known, known, arrived_in, choice, kept_of, avc_of, join_step, opened}
 use Rattle.joiner.specs.Sent.{Sent, groups_of}
 use Rattle.joiner.proofs.General.{standing, closing_seen, Good, one_call, one_close, closed_after, shut_is}
 use Rattle.delivery.specs.Show.{Show, payloads, count, payload, packet, longest, largest}
@@ -94,19 +93,16 @@ abbrev nowhere : Known
 nowhere = known 0 []
 
 -- a joiner that was just opened with this prefix is good
-pub opened_good : (chosen : Prefix) (w : Show) → Good (avc_for chosen) w.source (opened_with w.source w.first chosen) w.gather
-unfolding opened_with opening
-opened_good chosen w =
+pub opened_good : (avc : Bool) (w : Show) → avc_of (opened w.source w.first) ≡ avc → Good avc w.source (opened w.source w.first) w.gather
+unfolding opened opening
+opened_good avc w prefix =
     record {
-      prefix = refl;
+      prefix = prefix;
       ready = record { same_source = refl; not_closed = refl; inside = rw (leb-suc-zero (length w.gather)) };
     }
 
 -- of `w` over a joiner that is opened with this prefix
-module _ (chosen : Prefix) (w : Show) (p : Received (avc_for chosen) w) (z : Sendable w) where
-  abbrev avc : Bool
-  avc = avc_for chosen
-
+module _ (avc : Bool) (w : Show) (prefix : avc_of (opened w.source w.first) ≡ avc) (p : Received avc w) (z : Sendable w) where
   abbrev number : ℕ → ℕ
   number i = number_of w.first i
 
@@ -144,7 +140,7 @@ module _ (chosen : Prefix) (w : Show) (p : Received (avc_for chosen) w) (z : Sen
   general = parts (choice avc) (plain Known) w.source
 
   abbrev start : any.State ℕ (Run Note)
-  start = standing (opened_with w.source w.first chosen) w.gather
+  start = standing (opened w.source w.first) w.gather
 
   abbrev rooms_of : ℕ → Room
   rooms_of = rooms (length w.gather) w.outs
@@ -179,7 +175,7 @@ module _ (chosen : Prefix) (w : Show) (p : Received (avc_for chosen) w) (z : Sen
       (accepted_calls [] w.arrivals) groups
 
   any_delivered : any_outcome
-  unfolding opened_with opening
+  unfolding opened opening
   any_delivered =
       delivered general (Enough most big) number (packet w) known_at (count w) 1 (Small avc big) reads passes
       (small_enough (choice avc) most big) groups counted p.few owed
@@ -189,19 +185,19 @@ module _ (chosen : Prefix) (w : Show) (p : Received (avc_for chosen) w) (z : Sen
 
   -- ---- our joiner's calls are that joiner's
 
-  as_played : Plays general avc standing (Good avc w.source) join_step (one_call avc w.source) (length w.gather) (opened_with w.source w.first chosen)
+  as_played : Plays general avc standing (Good avc w.source) join_step (one_call avc w.source) (length w.gather) (opened w.source w.first)
       w.gather w.outs (arriving w)
   as_played =
-      plays general avc standing (Good avc w.source) join_step (one_call avc w.source) (arriving w) (opened_with w.source w.first chosen) w.gather
-      w.outs (opened_good chosen w)
+      plays general avc standing (Good avc w.source) join_step (one_call avc w.source) (arriving w) (opened w.source w.first) w.gather
+      w.outs (opened_good avc w prefix)
 
   abbrev said : List (any.Answer Refusal Units)
   said = answers general rooms_of start (arriving w)
 
   -- closing, seen as the other joiner's
-  closing_seen_lem : closing_seen (closing (our_joiner chosen) w) ≡ shut any_delivered.last_missed (missed w) any_delivered.at_end
+  closing_seen_lem : closing_seen (closing our_joiner w) ≡ shut any_delivered.last_missed (missed w) any_delivered.at_end
   closing_seen_lem =
-      one_close avc w.source (joiner_after join_step (opened_with w.source w.first chosen) w.gather w.outs (arriving w)) as_played.last (w.outs 0)
+      one_close avc w.source (joiner_after join_step (opened w.source w.first) w.gather w.outs (arriving w)) as_played.last (w.outs 0)
       as_played.good (number (count w))
       ∙ ap (λ (s : any.State ℕ (Run Note)). close general k s (number (count w))) as_played.state
       ∙ any_delivered.closes k (record { gather = omega (arith, p.gather_room, as_played.same_length); out = p.out_room 0 })
@@ -209,8 +205,8 @@ module _ (chosen : Prefix) (w : Show) (p : Received (avc_for chosen) w) (z : Sen
       k : Room
       k = record { gather = length as_played.last; out = length (w.outs 0) }
 
-  shuts : (a : Accepted) × ((closing (our_joiner chosen) w).answer ≡ says a) × ((closing (our_joiner chosen) w).joiner.missed ≡ missed w) × (any_delivered.at_end ≡ [])
-  shuts = shut_is (closing (our_joiner chosen) w) any_delivered.last_missed (missed w) any_delivered.at_end closing_seen_lem
+  shuts : (a : Accepted) × ((closing our_joiner w).answer ≡ says a) × ((closing our_joiner w).joiner.missed ≡ missed w) × (any_delivered.at_end ≡ [])
+  shuts = shut_is (closing our_joiner w) any_delivered.last_missed (missed w) any_delivered.at_end closing_seen_lem
 
   -- closing hands nothing out
   handed_before : any.handed_out said ≡ any.handed_out said ++ any_delivered.at_end
@@ -224,25 +220,25 @@ module _ (chosen : Prefix) (w : Show) (p : Received (avc_for chosen) w) (z : Sen
       (or_false_left (ltb (length st.gather) st.joiner.gathered) (wrong (choice avc) (kept_of st.joiner).run) g.0.ready.inside) in
       (omega (arith, g.1), g.1)
 
-  pub all_delivered : Delivered avc (our_joiner chosen) w
+  pub all_delivered : Delivered avc our_joiner w
   all_delivered =
       record {
-        accepts = accepted_as avc (played (our_joiner chosen) w) said as_played.tells ∙ any_delivered.accepts;
+        accepts = accepted_as avc (played our_joiner w) said as_played.tells ∙ any_delivered.accepts;
         hands_out =
-            handed_as avc (played (our_joiner chosen) w) said as_played.tells
+            handed_as avc (played our_joiner w) said as_played.tells
             ∙ ap (map (prefixed avc)) (handed_before ∙ any_delivered.hands_out ∙ whole_known (known_by w.stamps) (was_accepted w) 0 0 w.groups);
         answer = shuts.0;
         closes = shuts.1;
         closed =
-            closed_after (joiner_after join_step (opened_with w.source w.first chosen) w.gather w.outs (arriving w)) (number (count w)) shuts.0
+            closed_after (joiner_after join_step (opened w.source w.first) w.gather w.outs (arriving w)) (number (count w)) shuts.0
             shuts.1;
         counts = shuts.2;
         complete =
-            λ none. handed_as avc (played (our_joiner chosen) w) said as_played.tells
+            λ none. handed_as avc (played our_joiner w) said as_played.tells
             ∙ ap (map (prefixed avc)) (handed_before ∙ any_delivered.complete (sym shuts.2 ∙ none) ∙ handed_known (known_by w.stamps) 0 w.groups);
         within =
             each_by (λ (st : Stepped). (st.joiner.gathered ≤ length w.gather) × (length st.gather ≡ length w.gather))
             (λ (st : Stepped). Good avc w.source st.joiner st.gather × (length st.gather ≡ length w.gather))
-            within (played (our_joiner chosen) w) as_played.each;
-        refuses = refused_as avc (played (our_joiner chosen) w) said as_played.tells ∙ any_delivered.refuses_others;
+            within (played our_joiner w) as_played.each;
+        refuses = refused_as avc (played our_joiner w) said as_played.tells ∙ any_delivered.refuses_others;
       }

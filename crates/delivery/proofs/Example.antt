@@ -28,9 +28,7 @@ use Rattle.sequence.specs.Arrival.{Arrival, ours, other, Window}
 use Rattle.joiner_step.specs.Step.{by_source, step, closing, opening}
 use Rattle.joiner_step.specs.Play.{is_accepted, handed_out}
 use Rattle.joiner_feed.specs.H264.{check}
-use Rattle.joiner.specs.declared.Prefix.{Prefix}
-use Rattle.joiner.specs.declared.Prefix.TheVariants as prefix
-use Rattle.joiner.specs.Join.{Stepped, avc_for, join_step, close_step, opened_with}
+use Rattle.joiner.specs.Join.{Stepped, join_step, close_step, opened}
 use Rattle.delivery.specs.Play.{our_joiner, played}
 use Rattle.delivery.specs.Play as play
 use Rattle.delivery.specs.Show.{largest}
@@ -136,19 +134,18 @@ abbrev pub last_out : Bool → List ℕ
 last_out avc = prefixed avc ((0x41 ∷ 11 ∷ 12 ∷ []) ∷ [])
 
 -- which calls accept, what is handed out, how many packets were missed
-pub record Outcome (chosen : Prefix) (accepts : List Bool) (out : List (List ℕ)) (missed : ℕ) : Type 0 where
-  pub accepts_these : map (λ (st : Stepped). is_accepted st.answer) (played (our_joiner chosen) (show_of show)) ≡ accepts
-  pub hands_out : handed_out (played (our_joiner chosen) (show_of show)) ≡ out
-  pub misses : (play.closing (our_joiner chosen) (show_of show)).joiner.missed ≡ missed
+pub record Outcome (accepts : List Bool) (out : List (List ℕ)) (missed : ℕ) : Type 0 where
+  pub accepts_these : map (λ (st : Stepped). is_accepted st.answer) (played our_joiner (show_of show)) ≡ accepts
+  pub hands_out : handed_out (played our_joiner (show_of show)) ≡ out
+  pub misses : (play.closing our_joiner (show_of show)).joiner.missed ≡ missed
 
 -- the repeat, the stranger and the packet behind a later one are not accepted; packets 1 and 6 are missed
-pub outcome : (chosen : Prefix) → Outcome chosen
+pub outcome : Outcome
     (true ∷ false ∷ false ∷ true ∷ false ∷ true ∷ true ∷ true ∷ true ∷ true ∷ [])
-    (pair_out (avc_for chosen) ∷ joined_out (avc_for chosen) ∷ last_out (avc_for chosen) ∷ [])
+    (pair_out false ∷ joined_out false ∷ last_out false ∷ [])
     2
-unfolding show nine stranger units units_at keep stap_a pair_for unit_for groups_for fragment join_step step close_step closing by_source check shape unpack unpacking.unpack unpack_turn run lay_both lay_bytes splice read_packet read_header read_fixed fields_at u16_at u32_at plain_packet packet_octets payload_octets octets_of fixed_for be16 be32 opened_with opening
-outcome prefix.Length = record { accepts_these = refl; hands_out = refl; misses = refl }
-outcome prefix.StartCode = record { accepts_these = refl; hands_out = refl; misses = refl }
+unfolding show nine stranger units units_at keep stap_a pair_for unit_for groups_for fragment join_step step close_step closing by_source check shape unpack unpacking.unpack unpack_turn run lay_both lay_bytes splice read_packet read_header read_fixed fields_at u16_at u32_at plain_packet packet_octets payload_octets octets_of fixed_for be16 be32 opened opening
+outcome = record { accepts_these = refl; hands_out = refl; misses = refl }
 
 -- ---- its calls answer
 

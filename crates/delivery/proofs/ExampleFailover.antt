@@ -19,15 +19,12 @@ use Rattle.packet.specs.Write.{payload_octets, packet_octets}
 use Rattle.packet.specs.Plain.{plain_packet}
 use Rattle.rfc6184.specs.Sending.{octet, fu_a, fragment}
 use Rattle.nal_read.specs.Kind.{shape}
-use Rattle.nal.specs.Fed.{prefixed, lay_bytes, lay_both}
+use Rattle.nal.specs.Fed.{lay_bytes, lay_both}
 use Rattle.sequence.specs.Arrival.{ours}
-use Rattle.joiner_step.specs.Run.{Units}
 use Rattle.joiner_step.specs.Step.{Answer, accepted, by_source, step, closing, opening}
 use Rattle.joiner_step.specs.Play.{handed_out}
 use Rattle.joiner_feed.specs.H264.{check}
-use Rattle.joiner.specs.declared.Prefix.{Prefix}
-use Rattle.joiner.specs.declared.Prefix.TheVariants as prefix
-use Rattle.joiner.specs.Join.{Stepped, avc_for, join_step, close_step, opened_with}
+use Rattle.joiner.specs.Join.{Stepped, join_step, close_step, opened}
 use Rattle.delivery.specs.Show.{packet, largest}
 use Rattle.delivery.specs.Play.{our_joiner, played_on, closing_on}
 use Rattle.delivery.specs.AnySender.{Stream, stream_show, StreamPremises}
@@ -91,42 +88,41 @@ abbrev of_second : (t : ℕ) → ℕ → List ℕ
 of_second t i = packet (stream_show (encoder 2 t 3600)) i
 
 -- what the joiner answers, what it hands out, and how many packets it missed at closing
-pub record Outcome (chosen : Prefix) (bytes : List (List ℕ)) (answers : List (Said Answer)) (out : List Units) (missed : ℕ) : Type 0 where
-  pub says_these : map (λ (st : Stepped). st.answer) (played_on (our_joiner chosen) (stream_show (encoder 2 0 3600)) bytes) ≡ answers
-  pub hands_out : handed_out (played_on (our_joiner chosen) (stream_show (encoder 2 0 3600)) bytes) ≡ map (prefixed (avc_for chosen)) out
-  pub misses : (closing_on (our_joiner chosen) (stream_show (encoder 2 0 3600)) bytes).joiner.missed ≡ missed
+pub record Outcome (bytes : List (List ℕ)) (answers : List (Said Answer)) (out : List (List ℕ)) (missed : ℕ) : Type 0 where
+  pub says_these : map (λ (st : Stepped). st.answer) (played_on our_joiner (stream_show (encoder 2 0 3600)) bytes) ≡ answers
+  pub hands_out : handed_out (played_on our_joiner (stream_show (encoder 2 0 3600)) bytes) ≡ out
+  pub misses : (closing_on our_joiner (stream_show (encoder 2 0 3600)) bytes).joiner.missed ≡ missed
 
 abbrev taken : (first count bytes : ℕ) → Said Answer
 taken first count bytes = says (accepted (record { first = first; count = count; bytes = bytes }))
 
 -- the first fails before its unit's end: the second's end is refused, and its next unit comes whole
-abbrev pub Failover : Prefix → Type 0
-Failover chosen =
-    Outcome chosen
+abbrev pub Failover : Type 0
+Failover =
+    Outcome
     (of_first 0 ∷ of_first 1 ∷ of_second 0 2 ∷ of_second 0 3 ∷ of_second 0 4 ∷ [])
     (taken 65534 0 0 ∷ taken 65535 0 0 ∷ refuse 25 ∷ taken 0 1 0 ∷ taken 2 0 7 ∷ [])
-    (((0x41 ∷ 2 ∷ 2 ∷ []) ∷ []) ∷ [])
+    ((0 ∷ 0 ∷ 0 ∷ 1 ∷ 0x41 ∷ 2 ∷ 2 ∷ []) ∷ [])
     1
 
 -- the first's own end still comes: its unit is handed out whole, and nothing was missed
-abbrev pub Recovery : Prefix → Type 0
-Recovery chosen =
-    Outcome chosen
+abbrev pub Recovery : Type 0
+Recovery =
+    Outcome
     (of_first 0 ∷ of_first 1 ∷ of_second 0 2 ∷ of_first 2 ∷ of_second 0 3 ∷ of_second 0 4 ∷ [])
     (taken 65534 0 0 ∷ taken 65535 0 0 ∷ refuse 25 ∷ taken 0 0 9 ∷ taken 1 0 0 ∷ taken 2 0 7 ∷ [])
-    (((0x65 ∷ 1 ∷ 1 ∷ 1 ∷ 1 ∷ []) ∷ []) ∷ ((0x41 ∷ 2 ∷ 2 ∷ []) ∷ []) ∷ [])
+    ((0 ∷ 0 ∷ 0 ∷ 1 ∷ 0x65 ∷ 1 ∷ 1 ∷ 1 ∷ 1 ∷ []) ∷ (0 ∷ 0 ∷ 0 ∷ 1 ∷ 0x41 ∷ 2 ∷ 2 ∷ []) ∷ [])
     0
 
 -- what the time is for: were the second's unit of the first's time, its end would be taken for the first's
-abbrev pub AtOneTime : Prefix → Type 0
-AtOneTime chosen =
-    Outcome chosen
+abbrev pub AtOneTime : Type 0
+AtOneTime =
+    Outcome
     (of_first 0 ∷ of_first 1 ∷ of_second 4294967295 2 ∷ of_second 4294967295 3 ∷ of_second 4294967295 4 ∷ [])
     (taken 65534 0 0 ∷ taken 65535 0 0 ∷ taken 0 0 9 ∷ taken 1 0 0 ∷ taken 2 0 7 ∷ [])
-    (((0x65 ∷ 1 ∷ 1 ∷ 1 ∷ 2 ∷ []) ∷ []) ∷ ((0x41 ∷ 2 ∷ 2 ∷ []) ∷ []) ∷ [])
+    ((0 ∷ 0 ∷ 0 ∷ 1 ∷ 0x65 ∷ 1 ∷ 1 ∷ 1 ∷ 2 ∷ []) ∷ (0 ∷ 0 ∷ 0 ∷ 1 ∷ 0x41 ∷ 2 ∷ 2 ∷ []) ∷ [])
     0
 
-pub outcomes : (chosen : Prefix) → Failover chosen × Recovery chosen × AtOneTime chosen
-unfolding encoder octet fragment join_step step close_step closing by_source check shape lay_both lay_bytes splice read_packet read_header read_fixed fields_at u16_at u32_at plain_packet packet_octets payload_octets header.octets_of fixed_for be16 be32 opened_with opening
-outcomes prefix.Length = (record { says_these = refl; hands_out = refl; misses = refl }, record { says_these = refl; hands_out = refl; misses = refl }, record { says_these = refl; hands_out = refl; misses = refl })
-outcomes prefix.StartCode = (record { says_these = refl; hands_out = refl; misses = refl }, record { says_these = refl; hands_out = refl; misses = refl }, record { says_these = refl; hands_out = refl; misses = refl })
+pub outcomes : Failover × Recovery × AtOneTime
+unfolding encoder octet fragment join_step step close_step closing by_source check shape lay_both lay_bytes splice read_packet read_header read_fixed fields_at u16_at u32_at plain_packet packet_octets payload_octets header.octets_of fixed_for be16 be32 opened opening
+outcomes = (record { says_these = refl; hands_out = refl; misses = refl }, record { says_these = refl; hands_out = refl; misses = refl }, record { says_these = refl; hands_out = refl; misses = refl })

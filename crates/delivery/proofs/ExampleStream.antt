@@ -27,9 +27,7 @@ use Rattle.sequence.specs.Arrival.{ours}
 use Rattle.joiner_step.specs.Step.{by_source, step, closing, opening}
 use Rattle.joiner_step.specs.Play.{handed_out}
 use Rattle.joiner_feed.specs.H264.{check}
-use Rattle.joiner.specs.declared.Prefix.{Prefix}
-use Rattle.joiner.specs.declared.Prefix.TheVariants as prefix
-use Rattle.joiner.specs.Join.{join_step, close_step, opened_with}
+use Rattle.joiner.specs.Join.{join_step, close_step, opened}
 use Rattle.delivery.specs.Show.{largest}
 use Rattle.delivery.specs.Play.{our_joiner, played}
 use Rattle.delivery.specs.Play as play
@@ -91,12 +89,7 @@ stream_premises avc =
     }
 
 -- what is handed out, as it computes: the units of the STAP-A as they are, the fragmented unit with its top bit set; and how many packets were missed
-pub record Outcome (chosen : Prefix) (out : List (List ℕ)) : Type 0 where
-  pub hands_out : handed_out (played (our_joiner chosen) (stream_show stream)) ≡ out
-  pub misses : (play.closing (our_joiner chosen) (stream_show stream)).joiner.missed ≡ 1
-
-pub stream_outcome :
-    Outcome prefix.Length ((0 ∷ 0 ∷ 0 ∷ 2 ∷ 9 ∷ 0xF0 ∷ []) ∷ (0 ∷ 0 ∷ 0 ∷ 2 ∷ 0x67 ∷ 0xAA ∷ 0 ∷ 0 ∷ 0 ∷ 2 ∷ 0x68 ∷ 0xBB ∷ []) ∷ (0 ∷ 0 ∷ 0 ∷ 5 ∷ 0xE5 ∷ 1 ∷ 2 ∷ 3 ∷ 4 ∷ []) ∷ [])
-    × Outcome prefix.StartCode ((0 ∷ 0 ∷ 0 ∷ 1 ∷ 9 ∷ 0xF0 ∷ []) ∷ (0 ∷ 0 ∷ 0 ∷ 1 ∷ 0x67 ∷ 0xAA ∷ 0 ∷ 0 ∷ 0 ∷ 1 ∷ 0x68 ∷ 0xBB ∷ []) ∷ (0 ∷ 0 ∷ 0 ∷ 1 ∷ 0xE5 ∷ 1 ∷ 2 ∷ 3 ∷ 4 ∷ []) ∷ [])
-unfolding stream octets_of fragment octet join_step step close_step closing by_source check shape unpack unpacking.unpack unpack_turn run lay_both lay_bytes splice read_packet read_header read_fixed fields_at u16_at u32_at plain_packet packet_octets payload_octets header.octets_of fixed_for be16 be32 opened_with opening
-stream_outcome = (record { hands_out = refl; misses = refl }, record { hands_out = refl; misses = refl })
+pub stream_outcome : (handed_out (played our_joiner (stream_show stream)) ≡ (0 ∷ 0 ∷ 0 ∷ 1 ∷ 9 ∷ 0xF0 ∷ []) ∷ (0 ∷ 0 ∷ 0 ∷ 1 ∷ 0x67 ∷ 0xAA ∷ 0 ∷ 0 ∷ 0 ∷ 1 ∷ 0x68 ∷ 0xBB ∷ []) ∷ (0 ∷ 0 ∷ 0 ∷ 1 ∷ 0xE5 ∷ 1 ∷ 2 ∷ 3 ∷ 4 ∷ []) ∷ [])
+    × ((play.closing our_joiner (stream_show stream)).joiner.missed ≡ 1)
+unfolding stream octets_of fragment octet join_step step close_step closing by_source check shape unpack unpacking.unpack unpack_turn run lay_both lay_bytes splice read_packet read_header read_fixed fields_at u16_at u32_at plain_packet packet_octets payload_octets header.octets_of fixed_for be16 be32 opened opening
+stream_outcome = (refl, refl)

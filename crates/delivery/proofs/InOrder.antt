@@ -10,14 +10,14 @@ use Rattle.sequence.specs.Group.{handed_of}
 use Rattle.sequence.proofs.InOrder.{in_order, in_order_within, in_order_accepted}
 use Rattle.joiner_step.specs.Play.{handed_out}
 use Rattle.delivery.specs.Show.{Show, count}
-use Rattle.delivery.specs.Play.{Machine, played}
+use Rattle.delivery.specs.Play.{our_joiner, played}
 use Rattle.delivery.specs.Demand.{Delivered}
 
 -- "Window", for every n
 pub window : (n : ℕ) → Window {B = List ℕ} n 0 (in_order 0 n)
 window n = in_order_within (List ℕ) n
 
-pub all_handed_out : (avc : Bool) (m : Machine) (w : Show) → Delivered avc m w → w.arrivals ≡ in_order 0 (count w) →
-    handed_out (played m w) ≡ map (prefixed avc) (handed_of w.groups)
-all_handed_out avc m w d e =
+pub all_handed_out : (avc : Bool) (w : Show) → Delivered avc our_joiner w → w.arrivals ≡ in_order 0 (count w) →
+    handed_out (played our_joiner w) ≡ map (prefixed avc) (handed_of w.groups)
+all_handed_out avc w d e =
     d.complete (d.counts ∙ ap (λ (l : List (Arrival (List ℕ))). never (accepted l) 0 (count w)) e ∙ in_order_accepted (List ℕ) (count w))

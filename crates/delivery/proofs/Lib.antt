@@ -10,7 +10,6 @@ pub mod Example
 pub mod ExampleStream
 pub mod ExampleFailover
 pub mod OneMoment
-pub mod Lengths
 pub mod Wrong
 pub mod Timeless
 pub mod Main

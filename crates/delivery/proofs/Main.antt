@@ -6,10 +6,10 @@
 -- stamps that its packets bear; the buffers; and what arrives, a packet of ours by its index or any other bytes. `Received` is what the paper
 -- asks of numbers, times, room and channel. A `Sending` is frames for a fresh sender, `show_of` the show of them, `SendingPremises` what the paper asks
 -- of it. A `Stream` is sendings of RFC 6184, of whatever sender, and which packets a relay marked (`relayed`). A `Machine` is any joiner: how it is
--- opened, its call and its closing; `our_joiner chosen` is `opened_with` of that prefix, `join_step` and `close_step`, which the contracts of the joiner's
--- code cite, `default_joiner` the same with `opened`. `Delivered` is the five parts (a) to (e) over a machine's calls (`played`) and its `closing`, for
--- units behind a 4-byte length or a start code: `avc_for chosen` is true for the length.
-use mathlib.Core.Path.{◌≡◌}
+-- opened, its call and its closing; `our_joiner` is `opened`, `join_step` and `close_step`, which the contracts of the joiner's code cite. `Delivered`
+-- is the five parts (a) to (e) over a machine's calls (`played`) and its `closing`, for units behind a start code or a 4-byte length; `annex_b` is
+-- the start code, which our joiner's units follow.
+use mathlib.Core.Path.{◌≡◌, refl}
 use mathlib.Core.Bool.{Bool, true, false}
 use mathlib.Core.List.{List, [], ◌∷◌, ◌++◌, map}
 use mathlib.Core.Logic.{◌↔◌}
@@ -21,22 +21,18 @@ use Rattle.rfc6184.specs.Sending as rfc
 use Rattle.h264_put.specs.Groups.{nothing_saved, fragments, packets_of_group, packets_of}
 use Rattle.h264.specs.Frames.{groups_sent}
 use Rattle.sequence.specs.Arrival.{Arrival, ours}
-use Rattle.sequence.specs.Group.{whole_of}
 use Rattle.sequence.proofs.Accepting.{Arrived}
 use Rattle.joiner_step.specs.Run.{Units}
 use Rattle.joiner_step.specs.Play.{is_accepted}
 use Rattle.joiner_feed.specs.H264.{forbidden}
-use Rattle.joiner.specs.declared.Prefix.{Prefix}
-use Rattle.joiner.specs.declared.Prefix.TheVariants as prefix
-use Rattle.joiner.specs.Join.{Stepped, avc_for}
+use Rattle.joiner.specs.Join.{Stepped}
 use Rattle.delivery.specs.Show.{Show, payloads}
-use Rattle.delivery.specs.Play.{Machine, our_joiner, default_joiner, arriving, played}
-use Rattle.delivery.specs.Demand.{OneTimeEach, was_accepted, Delivered}
+use Rattle.delivery.specs.Play.{Machine, our_joiner, annex_b, played}
+use Rattle.delivery.specs.Demand.{OneTimeEach, Delivered}
 use Rattle.delivery.specs.Frames.{Sending, show_of, SendingPremises, OneTimeFrames, Delivers}
 use Rattle.delivery.specs.Calls.{Lent, NoneRefused, calls_for, LentEnough, FromTheCalls, lent_calls_for, written}
 use Rattle.delivery.specs.AnySender.{relayed, any_marked, handed_for, Stream, stream_show, Ruled, DeliversAny}
 use Rattle.delivery.specs.OneMoment.{OneMoment, OfMany, TimesApart, OneSender}
-use Rattle.delivery.specs.Lengths.{CutAgain}
 use Rattle.delivery.specs.Wrong.{Silent, Advancing, Inventing, Unmarking, Timeless}
 use Rattle.delivery.proofs.Delivering.{all_delivered}
 use Rattle.delivery.proofs.Accepted.{accepted_exactly}
@@ -49,35 +45,23 @@ use Rattle.delivery.proofs.Example.{show, premises, lent_to, lent_enough}
 use Rattle.delivery.proofs.ExampleStream.{stream, stream_premises}
 use Rattle.delivery.proofs.ExampleFailover.{encoder, encoder_premises, Failover, Recovery, AtOneTime, outcomes}
 use Rattle.delivery.proofs.OneMoment.{untorn, one_sender}
-use Rattle.delivery.proofs.Lengths.{cut_out}
 use Rattle.delivery.proofs.Wrong as wrong
 use Rattle.delivery.proofs.Timeless.{no_timeless}
 
--- frames through a fresh sender: "Demand 3 reads for either prefix, proved once with the prefix as a parameter" (E2)
-pub demand_3 : (chosen : Prefix) → Delivers (avc_for chosen) (our_joiner chosen)
-demand_3 chosen x p = all_delivered chosen (show_of x) p.received (sent_show (avc_for chosen) x p)
-
--- by default, behind a 4-byte length ..
-pub BY_DEFAULT : Delivers true default_joiner
-BY_DEFAULT = demand_3 prefix.Length
-
--- .. and behind a start code where it is named
-pub BY_NAME : Delivers false (our_joiner prefix.StartCode)
-BY_NAME = demand_3 prefix.StartCode
+-- frames through a fresh sender
+pub demand_3 : (x : Sending) → SendingPremises annex_b x → Delivered annex_b our_joiner (show_of x)
+demand_3 x p = all_delivered annex_b (show_of x) refl p.received (sent_show annex_b x p)
 
 -- The same from the calls on, end to end. Where none of a fresh sender's calls is refused: what they wrote, cut at the ends that they wrote, is
 -- the show's payloads; the packet writer makes each, with its number, stamp and source, into the show's packet; and of the packets that it
 -- wrote, over the channel, the joiner hands out what demand 3 says.
-pub FROM_THE_CALLS : (chosen : Prefix) (x : Sending) → SendingPremises (avc_for chosen) x → (lent : ℕ → Lent) → NoneRefused (calls_for x lent) →
-    FromTheCalls chosen x lent
-FROM_THE_CALLS = calls.from_the_calls
+pub FROM_THE_CALLS : (x : Sending) → SendingPremises annex_b x → (lent : ℕ → Lent) → NoneRefused (calls_for x lent) → FromTheCalls annex_b x lent
+FROM_THE_CALLS x p lent none = calls.from_the_calls annex_b x p lent none refl
 
 -- A sender whose parameter sets lie in lent buffers, whatever stands in them, writes the same, so that from its calls on it is as from those.
-pub FROM_LENT_CALLS : (chosen : Prefix) (x : Sending) → SendingPremises (avc_for chosen) x → (lent : ℕ → Lent) (sps pps : List ℕ) →
-    NoneRefused (lent_calls_for x lent sps pps) →
-    (written (lent_calls_for x lent sps pps) ≡ written (calls_for x lent)) × FromTheCalls chosen x lent
-FROM_LENT_CALLS chosen x p lent sps pps none =
-    (L.lent_written x lent sps pps, FROM_THE_CALLS chosen x p lent (L.lent_answers x lent sps pps none))
+pub FROM_LENT_CALLS : (x : Sending) → SendingPremises annex_b x → (lent : ℕ → Lent) (sps pps : List ℕ) → NoneRefused (lent_calls_for x lent sps pps) →
+    (written (lent_calls_for x lent sps pps) ≡ written (calls_for x lent)) × FromTheCalls annex_b x lent
+FROM_LENT_CALLS x p lent sps pps none = (L.lent_written x lent sps pps, FROM_THE_CALLS x p lent (L.lent_answers x lent sps pps none))
 
 -- None of its calls is refused where each is lent room for its frame's packets, and no parameter set is over 1,024 bytes.
 pub CALLS_ANSWER : (avc : Bool) (x : Sending) → SendingPremises avc x → (lent : ℕ → Lent) → LentEnough x.mtu nothing_saved lent x.frames → NoneRefused (calls_for x lent)
@@ -93,8 +77,8 @@ FRAME_TIMES x = by_frames x.stamps x.mtu 0 nothing_saved x.frames
 
 -- Sendings of RFC 6184 by any sender, as crate rfc6184 has them: single units, STAP-As with any F and NRI, and units in fragments with any F; and F set
 -- by a relay on any of the packets, each on its own. No single unit is shorter than 3 bytes, but for an access unit delimiter of 2; no fragment is empty.
-pub any_sender : (chosen : Prefix) → DeliversAny (avc_for chosen) (our_joiner chosen)
-any_sender chosen y p = all_delivered chosen (stream_show y) p.received (stream_show_lem (avc_for chosen) y p)
+pub any_sender : DeliversAny annex_b our_joiner
+any_sender y p = all_delivered annex_b (stream_show y) refl p.received (stream_show_lem annex_b y p)
 
 -- Whatever is lawful by RFC 6184 keeps what is asked of its fields.
 pub lawful_sender : (ss : List rfc.Sending) → Each rfc.Lawful ss → Each rfc.FormedSending ss × Each Ruled ss
@@ -121,22 +105,13 @@ OUR_FRAGMENTS_CLEAR = fragments_clear
 -- "A run belongs to one moment" (E4): whatever arrives, and from however many senders of the joiner's SSRC, each group that is handed out is the units of
 -- one packet, or a unit in fragments, from its start to its end, that follow each other without a gap and are all of one time. Since it is so of any
 -- arrivals, it is so of those up to each call ..
-pub ONE_MOMENT : (chosen : Prefix) → OneMoment (avc_for chosen) (our_joiner chosen)
-ONE_MOMENT = untorn
+pub ONE_MOMENT : OneMoment annex_b our_joiner
+ONE_MOMENT w came = untorn annex_b w refl came
 
 -- .. so that none goes on with another's unit, where no two of them share a time.
 pub ONE_SENDER_EACH : (came : List (List ℕ)) (source : ℕ) {A : Type 0} (sender : List ℕ → A) → TimesApart came source sender →
     (units : Units) (u : OfMany came source units) → OneSender came source sender units u
 ONE_SENDER_EACH came source sender = one_sender came source sender
-
--- "a four-byte length before each unit" (E2): the lengths are right. Whatever arrives, by them alone what the default joiner handed out is cut into its
--- units again, those of `ONE_MOMENT`, call by call and all of it one behind the other ..
-pub LENGTHS_RIGHT : (w : Show) (came : List (List ℕ)) → CutAgain default_joiner w came (ONE_MOMENT prefix.Length w came).groups
-LENGTHS_RIGHT w came = cut_out prefix.Length w came _ (ONE_MOMENT prefix.Length w came).hands_out
-
--- .. and where demand 3 is met, they are exactly the units of the groups all of whose packets were accepted.
-pub SHOW_CUT_AGAIN : (w : Show) → Delivered true default_joiner w → CutAgain default_joiner w (arriving w) (whole_of (was_accepted w) 0 w.groups)
-SHOW_CUT_AGAIN w d = cut_out prefix.Length w (arriving w) _ d.hands_out
 
 -- "Under these premises a packet is accepted exactly when its index is above every index that arrived before it; this, read off the
 -- arrivals alone, is what demand 3 means by accepted."
@@ -148,23 +123,21 @@ accepted_means = accepted_exactly
 
 -- a show with a loss, a repeat, a reordering, a wrap of the number and a packet of another source meets the premises, its calls are not
 -- refused ..
-pub show_delivered : (chosen : Prefix) → FromTheCalls chosen show lent_to
-show_delivered chosen =
-    FROM_THE_CALLS chosen show (premises (avc_for chosen)) lent_to (CALLS_ANSWER (avc_for chosen) show (premises (avc_for chosen)) lent_to lent_enough)
+pub show_delivered : FromTheCalls annex_b show lent_to
+show_delivered = FROM_THE_CALLS show (premises annex_b) lent_to (CALLS_ANSWER annex_b show (premises annex_b) lent_to lent_enough)
 
 -- .. and so does a stream with an access unit delimiter, an STAP-A and a unit in fragments, of which a relay marked some
-pub stream_delivered : (chosen : Prefix) → Delivered (avc_for chosen) (our_joiner chosen) (stream_show stream)
-stream_delivered chosen = any_sender chosen stream (stream_premises (avc_for chosen))
+pub stream_delivered : Delivered annex_b our_joiner (stream_show stream)
+stream_delivered = any_sender stream (stream_premises annex_b)
 
 -- two encoders of one SSRC: where the second goes on with the first's unit, its fragment is refused by 25, and nothing torn is handed out; at one time
 -- the torn unit would be
-pub two_encoders : (chosen : Prefix) → Failover chosen × Recovery chosen × AtOneTime chosen
+pub two_encoders : Failover × Recovery × AtOneTime
 two_encoders = outcomes
 
 -- each of them meets the premises by itself
-pub encoder_delivered : (chosen : Prefix) (k t u : ℕ) → k < 256 → t < 4294967296 → u < 4294967296 →
-    Delivered (avc_for chosen) (our_joiner chosen) (stream_show (encoder k t u))
-encoder_delivered chosen k t u byte early late = any_sender chosen (encoder k t u) (encoder_premises (avc_for chosen) k t u byte early late)
+pub encoder_delivered : (k t u : ℕ) → k < 256 → t < 4294967296 → u < 4294967296 → Delivered annex_b our_joiner (stream_show (encoder k t u))
+encoder_delivered k t u byte early late = any_sender (encoder k t u) (encoder_premises annex_b k t u byte early late)
 
 -- `Delivers avc m` is demand 3 of the joiner m, whatever it hands units out behind. It "defeats a joiner that hands out nothing" ..
 pub NO_SILENT_JOINER : (avc : Bool) (m : Machine) → Silent m → Delivers avc m → ⊥
@@ -178,10 +151,6 @@ NO_ADVANCER = wrong.no_advancer
 -- .. "and one with an invented missed total, since missed is counted from the arrivals": one that is the same whatever arrives
 pub NO_INVENTED_TOTAL : (avc : Bool) (m : Machine) → Inventing m → Delivers avc m → ⊥
 NO_INVENTED_TOTAL = wrong.no_invented_total
-
--- and the prefix counts: none meets it for both
-pub ONE_PREFIX : (m : Machine) → Delivers true m → Delivers false m → ⊥
-ONE_PREFIX = wrong.one-prefix
 
 -- `DeliversAny avc m` is the same of any sender's packets as a relay passes them on. It shuts out a joiner that loses the relay's marks.
 pub NO_UNMARKER : (avc : Bool) (m : Machine) → Unmarking m → DeliversAny avc m → ⊥

@@ -31,8 +31,7 @@ use Rattle.joiner_step.specs.General.{Room, refusing, group_in, checked_as, with
 use Rattle.joiner_step.proofs.Playing.{handed_as, rooms, Plays, plays}
 use Rattle.joiner_feed.specs.Content.{Fragment, Content, whole, start, middle, end, Timed, timed, Note, onward, topped, fed}
 use Rattle.joiner_feed.specs.H264.{check}
-use Rattle.joiner.specs.declared.Prefix.{Prefix}
-use Rattle.joiner.specs.Join.{Known, known, arrived_in, choice, avc_for, join_step, opened_with}
+use Rattle.joiner.specs.Join.{Known, known, arrived_in, choice, avc_of, join_step, opened}
 use Rattle.joiner.proofs.General.{standing, Good, one_call}
 use Rattle.delivery.specs.Show.{Show}
 use Rattle.delivery.specs.Play.{our_joiner, played_on}
@@ -218,31 +217,28 @@ all_among (p ∷ ps) = (inl refl, each_by (Among (p ∷ ps)) (Among ps) (λ q th
 
 -- ---- our joiner's calls are that joiner's
 
-module _ (chosen : Prefix) (w : Show) (came : List (List ℕ)) where
-  abbrev avc : Bool
-  avc = avc_for chosen
-
+module _ (avc : Bool) (w : Show) (prefix : avc_of (opened w.source w.first) ≡ avc) (came : List (List ℕ)) where
   as_played : Plays (general avc came w.source) avc standing (Good avc w.source) join_step (one_call avc w.source) (length w.gather)
-      (opened_with w.source w.first chosen) w.gather w.outs came
+      (opened w.source w.first) w.gather w.outs came
   as_played =
-      plays (general avc came w.source) avc standing (Good avc w.source) join_step (one_call avc w.source) came (opened_with w.source w.first chosen)
-      w.gather w.outs (opened_good chosen w)
+      plays (general avc came w.source) avc standing (Good avc w.source) join_step (one_call avc w.source) came (opened w.source w.first)
+      w.gather w.outs (opened_good avc w prefix)
 
   abbrev begins : State ℕ (Run Note)
-  begins = standing (opened_with w.source w.first chosen) w.gather
+  begins = standing (opened w.source w.first) w.gather
 
   abbrev said : List (any.Answer Refusal Units)
   said = answers (general avc came w.source) (rooms (length w.gather) w.outs) begins came
 
   no_run : Fine avc came w.source begins
-  unfolding opened_with opening
+  unfolding opened opening
   no_run = tt
 
-  pub untorn : Untorn avc (our_joiner chosen) w came
+  pub untorn : Untorn avc our_joiner w came
   untorn =
       record {
         groups = any.handed_out said;
-        hands_out = handed_as avc (played_on (our_joiner chosen) w came) said as_played.tells;
+        hands_out = handed_as avc (played_on our_joiner w came) said as_played.tells;
         origins = all_fine avc came w.source (rooms (length w.gather) w.outs) begins no_run came (all_among came);
       }
 

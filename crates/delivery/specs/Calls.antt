@@ -15,8 +15,6 @@ use Rattle.h264.specs.Payload.{Counts, LeftIn, Left, lay_out, payload_of, lent_o
 use Rattle.h264.specs.Payload as sets
 use Rattle.sequence.specs.Number.{number_of}
 use Rattle.sequence.specs.Joiner.{bytes_of}
-use Rattle.joiner.specs.declared.Prefix.{Prefix}
-use Rattle.joiner.specs.Join.{avc_for}
 use Rattle.delivery.specs.Show.{payloads, count, packet}
 use Rattle.delivery.specs.Play.{our_joiner}
 use Rattle.delivery.specs.Demand.{DeliveredOn}
@@ -90,7 +88,7 @@ pub record Wrote (x : Sending) (lent : ℕ → Lent) (on_wire : ℕ → List ℕ
   pub enough : 12 + length (get_or (written (calls_for x lent)) i []) ≤ room
   pub wrote : writing x i (get_or (written (calls_for x lent)) i []) room ≡ says (on_wire i)
 
-pub record FromTheCalls (chosen : Prefix) (x : Sending) (lent : ℕ → Lent) : Type 0 where
+pub record FromTheCalls (avc : Bool) (x : Sending) (lent : ℕ → Lent) : Type 0 where
   -- the sender's calls wrote the payloads of the show, in order
   pub wrote_payloads : written (calls_for x lent) ≡ payloads (show_of x)
   -- the packet writer refuses none of them, and makes the show's packets of them
@@ -98,4 +96,4 @@ pub record FromTheCalls (chosen : Prefix) (x : Sending) (lent : ℕ → Lent) : 
       writing x i (get_or (written (calls_for x lent)) i []) room ≡ says (packet (show_of x) i)
   -- and of what it wrote, as far as it arrives, and beside the bytes of others, the joiner hands out what demand 3 says
   pub delivered : (on_wire : ℕ → List ℕ) → ((i : ℕ) → i < count (show_of x) → Wrote x lent on_wire i) →
-      DeliveredOn (avc_for chosen) (our_joiner chosen) (show_of x) (map (bytes_of on_wire) x.arrivals)
+      DeliveredOn avc our_joiner (show_of x) (map (bytes_of on_wire) x.arrivals)

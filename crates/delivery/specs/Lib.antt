@@ -5,5 +5,4 @@ pub mod Frames
 pub mod Calls
 pub mod AnySender
 pub mod OneMoment
-pub mod Lengths
 pub mod Wrong

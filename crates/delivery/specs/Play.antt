@@ -1,11 +1,10 @@
 -- A show played through a joiner, ours or any other, call after call. Assumes nothing.
-use Rattle.std.specs.Prelude.{List, map, ℕ}
+use Rattle.std.specs.Prelude.{Bool, false, List, map, ℕ}
 use Rattle.sequence.specs.Number.{number_of}
 use Rattle.sequence.specs.Joiner.{bytes_of}
 use Rattle.joiner_step.specs.Play.{steps, joiner_after}
 use Rattle.joiner.specs.declared.Joiner.{Joiner}
-use Rattle.joiner.specs.declared.Prefix.{Prefix}
-use Rattle.joiner.specs.Join.{Stepped, ClosingStepped, join_step, close_step, opened_with, opened}
+use Rattle.joiner.specs.Join.{Stepped, ClosingStepped, join_step, close_step, opened}
 use Rattle.delivery.specs.Show.{Show, packet, count}
 
 -- a joiner, whatever it does: how it is opened with an SSRC and a first number, its call for a packet, and its closing
@@ -15,13 +14,13 @@ pub record Machine : Type 0 where
   pub step : Joiner → List ℕ → List ℕ → List ℕ → Stepped
   pub close : Joiner → ℕ → ClosingStepped
 
--- ours, opened with this prefix: the definitions that the contracts of `open_with`, `join` and `close` cite
-abbrev pub our_joiner : Prefix → Machine
-our_joiner chosen = record { opening = λ source first. opened_with source first chosen; step = join_step; close = close_step }
+-- ours: the definitions that the contracts of `open`, `join` and `close` cite
+abbrev pub our_joiner : Machine
+our_joiner = record { opening = opened; step = join_step; close = close_step }
 
--- ours as it is opened by default: `opened` is what the contract of `open` cites
-abbrev pub default_joiner : Machine
-default_joiner = record { opening = opened; step = join_step; close = close_step }
+-- the prefix that it hands units out behind, a start code: not a 4-byte length
+abbrev pub annex_b : Bool
+annex_b = false
 
 module _ (m : Machine) (w : Show) where
   -- these bytes arrive: "The joiner is opened with the sender's SSRC and first"

@@ -16,7 +16,7 @@ use Rattle.joiner_step.specs.Step.{Accepted, step, closing}
 use Rattle.joiner_step.specs.General as any
 use Rattle.joiner_step.specs.General.{parts, closing_said}
 use Rattle.joiner_step.proofs.Playing.{Stands}
-use Rattle.joiner_step.proofs.Cases.{closing_cases}
+use Rattle.joiner_step.proofs.Sayable.{closing_cases}
 use Rattle.joiner_step.proofs.Main.{Ready}
 use Rattle.joiner_step.proofs.Main as any-main
 use Rattle.joiner_feed.specs.Content.{Note}
@@ -45,7 +45,7 @@ module _ (avc : Bool) (source : ℕ) where
   one_call j packet gather out good =
       let s = any-main.one_call (choice avc) source (kept_of j) gather out good.ready packet in
       subst
-      (λ (b : Bool). Stands (parts (choice avc) (plain Known) source) avc standing Good (length gather) (as_step j (step (choice b) (kept_of j) packet gather out)) (call (parts (choice avc) (plain Known) source) (record { gather = length gather; out = length out }) (standing j gather) packet))
+      (λ (b : Bool). Stands (parts (choice avc) (plain Known) source) avc standing Good (length gather) (as_step (step (choice b) (kept_of j) packet gather out)) (call (parts (choice avc) (plain Known) source) (record { gather = length gather; out = length out }) (standing j gather) packet))
       (sym good.prefix)
       (record {
         state = s.state;
@@ -60,7 +60,7 @@ module _ (avc : Bool) (source : ℕ) where
       ≡ close (parts (choice avc) (plain Known) source) (record { gather = length gather; out = length out }) (standing j gather) number
   unfolding close_step
   one_close j gather out good number =
-      ap (λ (b : Bool). closing_seen (as_closing j (closing (choice b) (kept_of j) number))) good.prefix
+      ap (λ (b : Bool). closing_seen (as_closing (closing (choice b) (kept_of j) number))) good.prefix
       ∙ any-main.one_close (choice avc) source (kept_of j) gather out good.ready number
 
 -- a joiner that was not refused its closing is closed

@@ -56,20 +56,20 @@ stepped j number missed d l =
 
 module _ (j : Joiner) (d number : ℕ) (gather out : List ℕ) where
   fed_is : (x : Said (Does Note)) →
-      as_step j (fed_to (choice_of j) (kept_of j) d number gather out x) ≡ stepped j number (j.missed + d) d (lay_does (avc_of j) gather out x)
+      as_step (fed_to (choice_of j) (kept_of j) d number gather out x) ≡ stepped j number (j.missed + d) d (lay_does (avc_of j) gather out x)
   fed_is (refused r) = refl
   fed_is (says x) =
       let l : Laid ℕ = lay_both (avc_of j) gather out (step.fed_by x).kept (step.fed_by x).handed in
       go l l.answer
     where
       go : (l : Laid ℕ) (a : Said ℕ) →
-          as_step j (laid_by (choice_of j) (kept_of j) d number (step.fed_by x).run l a)
+          as_step (laid_by (choice_of j) (kept_of j) d number (step.fed_by x).run l a)
           ≡ stepped j number (j.missed + d) d (record { answer = with_run (recorded (step.fed_by x).run) a; gather = l.gather; out = l.out })
       go l (says n) = refl
       go l (refused r) = refl
 
   pub checked_is : (time : ℕ) (x : Said Content) →
-      as_step j (by_check (choice_of j) (kept_of j) d number gather out (timed time x))
+      as_step (by_check (choice_of j) (kept_of j) d number gather out (timed time x))
       ≡ stepped j number (j.missed + d) d (lay_does (avc_of j) gather out (fed_after (run_at (choice_of j) (kept_of j) d gather) time x))
   checked_is time (refused r) = refl
   checked_is time (says x) = fed_is (fed (run_at (choice_of j) (kept_of j) d gather) time x)

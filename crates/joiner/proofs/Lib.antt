@@ -1,5 +1,4 @@
 pub mod Joining
-pub mod Handed
 pub mod General
 pub mod Only
 pub mod Records

@@ -12,19 +12,17 @@ use Rattle.packet.specs.Read.{PacketReading, read_packet}
 use Rattle.packet.proofs.Only.{packet_sayable}
 use Rattle.sequence.specs.Number.{distance_of, next_of}
 use Rattle.joiner_step.specs.Step.{Accepted, Answer, accepted, late}
-use Rattle.joiner_step.proofs.Cases.{closing_cases}
-use Rattle.joiner_step.proofs.Sayable.{Speaks, step_sayable}
+use Rattle.joiner_step.proofs.Sayable.{Speaks, step_sayable, closing_cases}
 use Rattle.joiner_feed.specs.H264.{check}
 use Rattle.joiner_feed.proofs.Sayable.{check_sayable, timed_sayable, fed_sayable}
 use Rattle.joiner.specs.declared.Joiner.{Joiner}
-use Rattle.joiner.specs.declared.Prefix.{Prefix}
 use Rattle.joiner.specs.declared.Joined.{Joined}
 use Rattle.joiner.specs.declared.Joined.TheVariants as joined
 use Rattle.joiner.specs.declared.Step.{Step}
 use Rattle.joiner.specs.declared.Closed.{Closed}
 use Rattle.joiner.specs.declared.Closed.TheVariants as closed
 use Rattle.joiner.specs.declared.Closing.{Closing}
-use Rattle.joiner.specs.Join.{kept_of, Stepped, ClosingStepped, as_closing, arrived_in, choice, avc_of, choice_of, join_step, close_step, opened, opened_with}
+use Rattle.joiner.specs.Join.{kept_of, Stepped, ClosingStepped, as_closing, arrived_in, choice, avc_of, choice_of, join_step, close_step, opened}
 use Rattle.joiner.specs.Said.{said_joined, step_heard, place_heard, said_closed, closing_heard}
 
 -- ---- numbers, by the crate `sequence`
@@ -39,9 +37,6 @@ after_only number = by_value (next_of number)
 
 pub open_only : (ssrc first : ℕ) → Determined (λ (r : Joiner). r ≡ opened ssrc first)
 open_only ssrc first = by_value (opened ssrc first)
-
-pub open_with_only : (ssrc first : ℕ) (p : Prefix) → Determined (λ (r : Joiner). r ≡ opened_with ssrc first p)
-open_with_only ssrc first p = by_value (opened_with ssrc first p)
 
 -- ---- what a call with a packet says
 
@@ -147,7 +142,7 @@ closing_of_heard a = ap (λ (c : Closed). record { joiner = a.joiner; answer = c
 heard_closing_of : (j : Joiner) (number : ℕ) → closing_heard (closing_of (close_step j number)) ≡ close_step j number
 unfolding close_step
 heard_closing_of j number =
-    closing_cases (choice_of j) (λ st. closing_heard (closing_of (as_closing j st)) ≡ as_closing j st) (kept_of j) number refl refl refl refl (λ d. refl)
+    closing_cases (choice_of j) (λ st. closing_heard (closing_of (as_closing st)) ≡ as_closing st) (kept_of j) number refl refl refl refl (λ d. refl)
 
 pub close_only : (j : Joiner) (number : ℕ) → Determined (λ (r : Closing). closing_heard r ≡ close_step j number)
 close_only j number =

@@ -1,5 +1,5 @@
 -- The joiner that is opened here: what a record keeps, what it was opened with, and the joiner of that choice. Assumes nothing.
-use Rattle.std.specs.Prelude.{Bool, true, false, List, ℕ}
+use Rattle.std.specs.Prelude.{Bool, false, List, ℕ}
 use Rattle.error.specs.Said.{Said, says, refused}
 use Rattle.wire.specs.Part.{part}
 use Rattle.packet.specs.Read.{PacketReading, read_packet}
@@ -9,8 +9,6 @@ use Rattle.joiner_step.specs.Step as any
 use Rattle.joiner_feed.specs.Content.{Timed, Note, choosing}
 use Rattle.joiner_feed.specs.H264.{check}
 use Rattle.joiner.specs.declared.Joiner.{Joiner}
-use Rattle.joiner.specs.declared.Prefix.{Prefix}
-use Rattle.joiner.specs.declared.Prefix.TheVariants as prefix
 
 -- ---- the record
 
@@ -24,9 +22,8 @@ kept_of j =
       closed = j.closed;
     }
 
--- beside the prefix that it was opened with
-abbrev pub joiner_of : Bool → Kept Note → Joiner
-joiner_of avc k =
+abbrev pub joiner_of : Kept Note → Joiner
+joiner_of k =
     record {
       source = k.source;
       awaited = k.awaited;
@@ -36,7 +33,6 @@ joiner_of avc k =
       marked = k.run.note.marked;
       time = k.run.note.time;
       closed = k.closed;
-      is_avc = avc;
     }
 
 abbrev pub Stepped : Type 0
@@ -45,12 +41,11 @@ Stepped = any.Stepped Joiner
 abbrev pub ClosingStepped : Type 0
 ClosingStepped = any.ClosingStepped Joiner
 
--- a call leaves the prefix of the record as it was
-abbrev pub as_step : Joiner → any.Stepped (Kept Note) → Stepped
-as_step j st = record { joiner = joiner_of j.is_avc st.joiner; answer = st.answer; gather = st.gather; out = st.out }
+abbrev pub as_step : any.Stepped (Kept Note) → Stepped
+as_step st = record { joiner = joiner_of st.joiner; answer = st.answer; gather = st.gather; out = st.out }
 
-abbrev pub as_closing : Joiner → any.ClosingStepped (Kept Note) → ClosingStepped
-as_closing j st = record { joiner = joiner_of j.is_avc st.joiner; answer = st.answer }
+abbrev pub as_closing : any.ClosingStepped (Kept Note) → ClosingStepped
+as_closing st = record { joiner = joiner_of st.joiner; answer = st.answer }
 
 -- ---- what it was opened with
 
@@ -77,13 +72,9 @@ arrived_in packet (says r) =
 abbrev pub choice : Bool → Choice Known Timed Note
 choice avc = choosing (λ packet. arrived_in packet (read_packet packet)) (λ p. p.time) (λ p. check p.payload) avc
 
--- "a four-byte length before each unit", or "start codes" (E2)
-abbrev pub avc_for : Prefix → Bool
-avc_for prefix.Length = true
-avc_for prefix.StartCode = false
-
+-- "handed out as Annex B": the one prefix that a record can ask for
 abbrev pub avc_of : Joiner → Bool
-avc_of j = j.is_avc
+avc_of j = false
 
 abbrev pub choice_of : Joiner → Choice Known Timed Note
 choice_of j = choice (avc_of j)
@@ -91,14 +82,10 @@ choice_of j = choice (avc_of j)
 -- ---- its calls
 
 unfoldable pub join_step : Joiner → List ℕ → List ℕ → List ℕ → Stepped
-join_step j packet gather out = as_step j (step (choice_of j) (kept_of j) packet gather out)
+join_step j packet gather out = as_step (step (choice_of j) (kept_of j) packet gather out)
 
 unfoldable pub close_step : Joiner → ℕ → ClosingStepped
-close_step j number = as_closing j (closing (choice_of j) (kept_of j) number)
+close_step j number = as_closing (closing (choice_of j) (kept_of j) number)
 
-unfoldable pub opened_with : ℕ → ℕ → Prefix → Joiner
-opened_with source first p = joiner_of (avc_for p) (opening (choice (avc_for p)) source first)
-
--- "Make that the joiner's default"
-abbrev pub opened : ℕ → ℕ → Joiner
-opened source first = opened_with source first prefix.Length
+unfoldable pub opened : ℕ → ℕ → Joiner
+opened source first = joiner_of (opening (choice false) source first)

@@ -44,7 +44,6 @@ accepted_joiner j number missed (says r) =
       marked = r.run.marked;
       time = r.run.time;
       closed = false;
-      is_avc = j.is_avc;
     }
 accepted_joiner j number missed (refused r) = j
 

@@ -4,13 +4,16 @@ ghost use Rattle.error.specs.Refusal.{refusal_of};
 ghost use Rattle.error.specs.Said.{refused};
 ghost use Rattle.joiner_step.specs.Step.{by_source, stray};
 ghost use Rattle.joiner_feed.specs.Ran.{ran_said};
-ghost use Rattle.joiner.specs.Join.{kept_of, as_step, known, choice_of, opened, opened_with, join_step, close_step};
+ghost use Rattle.joiner.specs.Join.{kept_of, as_step, known, choice_of, opened, join_step, close_step};
 ghost use Rattle.joiner.specs.Said.{said_joined, step_heard, held_at, accepted_joiner, accepted_answer, closing_heard};
 
-use crate::{Closed, Closing, Joined, Joiner, Prefix, Step};
+use crate::{Closed, Closing, Joined, Joiner, Step};
 use error::Error;
 use joiner_feed::{Ran, Run, feed, no_run};
 use joiner_read::{Arrival, arrive};
+
+// "handed out as Annex B": behind a start code, and not behind a 4-byte length.
+const IS_AVC: bool = false;
 
 fn sum(n: u32, d: u16) -> u64
     ensures { result ≡ n + d }
@@ -19,21 +22,9 @@ fn sum(n: u32, d: u16) -> u64
 }
 
 impl Joiner {
-    // The default: "a four-byte length before each unit".
     pub fn open(ssrc: u32, first: u16) -> Self
         ensures { result ≡ opened ssrc first }
     {
-        Joiner::open_with(ssrc, first, Prefix::Length)
-    }
-
-    // "with start codes as the named choice"
-    pub fn open_with(ssrc: u32, first: u16, prefix: Prefix) -> Self
-        ensures { result ≡ opened_with ssrc first prefix }
-    {
-        let is_avc = match prefix {
-            Prefix::Length => true,
-            Prefix::StartCode => false,
-        };
         Joiner {
             source: ssrc,
             awaited: first,
@@ -43,7 +34,6 @@ impl Joiner {
             time: 0,
             marked: false,
             closed: false,
-            is_avc,
         }
     }
 
@@ -103,7 +93,6 @@ impl Joiner {
                     time: run.time,
                     marked: run.marked,
                     closed: false,
-                    is_avc: self.is_avc,
                 },
                 answer: Joined::Accepted {
                     first: self.awaited,
@@ -126,7 +115,7 @@ impl Joiner {
         out: &mut [u8],
     ) -> Step
         requires { (length payload.now ≤ 65535) × (self.gathered ≤ length gather.old) × (self.closed ≡ false) }
-        ensures { step_heard result gather.new out.new ≡ as_step self (by_source (choice_of self) (kept_of self) (record { source = source; number = number; known = known time payload.now }) gather.old out.old) }
+        ensures { step_heard result gather.new out.new ≡ as_step (by_source (choice_of self) (kept_of self) (record { source = source; number = number; known = known time payload.now }) gather.old out.old) }
     {
         if source != self.source {
             return self.unchanged(Joined::Refused(Error::OtherSource));
@@ -139,7 +128,7 @@ impl Joiner {
         if 4294967295 < missed {
             return self.unchanged(Joined::Refused(Error::MissedTotalFull));
         }
-        let ran = feed(self.run_at(d), self.is_avc, time, payload, gather, out);
+        let ran = feed(self.run_at(d), IS_AVC, time, payload, gather, out);
         self.accept(d, number, missed as u32, ran)
     }
 
@@ -202,7 +191,6 @@ impl Joiner {
                 time: 0,
                 marked: false,
                 closed: true,
-                is_avc: self.is_avc,
             },
             answer: Closed::Closed {
                 first: self.awaited,

@@ -26,17 +26,6 @@ pub struct Joiner {
     pub marked: bool,
     // closed: every call answers 22
     pub closed: bool,
-    // units are handed out behind a 4-byte length, and not behind a start code: as it was opened, and no call changes it
-    pub is_avc: bool,
-}
-
-// What stands before each unit that is handed out.
-#[derive(Drop)]
-pub enum Prefix {
-    // the unit's length in four bytes, in network order
-    Length,
-    // 00 00 00 01, as in Annex B
-    StartCode,
 }
 
 #[derive(Drop)]

@@ -25,10 +25,10 @@ use Rattle.nal.specs.Fed.{lay_bytes, lay_both}
 use Rattle.h264_packet.specs.Depacketize as h264
 use Rattle.joiner_step.specs.Step.{by_source, step, opening}
 use Rattle.joiner_feed.specs.H264.{check}
-use Rattle.joiner.specs.Join.{join_step, opened_with}
+use Rattle.joiner.specs.Join.{join_step, opened}
 use Rattle.worked.specs.Asked.{say}
 use Rattle.worked.specs.Table.{Row, table}
 
 pub worked : map (λ (r : Row). say r.asked) table ≡ map (λ (r : Row). r.answer) table
-unfolding table u16_at u32_at be16 be32 whole splice pad_to run elements_of lay_elements fields_of lay_out in_domain one_byte_item taken turn fields_at read_extension read_fixed read_header header_size fixed_for octets_of in_writing_domain stripped read_packet payload_octets packet_octets packet_size write_packet units units_at keep stap_a pair_for unit_for groups_for fragment payload_of shape unpacking.unpack_turn unpacking.unpack unpack lay_bytes lay_both h264.read_payload h264.depacketized reader.put_required reader.put_flags reader.put_picture_id reader.with_flags reader.with_picture_id reader.with_tl0 reader.with_layers reader.or_short reader.third reader.second reader.read_on reader.depacketized check by_source step opening join_step opened_with
+unfolding table u16_at u32_at be16 be32 whole splice pad_to run elements_of lay_elements fields_of lay_out in_domain one_byte_item taken turn fields_at read_extension read_fixed read_header header_size fixed_for octets_of in_writing_domain stripped read_packet payload_octets packet_octets packet_size write_packet units units_at keep stap_a pair_for unit_for groups_for fragment payload_of shape unpacking.unpack_turn unpacking.unpack unpack lay_bytes lay_both h264.read_payload h264.depacketized reader.put_required reader.put_flags reader.put_picture_id reader.with_flags reader.with_picture_id reader.with_tl0 reader.with_layers reader.or_short reader.third reader.second reader.read_on reader.depacketized check by_source step opening join_step opened
 worked = refl

@@ -14,7 +14,7 @@ returns : tie.Need-returns
 returns c =
     let a = c.before.before.before.before.args in
     let told = c.before.before.ran.given.1 in (
-      ap (λ (n : ℕ). record { source = a.self.source; awaited = n; missed = a.missed; running = c.before.before.ran.given.0.0.running; gathered = c.before.before.ran.given.0.0.gathered; marked = c.before.before.ran.given.0.0.marked; time = c.before.before.ran.given.0.0.time; closed = false; is_avc = a.self.is_avc }) c.after.ensures
+      ap (λ (n : ℕ). record { source = a.self.source; awaited = n; missed = a.missed; running = c.before.before.ran.given.0.0.running; gathered = c.before.before.ran.given.0.0.gathered; marked = c.before.before.ran.given.0.0.marked; time = c.before.before.ran.given.0.0.time; closed = false }) c.after.ensures
           ∙ sym (ap (λ (r : Ran). accepted_joiner a.self a.number a.missed (ran_said r)) told),
       sym (ap (λ (r : Ran). accepted_answer a.self a.d (ran_said r)) told),
     )

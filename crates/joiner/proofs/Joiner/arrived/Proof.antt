@@ -17,7 +17,7 @@ use Rattle.joiner_feed.specs.H264.{check}
 use Rattle.joiner_feed.specs.Ran.{run_of, lay_does}
 use Rattle.joiner.specs.declared.Joiner.{Joiner}
 use Rattle.joiner.specs.declared.Step.{Step}
-use Rattle.joiner.specs.Join.{kept_of, Stepped, as_step, Known, known, avc_of, choice_of}
+use Rattle.joiner.specs.Join.{kept_of, Stepped, as_step, Known, known, choice_of}
 use Rattle.joiner.specs.Said.{step_heard}
 use Rattle.joiner.proofs.Joining.{stepped, checked_is, held_is, held_le}
 use Rattle.joiner.proofs.Joiner.arrived.Statement.{statement}
@@ -49,11 +49,11 @@ far s = distance_of s.args.number (joiner s).awaited
 
 -- what the call is to leave
 abbrev asked : tie.Start → Stepped
-asked s = as_step (joiner s) (by_source (choice_of (joiner s)) (kept_of (joiner s)) (came s) s.args.gather.now s.args.out.now)
+asked s = as_step (by_source (choice_of (joiner s)) (kept_of (joiner s)) (came s) s.args.gather.now s.args.out.now)
 
 abbrev by_distance_lem : tie.Start → ℕ → Stepped
 by_distance_lem s d =
-    as_step (joiner s) (by_distance (choice_of (joiner s)) (kept_of (joiner s)) d s.args.number (known s.args.time s.args.payload.now) s.args.gather.now s.args.out.now)
+    as_step (by_distance (choice_of (joiner s)) (kept_of (joiner s)) d s.args.number (known s.args.time s.args.payload.now) s.args.gather.now s.args.out.now)
 
 abbrev heard : tie.Start → Step → Stepped
 heard s r = step_heard r s.args.gather.now s.args.out.now
@@ -61,7 +61,7 @@ heard s r = step_heard r s.args.gather.now s.args.out.now
 own : (c : tie.Else1) → asked (own_start c) ≡ by_distance_lem (own_start c) (far (own_start c))
 own c =
     let s = own_start c in
-    ap (as_step (joiner s)) (source_own (choice_of (joiner s)) (kept_of (joiner s)) s.args.gather.now s.args.out.now (came s) c.if1.false)
+    ap as_step (source_own (choice_of (joiner s)) (kept_of (joiner s)) s.args.gather.now s.args.out.now (came s) c.if1.false)
 
 near : (c : tie.Else2) → far (own_start (near_own c)) < 32768
 near c = omega (arith, c.before.distance.ensures, c.if2.false)
@@ -75,7 +75,7 @@ returns : tie.Need-returns
 returns c =
     let s = c.before.before.before.before.before.before in
     ap (heard s) c.unchanged.ensures
-    ∙ sym (ap (as_step (joiner s)) (source_other (choice_of (joiner s)) (kept_of (joiner s)) s.args.gather.now s.args.out.now (came s) c.before.if1.true))
+    ∙ sym (ap as_step (source_other (choice_of (joiner s)) (kept_of (joiner s)) s.args.gather.now s.args.out.now (came s) c.before.if1.true))
 
 returns-2 : tie.Need-returns-2
 returns-2 c =
@@ -83,7 +83,7 @@ returns-2 c =
     ap (heard s) c.unchanged2.ensures
     ∙ sym
     (own c.before.before.before
-    ∙ ap (as_step (joiner s))
+    ∙ ap as_step
     (distance_late (choice_of (joiner s)) (kept_of (joiner s)) s.args.gather.now s.args.out.now (far s) s.args.number (known s.args.time s.args.payload.now) (omega (arith, c.before.before.distance.ensures, c.before.if2.true))))
 
 returns-3 : tie.Need-returns-3
@@ -93,7 +93,7 @@ returns-3 c =
     ap (heard s) c.unchanged3.ensures
     ∙ sym
     (own (near_own n)
-    ∙ ap (as_step (joiner s))
+    ∙ ap as_step
     (distance_full (choice_of (joiner s)) (kept_of (joiner s)) s.args.gather.now s.args.out.now (far s) s.args.number (known s.args.time s.args.payload.now) (near n) (omega (arith, n.before.distance.ensures, c.before.before.sum.ensures, c.before.if3.true))))
 
 -- ---- the payload
@@ -124,11 +124,11 @@ returns-4 c =
     ap₂ (λ (x : Joiner) (y : Said Answer). record { joiner = x; answer = y; gather = fed.new.1.1.1.1.0; out = fed.new.1.1.1.1.1.0 })
     c.accept.ensures.0 c.accept.ensures.1
     ∙ ap (stepped j number room.before.sum.result dist.result) fed.ensures
-    ∙ ap₂ (λ (k e : ℕ). stepped j number k e (lay_does (avc_of j) g o (fed_after (run_of held.run_at.result g) s.args.time (check payload)))) (total room) dist.ensures
-    ∙ ap (λ (r : Run Note). stepped j number (j.missed + n) n (lay_does (avc_of j) g o (fed_after r s.args.time (check payload)))) run
+    ∙ ap₂ (λ (k e : ℕ). stepped j number k e (lay_does false g o (fed_after (run_of held.run_at.result g) s.args.time (check payload)))) (total room) dist.ensures
+    ∙ ap (λ (r : Run Note). stepped j number (j.missed + n) n (lay_does false g o (fed_after r s.args.time (check payload)))) run
     ∙ sym
     (own (near_own (room_near room))
-    ∙ ap (as_step j) (distance_near (choice_of j) (kept_of j) g o n number (known s.args.time payload) (near (room_near room)) (omega (arith, total room, room.if3.false)))
+    ∙ ap as_step (distance_near (choice_of j) (kept_of j) g o n number (known s.args.time payload) (near (room_near room)) (omega (arith, total room, room.if3.false)))
     ∙ checked_is j n number g o s.args.time (check payload))
 
 pub arrived-spec : {M : Type 1} → statement M

@@ -25,7 +25,7 @@ returns : tie.Need-returns
 unfolding close_step
 returns c =
     let j = joiner c.before.before in
-    c.still_Open.ensures ∙ sym (ap (as_closing j) (close_closed (choice_of j) (kept_of j) c.before.before.args.number c.before.if1.true))
+    c.still_Open.ensures ∙ sym (ap as_closing (close_closed (choice_of j) (kept_of j) c.before.before.args.number c.before.if1.true))
 
 returns-2 : tie.Need-returns-2
 unfolding close_step
@@ -33,7 +33,7 @@ returns-2 c =
     let s = c.before.before.before.before in
     let j = joiner s in
     c.still-open2.ensures
-    ∙ sym (ap (as_closing j) (close_outside (choice_of j) (kept_of j) s.args.number c.before.before.before.if1.false (λ d. omega (arith, d.few, c.before.if2.true))))
+    ∙ sym (ap as_closing (close_outside (choice_of j) (kept_of j) s.args.number c.before.before.before.if1.false (λ d. omega (arith, d.few, c.before.if2.true))))
 
 returns-3 : tie.Need-returns-3
 unfolding close_step
@@ -42,7 +42,7 @@ returns-3 c =
     let j = joiner s in
     c.still-open3.ensures
     ∙ sym
-    (ap (as_closing j)
+    (ap as_closing
     (close_outside (choice_of j) (kept_of j) s.args.number c.before.before.before.before.before.if1.false
     (strays_out (choice_of j) (kept_of j).run (sym c.before.before.strays.ensures ∙ c.before.if3.true))))
 
@@ -54,12 +54,12 @@ in_start c = c.before.before.before.before.before
 -- neither closed nor outside the domain
 opened : (c : tie.Else3) →
     close_step (joiner (in_start c)) (in_start c).args.number
-    ≡ as_closing (joiner (in_start c)) (close_by (choice_of (joiner (in_start c))) (kept_of (joiner (in_start c))) (far (in_start c)))
+    ≡ as_closing (close_by (choice_of (joiner (in_start c))) (kept_of (joiner (in_start c))) (far (in_start c)))
 unfolding close_step
 opened c =
     let s = in_start c in
     let j = joiner s in
-    ap (as_closing j)
+    ap as_closing
     (close_open (choice_of j) (kept_of j) s.args.number c.before.before.before.before.if1.false
     (domain_by (choice_of j) (kept_of j).run c.before.before.if2.false (sym c.before.strays.ensures ∙ c.if3.false)))
 
@@ -70,7 +70,7 @@ returns-4 c =
     let j = joiner s in
     c.still-open4.ensures
     ∙ sym
-    (opened into ∙ ap (as_closing j) (close_far (choice_of j) (kept_of j) (far s) (omega (arith, c.before.before.distance.ensures, c.before.if4.true))))
+    (opened into ∙ ap as_closing (close_far (choice_of j) (kept_of j) (far s) (omega (arith, c.before.before.distance.ensures, c.before.if4.true))))
 
 returns-5 : tie.Need-returns-5
 returns-5 c =
@@ -81,14 +81,14 @@ returns-5 c =
     c.still-open5.ensures
     ∙ sym
     (opened into
-    ∙ ap (as_closing j)
+    ∙ ap as_closing
     (close_full (choice_of j) (kept_of j) (far s) (omega (arith, d, c.before.before.before.if4.false)) (omega (arith, d, c.before.before.sum.ensures, c.before.if5.true))))
 
 -- closed, with a missed total of n after d numbers that never came
 shut_at : Joiner → ℕ → ℕ → ClosingStepped
 shut_at j n d =
     record {
-      joiner = record { source = j.source; awaited = j.awaited; missed = n; running = false; gathered = 0; marked = false; time = 0; closed = true; is_avc = j.is_avc };
+      joiner = record { source = j.source; awaited = j.awaited; missed = n; running = false; gathered = 0; marked = false; time = 0; closed = true };
       answer = says (record { first = j.awaited; count = d; bytes = 0 });
     }
 
@@ -104,7 +104,7 @@ returns-6 c =
     ∙ ap (λ (k : ℕ). shut_at j (j.missed + k) k) d
     ∙ sym
     (opened into
-    ∙ ap (as_closing j) (close_shut (choice_of j) (kept_of j) (far s) (omega (arith, d, c.before.before.if4.false)) (omega (arith, d, m, c.if5.false))))
+    ∙ ap as_closing (close_shut (choice_of j) (kept_of j) (far s) (omega (arith, d, c.before.before.if4.false)) (omega (arith, d, m, c.if5.false))))
 
 pub close_spec : {M : Type 1} → statement M
 close_spec =

@@ -56,7 +56,7 @@ returns c =
     let s = c.before.before.before.before.before in
     let j = joiner s in
     ap (heard s) c.unchanged.ensures
-    ∙ sym (ap (as_step j) (step_closed (choice_of j) (kept_of j) (packet s) s.args.gather.now s.args.out.now c.before.if1.true))
+    ∙ sym (ap as_step (step_closed (choice_of j) (kept_of j) (packet s) s.args.gather.now s.args.out.now c.before.if1.true))
 
 -- a record outside the domain
 out_of : (s : tie.Start) → (joiner s).closed ≡ false → (Opened s → ⊥) →
@@ -64,7 +64,7 @@ out_of : (s : tie.Start) → (joiner s).closed ≡ false → (Opened s → ⊥) 
 unfolding join_step
 out_of s e never =
     let j = joiner s in
-    ap (as_step j) (step_outside (choice_of j) (kept_of j) (packet s) s.args.gather.now s.args.out.now e never)
+    ap as_step (step_outside (choice_of j) (kept_of j) (packet s) s.args.gather.now s.args.out.now e never)
 
 returns-2 : tie.Need-returns-2
 returns-2 c =
@@ -88,12 +88,12 @@ returns-4 c =
 
 reads : (c : tie.Else4) → (x : Said (Choice.Arrived Known)) → arrived_in (packet (in_start c)) (read_packet (packet (in_start c))) ≡ x →
     asked (in_start c)
-    ≡ as_step (joiner (in_start c)) (by_reading (choice_of (joiner (in_start c))) (kept_of (joiner (in_start c))) (in_start c).args.gather.now (in_start c).args.out.now x)
+    ≡ as_step (by_reading (choice_of (joiner (in_start c))) (kept_of (joiner (in_start c))) (in_start c).args.gather.now (in_start c).args.out.now x)
 unfolding join_step
 reads c x e =
     let s = in_start c in
     let j = joiner s in
-    ap (as_step j)
+    ap as_step
     (step_reads (choice_of j) (kept_of j) (packet s) s.args.gather.now s.args.out.now
     (record {
       not_closed = c.before.before.before.before.if1.false;
@@ -157,7 +157,7 @@ returns-5 c =
     let s = in_start (came_in told) in
     let j = joiner s in
     c.before.before.before.before.arrived.ensures
-    ∙ ap (λ (l : List ℕ). as_step j (by_source (choice_of j) (kept_of j) (record { source = (arrived told).source; number = (arrived told).number; known = known (arrived told).time l }) s.args.gather.now s.args.out.now)) (payload told)
+    ∙ ap (λ (l : List ℕ). as_step (by_source (choice_of j) (kept_of j) (record { source = (arrived told).source; number = (arrived told).number; known = known (arrived told).time l }) s.args.gather.now s.args.out.now)) (payload told)
     ∙ sym (reads (came_in told) _ (joining.came (packet s) (arrived told) (came told)))
 
 -- a packet that the reader refused
