@@ -3,6 +3,8 @@
 // Only proved code calls this crate, `next_ind` apart, so its functions may ask that a place lies in the frame.
 //
 // A start code is two or more zeros and a 1. Bytes before the first one are ignored; without one the frame is one unit.
+#![tactic(auto)]
+
 ghost use Rattle.std.specs.Prelude.{◌≡◌, ◌+◌, ◌≤◌, length, drop, get_or};
 ghost use Rattle.annexb.specs.Search.{next_code, code_of, said_search, next_ind};
 ghost use Rattle.annexb.specs.Runs.{Run, Zero, Other, ZerosEnd, ZerosStart};

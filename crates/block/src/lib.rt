@@ -1,6 +1,8 @@
 // What a block of extension elements is by RFC 3550, 5.3.1, and RFC 8285: its profiles, how long it is, and its padding.
 //
 // Only proved code calls this crate, so its functions may ask that a record is in the domain.
+#![tactic(auto)]
+
 mod padding;
 mod size;
 

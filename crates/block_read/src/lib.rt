@@ -1,6 +1,8 @@
 // Reading a block of extension elements.
 //
 // Only proved code calls this crate, so its function may ask that the block lies in the packet.
+#![tactic(auto)]
+
 ghost use Rattle.std.specs.Prelude.{◌≡◌, [], ◌+◌, ◌<◌, ◌≤◌, length, drop};
 ghost use Rattle.error.specs.Refusal.{refusal_of};
 ghost use Rattle.error.specs.Said.{says, refused};

@@ -1,6 +1,8 @@
 // Writing a block of extension elements.
 //
 // Only proved code calls this crate, so its functions may ask that the buffer has room.
+#![tactic(auto)]
+
 ghost use Rattle.std.specs.Prelude.{◌≡◌, true, ◌+◌, ◌≤◌, length, take};
 ghost use Rattle.elements.specs.Elements.{Packed, elements_in, sum};
 ghost use Rattle.block.specs.Form.{form_of, length_for};

@@ -1,6 +1,8 @@
 // The elements of a header's extension in their record: how they are laid out, found, put in and taken out.
 //
 // Only proved code calls this crate, so its functions may ask that the record has room.
+#![tactic(auto)]
+
 mod change;
 mod list;
 

@@ -2,6 +2,8 @@
 //
 // specs/Refusal.antt gives each its number and what it carries. All other crates answer a refusal
 // as a value of this one enum.
+#![tactic(auto)]
+
 ghost use Rattle.std.specs.Prelude.{◌≡◌};
 ghost use Rattle.error.specs.Refusal.{number_of};
 

@@ -2,6 +2,8 @@
 //
 // Each makes one call of the library and lays its answer out in a record: a refusal's number and what it carries, or 0, then
 // the values, and beside them the state or the header. A slice is a pointer and a count. include/rtp_rattle.h declares them all.
+#![tactic(auto)]
+
 pub mod refused; // refused.rt: a refusal in a record
 pub mod rtp_header; // rtp_header.rt: the header read, sized, written
 pub mod rtp_extension; // rtp_extension.rt: its extension elements set, deleted, got, listed

@@ -2,6 +2,8 @@
 //
 // A refusal changes nothing, and a set that is too long may come behind units that can be sent: so all is measured before
 // a byte is written. Only proved code calls this crate, so its functions may ask that a frame is within the limits.
+#![tactic(auto)]
+
 ghost use Rattle.std.specs.Prelude.{◌≡◌, List, ℕ, ◌+◌, ◌*◌, ◌≤◌, ◌<◌, ◌||◌, ltb, length, drop};
 ghost use Rattle.h264_put.specs.Groups.{Saved, fate_of, unit_for, packets_of};
 ghost use Rattle.annexb.specs.Units.{units, pieces};

@@ -1,4 +1,6 @@
 // Reading H.264 payloads: the H264Packet of codecs/h264/mod.rs of rtp 0.17.2.
+#![tactic(auto)]
+
 use error::Error;
 
 mod partition;

@@ -1,6 +1,8 @@
 // What the H.264 sender goes by: what is to be done with a unit, packets put into one output, and what became of the unit.
 //
 // Only proved code calls this crate, so its functions may ask that the buffers have room.
+#![tactic(auto)]
+
 mod fate;
 mod outcome;
 mod put;

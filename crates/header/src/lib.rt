@@ -12,6 +12,8 @@
 // |            contributing source (CSRC) identifiers             |
 // |                             ....                              |
 // +-+-+-+-+-+-+-+-+-+-+-+-+-+-+-+-+-+-+-+-+-+-+-+-+-+-+-+-+-+-+-+-+
+#![tactic(auto)]
+
 use error::Error;
 
 mod extension;

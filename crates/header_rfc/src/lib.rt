@@ -1,4 +1,6 @@
 // What the reader and the writer of crate `header` do, held against RFC 3550 and RFC 8285: theorems in proofs/, and no code but this.
+#![tactic(auto)]
+
 ghost use Rattle.std.specs.Prelude.{◌≡◌};
 ghost use Rattle.header_rfc.specs.RoundTrip.{AsTyped};
 

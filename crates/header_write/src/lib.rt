@@ -1,6 +1,8 @@
 // A header by its numbers and by its parts, apart from its record: the limits of the domain, the size, and what is judged and written.
 //
 // Only proved code calls this crate, so its functions may ask that a record is in the domain, and that the buffer has room.
+#![tactic(auto)]
+
 use error::Error;
 
 mod by_parts;

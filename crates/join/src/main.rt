@@ -1,4 +1,6 @@
 // join PACKETS CLIP [SOURCE FIRST [END]]: the H.264 units of a file of packets, as an Annex B file.
+#![tactic(auto)]
+
 mod account;
 mod show;
 mod units;

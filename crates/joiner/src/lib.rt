@@ -1,4 +1,6 @@
 // Puts H.264 units together from the packets of one source, by sequence number.
+#![tactic(auto)]
+
 use error::Error;
 
 mod join;

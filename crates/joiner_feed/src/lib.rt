@@ -1,6 +1,8 @@
 // What a payload holds, and what that does to the open run.
 //
 // Only proved code calls this crate, so its function may ask that the run lies in the gather buffer.
+#![tactic(auto)]
+
 ghost use Rattle.std.specs.Prelude.{◌≡◌, true, false, ◌&&◌, ◌||◌, ◌≤◌, length};
 ghost use Rattle.nal.specs.Said.{said_handed};
 ghost use Rattle.nal.specs.Ran.{with_run};

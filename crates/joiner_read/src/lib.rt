@@ -1,4 +1,6 @@
 // What the joiner needs of a packet: its source, its number, its timestamp, and where its payload is.
+#![tactic(auto)]
+
 ghost use Rattle.std.specs.Prelude.{◌≡◌};
 ghost use Rattle.packet.specs.Read.{read_packet};
 ghost use Rattle.joiner_read.specs.Arrive.{arrival_said, arrival_of};

@@ -1,6 +1,8 @@
 // What no list of `replay` asks, since a field of a row has 65,535 bytes at most and a joiner's record is one that a call made: a byte over
 // the limit of a packet, a bare header beyond its limits, records that contradict themselves, and a fresh sender. A line for each call: the refusal's number, 0 for none; of
 // `body`, which refuses nothing, how many bytes it shows; of a fresh sender how many packets it sends.
+#![tactic(auto)]
+
 mod bare;
 mod fresh;
 mod joined;

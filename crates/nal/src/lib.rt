@@ -2,6 +2,8 @@
 // aggregation packet, and handing units out. What a unit's header is, what is refused and what is kept of a run is each caller's own.
 //
 // Only proved code calls this crate, so its functions may ask that the buffers have room.
+#![tactic(auto)]
+
 use error::Error;
 
 mod aggregate;

@@ -1,4 +1,6 @@
 // What an H.264 payload is, for the reader and the joiner: its kind, and the units of a STAP-A.
+#![tactic(auto)]
+
 use error::Error;
 
 mod aggregate;

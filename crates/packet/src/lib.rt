@@ -1,4 +1,6 @@
 // The RTP packet with its padding: packet/mod.rs of rtp 0.17.2.
+#![tactic(auto)]
+
 use error::Error;
 use header::{Front, Header};
 

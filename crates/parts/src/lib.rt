@@ -1,6 +1,8 @@
 // How many parts a length makes, by doubling and halving alone: the stage box's core divides in software.
 //
 // Only proved code calls this crate, so its function may ask for lengths within the limits.
+#![tactic(auto)]
+
 ghost use Rattle.std.specs.Prelude.{◌≡◌, ◌+◌, ◌-◌, ◌/◌, ◌<◌, ◌≤◌};
 
 // How many parts of `size` bytes `len` bytes make, the last perhaps shorter: long division, in binary.

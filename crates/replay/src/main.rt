@@ -1,6 +1,8 @@
 // Replays lists of questions with their answers through the proved calls. data/header, packet, h264 and vp8 have the Rust's own answers
 // (rust/oracle), data/joiner those of a plain model (rust/channel), and in data/altered each answer was altered in one field: none
 // may be equal.
+#![tactic(auto)]
+
 mod equal;
 mod h264_calls;
 mod joiner_calls;

@@ -1,4 +1,6 @@
 // send CLIP PACKETS MTU SOURCE FIRST TYPE [TICKS]: an Annex B file as RTP packets.
+#![tactic(auto)]
+
 mod access;
 mod frames;
 mod packets;

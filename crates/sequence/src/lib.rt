@@ -1,4 +1,6 @@
 // Sequence numbers: how far one is ahead of another, and which comes next.
+#![tactic(auto)]
+
 ghost use Rattle.std.specs.Prelude.{◌≡◌};
 ghost use Rattle.sequence.specs.Number.{distance_of, next_of};
 

@@ -1,4 +1,6 @@
 // show PACKETS [h264|vp8]: one line for each packet of a file.
+#![tactic(auto)]
+
 mod above;
 mod kind;
 mod line;

@@ -1,6 +1,8 @@
 // What the programs share: packets in a file, a file in a buffer, arguments, text, the status.
 //
 // No contract can say what a file holds or what is written to one: the contracts here are of what is done with the bytes.
+#![tactic(auto)]
+
 mod arguments;
 mod files;
 mod framing;

@@ -1,4 +1,6 @@
 // Reading the descriptor of a VP8 payload, and the partition tests: `Vp8Packet` of codecs/vp8/mod.rs of rtp 0.17.2.
+#![tactic(auto)]
+
 ghost use Rattle.std.specs.Prelude.{◌≡◌, ◌+◌, ◌<◌, ◌≤◌, length};
 ghost use Rattle.vp8_read.specs.Read.{set_required, set_flags, set_tid, set_key, with_flags, with_picture_id, with_tl0, with_layers, read_on, depacketized};
 ghost use Rattle.vp8_read.specs.ReadAnswer.{stage_of, reading, keeping};

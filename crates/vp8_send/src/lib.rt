@@ -1,4 +1,6 @@
 // Cutting a VP8 frame into payloads: `Vp8Payloader` of codecs/vp8/mod.rs of rtp 0.17.2.
+#![tactic(auto)]
+
 ghost use Rattle.std.specs.Prelude.{◌≡◌, true, ◌++◌, ◌+◌, ◌<◌, ◌≤◌, min, length};
 ghost use Rattle.wire.specs.Part.{splice};
 ghost use Rattle.vp8_send.specs.Send.{header_size, start_octet, descriptor_of, parts_of, headed, packets_of, advanced, sent_all, delivered, payloaded};

@@ -1,6 +1,8 @@
 // Whole shows on the proved functions: frames made by a seed, the sender, its packets, a channel made by a seed, the joiner. Each is
 // held to what the theorem of demand 3 says of it, and the sender's counts of what was dropped for the mtu to the paper's sentences: both
 // computed here, from the frames' units and the arrivals alone.
+#![tactic(auto)]
+
 mod account;
 mod channel;
 mod groups;

@@ -1,6 +1,8 @@
 // Bytes at a place of a lent slice: numbers in network order, copies and fills.
 //
 // Only proved code calls this crate, so its functions may ask that the place is there.
+#![tactic(auto)]
+
 ghost use Rattle.std.specs.Prelude.{◌≡◌, reverse, ◌+◌, ◌<◌, ◌≤◌, length, replicate};
 ghost use Rattle.wire.specs.Net.{u16_at, u32_at, be16, be32};
 ghost use Rattle.wire.specs.Part.{splice};
