@@ -36,6 +36,12 @@ class Function:
                 self.fields[norm(old_field)] = new_field
                 if callee:
                     self.callee[norm(old_field)] = callee
+        # what an arm tells, by the earlier step and the path below it
+        self.told = {}
+        for arm in info["arms"]:
+            for new, step, sub in arm[2] if arm else []:
+                if not new.endswith("-own"):
+                    self.told[(norm(step), *map(norm, sub))] = [arm[0], new]
         self.loops = [(old[1], names) for old, names in info["loops"]]
         self.loop_old = [norm(old[0]) for old, _ in info["loops"]]
         self.needs = info["needs"]
@@ -133,6 +139,10 @@ class Turner:
             return ["well_formed"] + segs[1:]
         if key in START or key in ("type_inv", "utf8"):
             return segs
+        for k in range(len(segs), 1, -1):
+            arm = self.fn.told.get(tuple(map(norm, segs[:k])))
+            if arm:
+                return arm + segs[k:]
         new = self.fn.fields.get(key)
         if new is None:
             self.said.append(f"look: {self.where}: no step for .{'.'.join(segs)}")
@@ -252,6 +262,7 @@ def turn(path, info, params_of):
     # helper lemmas over a place: their record's place, by name
     helper_place = {}
     for n, b in decls:
+        b = re.sub(r"(?m)^--[^\n]*\n", "", b)
         m = re.search(r"\((%s) : tie\.([A-Z]%s)[^)]*\)" % (NAME, NAME), b.split("\n" + n + " ")[0]) or re.search(r"^(?:pub )?%s : tie\.([A-Z]%s)[^→\n]*→" % (re.escape(n), NAME), b, re.M)
         if m and "tie.Need" not in b:
             old_place = m[m.lastindex]
@@ -325,7 +336,8 @@ def turn(path, info, params_of):
         # a lemma of the file
         if n in helper_place:
             p = helper_place[n]
-            sig, _, clause = b.partition("\n" + n + " ")
+            sig, _, clause = re.sub(r"(?m)^--[^\n]*\n", "", b).partition("\n" + n + " ")
+            sig = (comment + "\n" if comment else "") + sig
             sig = re.sub(r"\((%s) : tie\.[A-Z][^)]*\)" % NAME, rf"(\1 : {p})", sig)
             sig = re.sub(r": tie\.[A-Z]%s(?: invariant-loop%s decreases-loop%s)*(?: (?:invariant|decreases)-loop\d*)* *→" % (NAME, r"\d*", r"\d*"), f": {p} →", sig)
             if p:
@@ -347,14 +359,20 @@ def turn(path, info, params_of):
     said += t.said
     # records that an invariant is of stand with it
     texts_inv, texts_ans = "\n\n".join(inv_out), "\n\n".join(ans_out)
-    moved = []
+    moved, names_moved = [], []
     if inv_out:
         for b in list(ans_out):
-            m = re.match(r"(?:--[^\n]*\n)*(?:pub )?(?:abbrev )?(?:record |data )?(%s)" % NAME, b)
-            if m and re.search(r"(?<![^\s(){};,])%s(?![^\s(){};,.])" % re.escape(m[1]), texts_inv) and not b.lstrip("-").startswith("pub " + m[1] + " : goal"):
-                if re.match(r"(?:--[^\n]*\n)*(?:pub )?(?:record|data|abbrev)", b):
-                    ans_out.remove(b)
-                    moved.append(b)
+            m = re.match(r"(?:--[^\n]*\n)*(?:pub )?(?:abbrev |unfoldable )?(?:pub )?(?:record |data )?(%s)" % NAME, b)
+            if m and re.match(r"(?:--[^\n]*\n)*(?:pub )?(?:abbrev |unfoldable )?(?:pub )?(?:record|data|%s(?: \{[^}]*\})* :.*Type)" % re.escape(m[1]), b):
+                ans_out.remove(b)
+                if "pub" not in re.sub(r"--[^\n]*", "", b).split(m[1])[0]:
+                    b = re.sub(r"(?m)^(record|data) ", r"pub \1 ", b, count=1)
+                    b = re.sub(r"(?m)^(abbrev|unfoldable) ", r"\1 pub ", b, count=1)
+                    if not re.search(r"(?m)^(?:pub|abbrev|unfoldable) ", b):
+                        b = re.sub(r"(?m)^%s " % re.escape(m[1]), f"pub {m[1]} ", b, count=1)
+                b = re.sub(r"(?m)^  (?=%s(?: \{[^}]*\})* :)" % NAME, "  pub ", b) if re.search(r"(?m)^pub record", b) else b
+                moved.append(b)
+                names_moved.append(m[1])
         inv_out = moved + inv_out
     has_answers = any(re.search(r": goal\.", b) for b in ans_out)
 
@@ -387,8 +405,10 @@ def turn(path, info, params_of):
     if has_answers:
         tail = []
         if moved:
-            recs = [re.match(r"(?:--[^\n]*\n)*(?:pub )?(?:abbrev )?(?:record |data )?(%s)" % NAME, b)[1] for b in moved]
-            tail.append("-- MOVED " + ", ".join(recs))
+            body = "\n".join(ans_out)
+            recs = [r for r in names_moved if re.search(r"(?<![^\s(){};,.])%s(?![^\s(){};,.])" % re.escape(r), body)]
+            if recs:
+                tail.append(f"use {module}.Invariants.{{{', '.join(recs)}}}")
         if used_places:
             tail.append(f"use {module}.Goals.{{{', '.join(sorted(used_places))}}}")
         open(ans_path, "w", encoding="utf-8").write(file_of(head if not inv_out else [], ans_out, [f"use {module}.Goals as goal"] + tail))

@@ -1,11 +1,11 @@
 -- Packets put one after the other leave one part replaced in the output and one in the table, and cutting the output at the table's
 -- ends gives them back. Assumes nothing.
 use mathlib.Core.Path.{◌≡◌, refl, sym, ap, ap₂, ◌∙◌}
-use mathlib.Core.List.{List, [], ◌∷◌, ◌++◌, append-nil, append_assoc}
+use mathlib.Core.List.{List, [], ◌∷◌, ◌++◌, append_assoc}
 use Prim.Native.Nat.{ℕ, suc, ◌+◌, ◌-◌, ◌≤◌, ◌<◌}
-use native.Mathlib.Nat.{add-zero, add_assoc}
+use native.Mathlib.Nat.{add-zero}
 use native.Mathlib.Omega.{arith}
-use lib.ListN.{length, take, drop, set, length-append, length-set}
+use lib.ListN.{length, take, drop, length-append, length-set}
 use lib.Seq.{length-take-le, take_at, drop_at}
 use Rattle.wire.specs.Part.{splice, part}
 use Rattle.wire.specs.Packets.{joined, ends_from, cut, Sink, put, put_all, whole, Room}

@@ -1,6 +1,6 @@
 -- A list with a part replaced: what every write into a lent buffer leaves. A list filled up with zeros: what every fixed array of
 -- a record holds. Assumes nothing.
-use Rattle.std.specs.Prelude.{◌≡◌, List, [], ◌∷◌, ◌++◌, ℕ, ◌+◌, ◌-◌, length, take, drop, replicate}
+use Rattle.std.specs.Prelude.{◌≡◌, List, ◌++◌, ℕ, ◌+◌, ◌-◌, length, take, drop, replicate}
 
 -- xs with the places from `at` on replaced by ys
 unfoldable pub splice {ℓ} : {A : Type ℓ} → List A → ℕ → List A → List A

@@ -9,28 +9,20 @@ use borrow.Author.Rules.{rules}
 use Rattle.wire.specs.Net.{be16}
 use Rattle.wire.specs.Part.{splice}
 use Rattle.wire.proofs.Part.{splice_one, splice_push}
-use Rattle.wire.proofs.put_u16.Statement.{statement}
-use Rattle.wire.proofs.put_u16.Tie as tie
+use Rattle.wire.proofs.put_u16.Goals as goal
 
-returns : tie.Need-returns
+pub returns : goal.returns
 unfolding be16
 returns c =
-    let s = c.before.before.args.s.now in
-    let at = c.before.before.args.at in
-    let r = c.turned16.result in
+    let s = c.args.s.now in
+    let at = c.args.at in
+    let r = c.turned16-turned.result in
     ap (λ (l : List ℕ). set l (at + 1) (r / 256 % 256)) (splice_one s at (r % 256) (search rules))
     ∙ splice_push s at (r % 256 ∷ []) (r / 256 % 256) (search rules)
-    ∙ ap (λ (l : List ℕ). splice s at (reverse l)) c.turned16.ensures
+    ∙ ap (λ (l : List ℕ). splice s at (reverse l)) c.turned16-turned.ensures
 
-pub put-u16-spec : {M : Type 1} → statement M
-put-u16-spec =
-    tie.close
-    (tie.spec
-    (λ c κs. search rules)
-    (λ c. search rules)
-    (λ c. search rules)
-    (λ c. search rules)
-    (λ c. search rules)
-    (λ c. simp length-set (omega arith))
-    (λ c. simp length-set)
-    returns)
+pub bounds-s-at-2 : goal.bounds-s-at-2
+bounds-s-at-2 c = simp length-set (omega arith)
+
+pub shape_of-s : goal.shape_of-s
+shape_of-s c = simp length-set

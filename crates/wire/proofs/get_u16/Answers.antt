@@ -5,30 +5,15 @@ use Prim.Native.Nat.{ℕ, ◌+◌, ◌*◌}
 use borrow.Author.Rules.{rules}
 use Rattle.wire.specs.Net.{u16_at}
 use Rattle.wire.proofs.Net.{u16_of_be16, be16_of_u16}
-use Rattle.wire.proofs.get_u16.Statement.{statement}
-use Rattle.wire.proofs.get_u16.Tie as tie
+use Rattle.wire.proofs.get_u16.Goals as goal
 
-returns : tie.Need-returns
+pub returns : goal.returns
 unfolding u16_at
 returns c =
-    let second = c.before.before.before.octet16 in
-    let first = c.before.octet162 in
+    let second = c.octet16 in
+    let first = c.octet16-2 in
     sym (u16_of_be16 c.turned16.result [] (search rules))
     ∙ ap (λ (l : List ℕ). u16_at (l ++ []) 0)
     (c.turned16.ensures
     ∙ ap reverse (be16_of_u16 second.result first.result second.ensures.1 first.ensures.1))
     ∙ ap₂ (λ (x y : ℕ). x * 256 + y) first.ensures.0 second.ensures.0
-
-pub get-u16-spec : {M : Type 1} → statement M
-get-u16-spec =
-    tie.close
-    (tie.spec
-    (λ c. search rules)
-    (λ c. search rules)
-    (λ c κs. search rules)
-    (λ c. search rules)
-    (λ c. search rules)
-    (λ c κs. search rules)
-    (λ c. search rules)
-    (λ c κs. search rules)
-    returns)

@@ -1,0 +1,12 @@
+-- After i turns the first i bytes of the source stand at the place: `splice_more` is one turn.
+use mathlib.Core.Path.{◌≡◌}
+use Prim.Native.Nat.{◌-◌, ◌≤◌}
+use lib.ListN.{length, take}
+use Rattle.wire.specs.Part.{splice}
+use Rattle.wire.proofs.copy_at.Given as goal
+
+abbrev pub invariant-loop-i : goal.invariant-loop-i
+invariant-loop-i l = (l.i ≤ length l.src) × (l.dst ≡ splice l.initial.dst l.at (take l.i l.src)) × (length l.dst ≡ length l.initial.dst)
+
+abbrev pub decreases-loop-i : goal.decreases-loop-i
+decreases-loop-i l = length l.src - l.i
