@@ -18,6 +18,70 @@ NAME = r"[^\s(){}.;,@\"«»\[\]`:]+"
 START = "args requires ranges lifetimes well_formed measure before".split()
 
 
+def clauses_of(root):
+    """By a function's last names, as put::put_unit: the names of its clauses, of each kind, where there are several."""
+    out = {}
+    for folder, dirs, files in os.walk(root):
+        dirs[:] = [d for d in dirs if d != "out"]
+        for f in files:
+            if not f.endswith(".rt"):
+                continue
+            text = re.sub(r"//[^\n]*", "", open(os.path.join(folder, f), encoding="utf-8").read())
+            crate = os.path.relpath(folder, root).split("/")[0]
+            owner = None
+            for m in re.finditer(r"(?m)^impl(?:<[^>]*>)? (?:\w+ for )?(\w+)|\bfn (\w+)", text):
+                if m[1]:
+                    owner = m[1]
+                    continue
+                indent = text.rfind("\n", 0, m.start()) + 1
+                inside = text[indent] == " "
+                end = re.compile(r"(?m)^ *\{$|\{ *$").search(text, m.end())
+                body = text[m.end() : end.start() if end else m.end() + 3000]
+                names = {k: re.findall(r"(?m)^ *%s (\w+) \{" % k, body) for k in ("requires", "ensures")}
+                out[(crate, (owner + "::" if inside and owner else "") + m[2])] = names
+    return out
+
+
+CLAUSES = {}
+
+
+def clause_names(path, kind):
+    """Of a path as nal::buffers::finish."""
+    steps = path.split("::")
+    for n in (2, 1):
+        got = CLAUSES.get((steps[0], "::".join(steps[-n:])))
+        if got:
+            return got[kind]
+    return []
+
+
+def as_record(body, names):
+    """A term whose result is a tuple, as a record of these names."""
+    depth, at = 0, 0
+    for m in re.finditer(r"[([{]|[)\]}]|(?<!\S)in(?!\S)", body):
+        if m[0] == "in":
+            at = m.end() if depth == 0 else at
+        else:
+            depth += 1 if m[0] in "([{" else -1
+    rest = body[at:].strip()
+    if not (rest.startswith("(") and close_of(rest, 0) == len(rest) - 1):
+        return body
+    parts, depth, here = [], 0, ""
+    for ch in rest[1:-1]:
+        depth += {"(": 1, "[": 1, "{": 1, ")": -1, "]": -1, "}": -1}.get(ch, 0)
+        if ch == "," and depth == 0:
+            parts.append(here)
+            here = ""
+        else:
+            here += ch
+    if here.strip():
+        parts.append(here)
+    if len(parts) != len(names):
+        return body
+    lines = [f"{n} = {p.strip()}" for n, p in zip(names, parts) if p.strip() != "search rules" or True]
+    return body[:at].rstrip() + " record {\n      " + ";\n      ".join(lines) + ";\n    }"
+
+
 def norm(s):
     return s.replace("-", "_")
 
@@ -128,13 +192,19 @@ def close_of(text, at):
 
 class Turner:
     def __init__(self, fn, where, params_of):
-        self.fn, self.where, self.params_of = fn, where, params_of
+        self.fn, self.where, self.path = fn, where, params_of
         self.said = []
 
     def field(self, segs):
         """The segments after the variable, without `before`: with the step's present name."""
         f = segs[0]
         key = norm(f)
+        if key in ("pre", "requires"):
+            rest = segs[1:]
+            names = clause_names(self.path, "requires")
+            if rest and rest[0].isdigit() and len(names) > int(rest[0]):
+                rest = [names[int(rest[0])]] + rest[1:]
+            return ["requires"] + rest
         if key == "well_formed":
             return ["well_formed"] + segs[1:]
         if key in START or key in ("type_inv", "utf8"):
@@ -148,7 +218,13 @@ class Turner:
             self.said.append(f"look: {self.where}: no step for .{'.'.join(segs)}")
             return segs
         rest = segs[1:]
+        if new.startswith(("then-", "else-")) and rest and rest[0] in ("true", "false"):
+            new = "if-" + new[5:]
         callee = self.fn.callee.get(key)
+        if callee and len(rest) > 1 and rest[0] == "ensures" and rest[1].isdigit():
+            names = clause_names(callee, "ensures")
+            if len(names) > int(rest[1]):
+                rest = ["ensures", names[int(rest[1])]] + rest[2:]
         if callee and len(rest) > 1 and rest[0] in ("new", "auto"):
             k = 0
             while 1 + k < len(rest) and rest[1 + k] == "1":
@@ -164,7 +240,7 @@ class Turner:
         # the lets that only name a place
         while True:
             m = None
-            for m in re.finditer(r"\blet (%s)(?: : [^=\n]*?)? = (%s)((?:\.before)*) in\b" % (NAME, NAME), text):
+            for m in re.finditer(r"\blet (%s)(?: : [^=\n]*?)?\s+=\s+(%s)((?:\.before)*)\s+in\b" % (NAME, NAME), text):
                 if m[2] in alias:
                     break
                 m = None
@@ -177,6 +253,8 @@ class Turner:
             if m[1] not in alias:
                 continue
             segs = [s for s in m[2].split(".") if s]
+            if not segs and re.match(r"\s*=(?!=)", text[m.end() :]):
+                continue
             bare = [s for s in segs]
             while bare and bare[0] == "before":
                 bare = bare[1:]
@@ -263,7 +341,7 @@ def turn(path, info, params_of):
     helper_place = {}
     for n, b in decls:
         b = re.sub(r"(?m)^--[^\n]*\n", "", b)
-        m = re.search(r"\((%s) : tie\.([A-Z]%s)[^)]*\)" % (NAME, NAME), b.split("\n" + n + " ")[0]) or re.search(r"^(?:pub )?%s : tie\.([A-Z]%s)[^→\n]*→" % (re.escape(n), NAME), b, re.M)
+        m = re.search(r"\((%s) : tie\.([A-Z]%s)[^)]*\)" % (NAME, NAME), b.split("\n" + n + " ")[0]) or re.search(r"^(?:pub |abbrev |unfoldable )*%s : tie\.([A-Z]%s)[^→\n]*→" % (re.escape(n), NAME), b, re.M)
         if m and "tie.Need" not in b:
             old_place = m[m.lastindex]
             helper_place[n] = fn.place_new.get(norm(old_place))
@@ -331,6 +409,8 @@ def turn(path, info, params_of):
                 body = apply_places(t.body(body, root), g)
                 if root != "c":
                     body = re.sub(r"(?<![^\s(){};,@«»\[\]])%s(?=[.\s)])" % re.escape(root), "c", body)
+                if g.startswith("returns"):
+                    body = as_record(body, clause_names(params_of, "ensures"))
                 ans_out.append((comment + "\n" if comment else "") + f"pub {g} : goal.{g}\n" + "".join(u + "\n" for u in unf) + f"{g} c ={body.rstrip()}")
             continue
         # a lemma of the file
@@ -355,6 +435,8 @@ def turn(path, info, params_of):
         body = apply_places(t.body(body, names[0]), g)
         if names[0] != "c":
             body = re.sub(r"(?<![^\s(){};,@«»\[\]])%s(?=[.\s)])" % re.escape(names[0]), "c", body)
+        if g.startswith("returns"):
+            body = as_record(body, clause_names(params_of, "ensures"))
         ans_out.append(f"pub {g} : goal.{g}\n{g} c = {body.strip()}")
     said += t.said
     # records that an invariant is of stand with it
@@ -418,6 +500,7 @@ def turn(path, info, params_of):
 
 def main(argv):
     names, crate = argv[0], argv[1].rstrip("/")
+    CLAUSES.update(clauses_of(os.path.dirname(os.path.realpath(crate))))
     with open(os.path.join(names, "names.json")) as f:
         d = json.load(f)
     if not any(k.endswith(".Lts") for k in d):
@@ -436,7 +519,8 @@ def main(argv):
         if not key:
             print(f"left: {folder}: no names for {rel}")
             continue
-        for line in turn(path, d[key[0]], None):
+        called = os.path.basename(os.path.realpath(crate)) + "::" + rel.replace(".", "::")
+        for line in turn(path, d[key[0]], called):
             print(line)
 
 
