@@ -14,14 +14,14 @@ use block::{EXTENSION_ID_RESERVED, EXTENSION_PROFILE_ONE_BYTE, EXTENSION_PROFILE
 use error::Error;
 
 // Where the payload begins behind a block that was read.
-#[derive(Drop)]
+#[derive(Clone, Copy)]
 pub enum Ending {
     Payload(usize),
     Refused(Error),
 }
 
 // A block before anything of it is kept.
-#[derive(Drop)]
+#[derive(Clone, Copy)]
 pub struct Seen {
     pub ending: Ending,
     // how many elements there are; 0 beside a refusal
@@ -31,7 +31,7 @@ pub struct Seen {
 }
 
 // What stands at a place of a block: an element is `head` bytes, then `len` bytes of data.
-#[derive(Drop)]
+#[derive(Clone, Copy)]
 enum Next {
     Pad,
     Stop,

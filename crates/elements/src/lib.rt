@@ -11,7 +11,7 @@ pub use list::{push, total};
 
 // The extension elements, in order.
 #[repr(C)]
-#[derive(Drop)]
+#[derive(Clone, Copy)]
 pub struct Extensions {
     // how many there are: 0 to 32
     pub count: usize,
@@ -24,7 +24,7 @@ pub struct Extensions {
 }
 
 // Elements that follow each other: `count` of them from the index `first` on, and their data, `len` bytes from `at` on.
-#[derive(Drop)]
+#[derive(Clone, Copy)]
 pub struct Run {
     // the first one's index
     pub first: usize,

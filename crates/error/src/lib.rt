@@ -7,7 +7,7 @@
 ghost use Rattle.std.specs.Prelude.{◌≡◌};
 ghost use Rattle.error.specs.Refusal.{number_of};
 
-#[derive(Drop)]
+#[derive(Clone, Copy)]
 pub enum Error {
     // 1: under 4 bytes, or under 12 + 4 x CC
     ErrHeaderSizeInsufficient,

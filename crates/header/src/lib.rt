@@ -31,7 +31,7 @@ pub use size::{get_extension_payload_len_parts, marshal_size_parts};
 pub use write::{marshal_bare, marshal_parts};
 
 #[repr(C)]
-#[derive(Drop)]
+#[derive(Clone, Copy)]
 pub struct Header {
     // 0 to 3; 2 for RTP
     pub version: u8,
@@ -62,13 +62,13 @@ pub struct Header {
 }
 
 // What reading answers beside the record: the payload's place in the packet.
-#[derive(Drop)]
+#[derive(Clone, Copy)]
 pub enum HeaderRead {
     Payload(usize),
     Refused(Error),
 }
 
-#[derive(Drop)]
+#[derive(Clone, Copy)]
 pub struct Unmarshalled {
     pub read: HeaderRead,
     // all zeros beside a refusal
@@ -77,7 +77,7 @@ pub struct Unmarshalled {
 
 // A header's record without its arrays.
 #[repr(C)]
-#[derive(Drop)]
+#[derive(Clone, Copy)]
 pub struct Front {
     pub fixed: Fixed,
     // how many contributing sources there are: 0 to 15
@@ -91,7 +91,7 @@ pub struct Front {
 }
 
 // What reading answers beside the front.
-#[derive(Drop)]
+#[derive(Clone, Copy)]
 pub struct FrontRead {
     pub read: HeaderRead,
     // all zeros beside a refusal
@@ -99,13 +99,13 @@ pub struct FrontRead {
 }
 
 // What setting and deleting answer beside the record.
-#[derive(Drop)]
+#[derive(Clone, Copy)]
 pub enum Change {
     Made,
     Refused(Error),
 }
 
-#[derive(Drop)]
+#[derive(Clone, Copy)]
 pub struct Changed {
     pub change: Change,
     // as it came beside a refusal
@@ -113,20 +113,20 @@ pub struct Changed {
 }
 
 // An element's data: `len` bytes from `at` on, of the record's `extensions.bytes`.
-#[derive(Drop)]
+#[derive(Clone, Copy)]
 pub enum Got {
     Data { at: usize, len: usize },
     Absent,
     Refused(Error),
 }
 
-#[derive(Drop)]
+#[derive(Clone, Copy)]
 pub enum IdCount {
     Ids(usize),
     Refused(Error),
 }
 
-#[derive(Drop)]
+#[derive(Clone, Copy)]
 pub struct Ids {
     pub count: IdCount,
     // the ids in order, then zeros

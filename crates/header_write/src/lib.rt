@@ -18,7 +18,7 @@ pub use size::size_of;
 
 // RFC 3550's fixed header fields but CC: the first 16 bytes of a header's record, in its order.
 #[repr(C)]
-#[derive(Drop)]
+#[derive(Clone, Copy)]
 pub struct Fixed {
     // 0 to 3; 2 for RTP
     pub version: u8,
@@ -39,7 +39,7 @@ pub struct Fixed {
 }
 
 // A number of bytes.
-#[derive(Drop)]
+#[derive(Clone, Copy)]
 pub enum Length {
     Bytes(usize),
     Refused(Error),

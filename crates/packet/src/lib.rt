@@ -11,13 +11,13 @@ pub use read::{unmarshal, unmarshal_front, unmarshal_parts};
 pub use write::{marshal_bare, marshal_parts, marshal_size, marshal_size_parts, marshal_to};
 
 // What reading answers beside the record: the payload, `len` bytes of the packet from `at` on.
-#[derive(Drop)]
+#[derive(Clone, Copy)]
 pub enum PacketRead {
     Payload { at: usize, len: usize },
     Refused(Error),
 }
 
-#[derive(Drop)]
+#[derive(Clone, Copy)]
 pub struct Unmarshalled {
     pub read: PacketRead,
     // all zeros beside a refusal
@@ -25,7 +25,7 @@ pub struct Unmarshalled {
 }
 
 // What reading answers beside the record's front: all of it but its arrays.
-#[derive(Drop)]
+#[derive(Clone, Copy)]
 pub struct FrontRead {
     pub read: PacketRead,
     // all zeros beside a refusal
