@@ -8,20 +8,20 @@ use Rattle.annexb.specs.declared.Found.TheVariants.{At, Nothing}
 use Rattle.annexb.specs.declared.Search.{Search}
 use Rattle.annexb.specs.declared.Search.TheVariants.{Yields, Refused}
 
--- how many zeros stand in a row up to a byte, that byte included, where `zeros` stood before it
+-- how many zeros stand in a row up to a byte, that byte included, where `count` stood before it
 abbrev pub zeros_by : Bool → ℕ → ℕ
-zeros_by true zeros = zeros + 1
-zeros_by false zeros = 0
+zeros_by true count = count + 1
+zeros_by false count = 0
 
 -- a byte b ends a start code
 abbrev pub ends_code : ℕ → ℕ → Bool
-ends_code b zeros = eqb b 1 && leb 2 zeros
+ends_code b count = eqb b 1 && leb 2 count
 
--- the first start code that ends in s, where s stands at the place `at` and `zeros` zeros stand before it
+-- the first start code that ends in s, where s stands at the place `at` and `count` zeros stand before it
 abbrev pub scan : List ℕ → ℕ → ℕ → Found
-scan [] at zeros = Nothing
-scan (b ∷ s) at zeros =
-    cond (ends_code b zeros) (At (at - zeros) (zeros + 1)) (scan s (at + 1) (zeros_by (eqb b 0) zeros))
+scan [] at count = Nothing
+scan (b ∷ s) at count =
+    cond (ends_code b count) (At (at - count) (count + 1)) (scan s (at + 1) (zeros_by (eqb b 0) count))
 
 -- "The search yields the place and length of the first start code, all its zeros included": from the place `start` on
 unfoldable pub next_code : List ℕ → ℕ → Found

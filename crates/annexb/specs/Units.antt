@@ -8,16 +8,16 @@ pub record Cut : Type 0 where
   pub before : List ℕ
   pub behind : List (List ℕ)
 
--- a byte b with `zeros` zeros before it, in front of what is cut already: one zero more, the end of a start code, or a byte of a unit
+-- a byte b with `count` zeros before it, in front of what is cut already: one zero more, the end of a start code, or a byte of a unit
 abbrev pub cut_by : (is_zero is_code : Bool) → ℕ → ℕ → Cut → Cut
-cut_by true is_code b zeros c = c
-cut_by false true b zeros c = record { before = []; behind = c.before ∷ c.behind }
-cut_by false false b zeros c = record { before = replicate zeros 0 ++ (b ∷ c.before); behind = c.behind }
+cut_by true is_code b count c = c
+cut_by false true b count c = record { before = []; behind = c.before ∷ c.behind }
+cut_by false false b count c = record { before = replicate count 0 ++ (b ∷ c.before); behind = c.behind }
 
--- bytes with `zeros` zeros before them, cut; zeros that end in no start code stay where they stand
+-- bytes with `count` zeros before them, cut; zeros that end in no start code stay where they stand
 abbrev pub cut : List ℕ → ℕ → Cut
-cut [] zeros = record { before = replicate zeros 0; behind = [] }
-cut (b ∷ s) zeros = cut_by (eqb b 0) (ends_code b zeros) b zeros (cut s (zeros_by (eqb b 0) zeros))
+cut [] count = record { before = replicate count 0; behind = [] }
+cut (b ∷ s) count = cut_by (eqb b 0) (ends_code b count) b count (cut s (zeros_by (eqb b 0) count))
 
 -- all that start codes part, what stands before the first among it
 unfoldable pub pieces : List ℕ → List (List ℕ)

@@ -12,21 +12,21 @@ ghost use Rattle.annexb.specs.Units.{units, pieces, Pieced};
 
 use error::Error;
 
-#[derive(Drop)]
+#[derive(Clone, Copy)]
 pub enum Found {
     // the place of a start code's first zero, and how many bytes it has
     At(usize, usize),
     Nothing,
 }
 
-#[derive(Drop)]
+#[derive(Clone, Copy)]
 pub enum Search {
     Yields(Found),
     Refused(Error),
 }
 
 // Where a start code lies. Two numbers and no enum: an enum that is returned is stored in parts and loaded whole, which stalls.
-#[derive(Drop)]
+#[derive(Clone, Copy)]
 struct Code {
     // the place of its first zero; 0 where there is none
     at: usize,
@@ -222,7 +222,7 @@ pub fn first_unit(frame: &[u8]) -> usize
 }
 
 // A unit of a frame.
-#[derive(Drop)]
+#[derive(Clone, Copy)]
 pub struct Piece {
     // where it ends
     pub end: usize,
