@@ -13,14 +13,14 @@ pub use aggregate::{hand_units, measure};
 pub use buffers::{finish, gather_on, hand_plain};
 
 // The bytes handed out, or the refusal.
-#[derive(Drop)]
+#[derive(Clone, Copy)]
 pub enum Handed {
     Bytes(usize),
     Refused(Error),
 }
 
 // The units of an aggregation packet, or what is wrong at the first place.
-#[derive(Drop)]
+#[derive(Clone, Copy)]
 pub enum Measured {
     // how many, and of how many bytes in all
     Units { count: usize, bytes: usize },

@@ -8,26 +8,15 @@ use Rattle.wire.specs.Part.{splice}
 use Rattle.wire.proofs.Part.{splice_on}
 use Rattle.nal.specs.Fed.{prefix_of}
 use Rattle.nal.proofs.Handing.{length_prefix_for}
-use Rattle.nal.proofs.buffers.put_unit.Statement.{statement}
-use Rattle.nal.proofs.buffers.put_unit.Tie as tie
+use Rattle.nal.proofs.buffers.put_unit.Goals as goal
 
-returns : tie.Need-returns
+pub returns : goal.returns
 returns c =
-    let a = c.before.before.before.before.before.before.before.before.before.before.args in
+    let a = c.args in
     let u = a.unit.now in
     let p = prefix_of a.avc u in
     let four : length p ≡ 4 = length_prefix_for a.avc (length u) in
-    c.before.before.copy_at.ensures
-    ∙ ap (λ (l : List ℕ). splice l (a.at + 4) u) c.before.before.before.before.before.before.put-prefix.ensures
+    c.copy_at.ensures
+    ∙ ap (λ (l : List ℕ). splice l (a.at + 4) u) c.put_prefix.ensures
     ∙ ap (λ (k : ℕ). splice (splice a.out.now a.at p) (a.at + k) u) (sym four)
     ∙ splice_on a.out.now a.at p u (search rules)
-
-pub put-unit-spec : {M : Type 1} → statement M
-put-unit-spec =
-    tie.close
-    (tie.spec
-    (λ c κs. search rules)
-    (λ c. search rules)
-    (λ c κs. search rules)
-    (λ c. search rules)
-    returns)
