@@ -17,6 +17,7 @@ module _ {B : Type 0} where
   Arrived j (other b ∷ before) = Arrived j before
 
   above_arrived : (i : ℕ) (before : List (Arrival B)) → above_all i before ≡ true → (j : ℕ) → Arrived j before → j < i
+  above_arrived i [] e j there = elim there [ ]
   above_arrived i (ours k ∷ before) e j (inl same) =
       let k_below : k < i = ltb-true k i ((and-eq-true_iff (ltb k i) (above_all i before)).0 e).0 in omega arith
   above_arrived i (ours k ∷ before) e j (inr there) =

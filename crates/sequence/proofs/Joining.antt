@@ -9,7 +9,7 @@ use Rattle.sequence.specs.Event.{Event, lost_in, got_in, seen}
 use Rattle.sequence.specs.Rule.{Ruled, late, onward, Ended, too_far, ended, is_onward, is_ended, state_after, events_of, ended_events, ruling, last_state, all_events, onward_calls, JoinsAtMost, Follows}
 use Rattle.sequence.specs.Group.{Group, packets_in, packets_of, EachHanded, whole_of}
 use Rattle.sequence.specs.Codec.{Checked, bad, good, fed, refusal, Codec, feed_checked, went, feed_all, Does, HandsOut, OwesAll}
-use Rattle.sequence.specs.Joiner.{numbered, Parts, State, Answer, refuses, too_late, takes, not_shut, shut, Now, Made, stays, is_full, by_went, by_check, by_rule, by_heard, shut_went, shut_by, close, answers, final, is_taken, is_refused, handed_by, handed_out, bytes_of, is_other}
+use Rattle.sequence.specs.Joiner.{numbered, Parts, Answer, refuses, too_late, takes, not_shut, shut, Now, Made, stays, is_full, by_went, by_check, by_rule, by_heard, shut_went, shut_by, close, answers, final, is_taken, is_refused, handed_by, handed_out, bytes_of, is_other}
 use Rattle.sequence.specs.Demand.{Told, Delivered}
 use Rattle.sequence.proofs.Feeding.{AtMost, Yields, yields_held, Split, split, split_end, lost_in_append, lost_in_as_got, lost_in_seen, lost_in_bound, all_whole, groups_yield}
 
