@@ -1,0 +1,11 @@
+-- What is still to be read leads to what the definition says of the whole block (`Seeing`): each way through a turn is one law.
+use Prim.Native.Nat.{◌-◌}
+use Rattle.block_read.specs.Read.{items_by, items, block_at}
+use Rattle.block_read.proofs.Reading.{Seeing}
+use Rattle.block_read.proofs.see_items.Given as goal
+
+abbrev pub invariant-loop-at : goal.invariant-loop-at
+invariant-loop-at l = Seeing l.packet l.two l.end (items (items_by l.two) (block_at l.packet l.start l.len)) l.at l.count l.used l.padding
+
+abbrev pub decreases-loop-at : goal.decreases-loop-at
+decreases-loop-at l = l.end - l.at
