@@ -6,7 +6,7 @@ use Rattle.block.specs.Form.{Form, one_byte, two_byte, other, form_of, words_for
 
 -- ---- the octets
 
--- RFC 8285's one_byte element: id and length less one in one byte; its two-byte element: id, length
+-- RFC 8285's one-byte element: id and length less one in one byte; its two-byte element: id, length
 abbrev pub element_octets : Form → Element → List ℕ
 element_octets one_byte e = (e.id * 16 + (length e.bytes - 1)) ∷ e.bytes
 element_octets two_byte e = e.id ∷ length e.bytes ∷ e.bytes
@@ -24,7 +24,7 @@ extension_for profile len es =
 
 -- ---- the call
 
--- "in the one_byte profile ids 0 to 15 and lengths 1 to 16, in the two-byte profile lengths 0 to 255"
+-- "in the one-byte profile ids 0 to 15 and lengths 1 to 16, in the two-byte profile lengths 0 to 255"
 abbrev pub fits : Form → ℕ → ℕ → Bool
 fits one_byte id len = leb id 15 && (leb 1 len && leb len 16)
 fits two_byte id len = leb len 255
