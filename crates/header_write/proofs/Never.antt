@@ -9,7 +9,7 @@
 --     if let Some(extension) = self.extensions.first() {
 --         let ext_len = extension.payload.len();
 --         if ext_len % 4 != 0 { return Err(Error::HeaderExtensionPayloadNot32BitWords.into()); }
-use mathlib.Core.Path.{◌≡◌, refl, ap, ap₂, ◌∙◌}
+use mathlib.Core.Path.{◌≡◌, refl}
 use mathlib.Core.Bool.{Bool, true, false, cond}
 use mathlib.Core.List.{List, [], ◌∷◌}
 use Prim.Native.Nat.{ℕ, ◌+◌, ◌*◌, ◌%◌}
@@ -19,7 +19,7 @@ use lib.ListN.{length, get_or}
 use borrow.Author.Tests.{eq-eqb, eqb-true}
 use Rattle.error.specs.Said.{Said, refuse}
 use Rattle.elements.specs.Elements.{sum}
-use Rattle.block.specs.Form.{Form, one_byte, two_byte, other, form_of, per_element}
+use Rattle.block.specs.Form.{Form, one_byte, two_byte, other, per_element}
 use Rattle.header_write.specs.Judge.{judged}
 
 -- how many bytes elements of these lengths take with their heads

@@ -3,14 +3,12 @@ use mathlib.Core.Path.{◌≡◌, ap, ◌∙◌}
 use mathlib.Core.List.{List, [], ◌∷◌, ◌++◌}
 use Prim.Native.Nat.{ℕ, ◌≤◌}
 use native.Mathlib.Omega.{arith}
-use lib.ListN.{length, set, length-set}
-use borrow.Author.Rules.{rules}
+use lib.ListN.{length, set}
 use Rattle.wire.specs.Net.{be16, be32}
 use Rattle.wire.specs.Part.{splice}
 use Rattle.wire.proofs.Part.{splice_one, splice_push, splice_on}
 use Rattle.header_write.specs.Fixed.{fixed_for}
-use Rattle.header_write.proofs.figure.put_fixed.Statement.{statement}
-use Rattle.header_write.proofs.figure.put_fixed.Tie as tie
+use Rattle.header_write.proofs.figure.put_fixed.Goals as goal
 
 figure : (buf : List ℕ) (a b number time ssrc : ℕ) → 12 ≤ length buf →
     splice (splice (splice (set (set buf 0 a) 1 b) 2 (be16 number)) 4 (be32 time)) 8 (be32 ssrc)
@@ -23,36 +21,12 @@ figure buf a b number time ssrc h =
     ∙ ap (λ (l : List ℕ). splice l 8 (be32 ssrc)) (splice_on buf 0 (a ∷ b ∷ be16 number) (be32 time) (omega arith))
     ∙ splice_on buf 0 (a ∷ b ∷ (be16 number ++ be32 time)) (be32 ssrc) (omega arith)
 
-put-u16-requires : tie.Need-put-u16-requires
-put-u16-requires c κs = simp length-set (omega arith)
-
-put-u32-requires : tie.Need-put-u32-requires
-put-u32-requires c κs =
-    let k = simp length-set at c.before.before.before.put-u16.auto.0 in
-    omega arith
-
-put-u32-requires-2 : tie.Need-put-u32-requires-2
-put-u32-requires-2 c κs =
-    let k = simp length-set at c.before.before.before.before.before.before.before.put-u16.auto.0 in
-    omega arith
-
-same_length : tie.Need-same-length
-same_length c =
-    let k = simp length-set at c.before.before.before.before.before.before.before.before.before.before.put-u16.auto.0 in
-    omega arith
-
-returns : tie.Need-returns
+pub returns : goal.returns
 returns c =
-    let start = c.before.before.before.before.before.before.before.before.before.before.before.before.before in
-    let a = start.args in
-    c.before.before.put-u322.ensures
+    let a = c.args in
+    c.put_u32-2.ensures
     ∙ ap (λ (l : List ℕ). splice l 8 (be32 a.ssrc))
-    (c.before.before.before.before.before.before.put-u32.ensures
+    (c.put_u32.ensures
     ∙ ap (λ (l : List ℕ). splice l 4 (be32 a.time))
-    c.before.before.before.before.before.before.before.before.before.before.put-u16.ensures)
-    ∙ figure a.buf.now a.b0 a.b1 a.number a.time a.ssrc start.requires
-
-pub put-fixed-spec : {M : Type 1} → statement M
-put-fixed-spec =
-    tie.close
-    (tie.spec (λ c. search rules) (λ c. simp length-set (omega arith)) put-u16-requires put-u32-requires put-u32-requires-2 same_length returns)
+    c.put_u16.ensures)
+    ∙ figure a.buf.now a.b0 a.b1 a.number a.time a.ssrc c.requires
