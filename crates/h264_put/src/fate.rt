@@ -16,7 +16,7 @@ pub const AUD_NALU_TYPE: u8 = 9;
 
 pub const FILLER_NALU_TYPE: u8 = 12;
 
-#[derive(Drop)]
+#[derive(Clone, Copy)]
 pub enum Fate {
     // no byte
     Empty,

@@ -2,7 +2,7 @@
 ghost use Rattle.std.specs.Prelude.{◌≡◌, ◌≤◌};
 ghost use Rattle.h264_put.specs.Outcomes.{one, unit_dropped, pair_dropped, counted};
 
-#[derive(Drop)]
+#[derive(Clone, Copy)]
 pub enum UnitOutcome {
     // it has no byte
     Empty,
@@ -16,7 +16,7 @@ pub enum UnitOutcome {
     DroppedForMtu,
 }
 
-#[derive(Drop)]
+#[derive(Clone, Copy)]
 pub enum PairOutcome {
     // no unit came that is to be sent, or one that has not both sets before it
     NotDue,
@@ -27,7 +27,7 @@ pub enum PairOutcome {
 }
 
 // What became of one unit, and of the pair at it.
-#[derive(Drop)]
+#[derive(Clone, Copy)]
 pub struct Outcome {
     // of the unit
     pub unit: UnitOutcome,
@@ -36,7 +36,7 @@ pub struct Outcome {
 }
 
 // How many were dropped for the mtu.
-#[derive(Drop)]
+#[derive(Clone, Copy)]
 pub struct Drops {
     // units, no more than the frame has bytes
     pub units: usize,

@@ -12,7 +12,7 @@ ghost use Rattle.h264_put.specs.Outcomes.{unit_outcome};
 use crate::outcome::UnitOutcome;
 
 // How far output and table are written.
-#[derive(Drop)]
+#[derive(Clone, Copy)]
 pub struct Place {
     // bytes of the output
     pub at: usize,
@@ -121,7 +121,7 @@ fn put_fragments(unit: &[u8], size: usize, out: &mut [u8], ends: &mut [usize], t
 }
 
 // What putting a unit leaves.
-#[derive(Drop)]
+#[derive(Clone, Copy)]
 pub struct PutUnit {
     // how far output and table are written
     pub place: Place,

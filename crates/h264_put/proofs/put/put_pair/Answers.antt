@@ -1,0 +1,40 @@
+-- The first byte, each set behind its length, and the end in the table.
+use mathlib.Core.Path.{◌≡◌, ap, ◌∙◌}
+use mathlib.Core.List.{List, ◌++◌}
+use Prim.Native.Nat.{ℕ, ◌+◌}
+use native.Mathlib.Omega.{arith}
+use lib.ListN.{length, length-set}
+use Rattle.wire.specs.Net.{be16}
+use Rattle.wire.specs.Part.{splice}
+use Rattle.h264_put.specs.Groups.{stap_a}
+use Rattle.h264_put.proofs.Sinks.{put_is, splice_pair, length_stap_a}
+use borrow.Author.Rules.{rules}
+use Rattle.h264_put.proofs.put.put_pair.Goals as goal
+
+pub put_set-requires : goal.put_set-requires
+put_set-requires c = simp length-set (omega arith)
+
+pub put_set-requires-2 : goal.put_set-requires-2
+put_set-requires-2 c =
+    let start = c.args in
+    let kept : length c.put_set.new.out ≡ length start.out.now
+    = c.put_set.auto.out ∙ simp length-set in
+    (omega arith, omega arith)
+
+pub shape_of-out : goal.shape_of-out
+shape_of-out c = c.put_set-2.auto.out ∙ c.put_set.auto.out ∙ simp
+    length-set
+
+pub returns : goal.returns
+returns c =
+    let start = c.args in
+    let out = start.out.now in
+    let sps = start.sps.now in
+    let pps = start.pps.now in
+    let at = start.to.at in
+    put_is out start.ends.now c.put_set-2.new.out start.to (stap_a sps pps) _
+    (c.put_set-2.ensures
+    ∙ ap (λ (l : List ℕ). splice l (at + 3 + length sps) (be16 (length pps) ++ pps))
+    c.put_set.ensures
+    ∙ splice_pair out at sps pps (search rules))
+    (rw (length_stap_a sps pps) (omega arith))
