@@ -12,7 +12,7 @@ ghost use Rattle.h264_measure.specs.Measured.{size_of, Lengths, Small, Grown, me
 use annexb::unit_at;
 use h264_put::{Fate, both, fate_of};
 
-#[derive(Drop)]
+#[derive(Clone, Copy)]
 pub struct Size {
     pub packets: usize,
     pub bytes: usize,
@@ -44,7 +44,7 @@ fn unit_size(len: usize, mtu: usize) -> Size
 }
 
 // What the units so far take.
-#[derive(Drop)]
+#[derive(Clone, Copy)]
 pub struct Measure {
     pub packets: usize,
     pub bytes: usize,
