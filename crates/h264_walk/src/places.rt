@@ -6,7 +6,7 @@ ghost use Rattle.h264_walk.specs.Waiting.{bytes_of, Lying, nothing_waits};
 use h264_put::both;
 
 // Where a parameter set lies.
-#[derive(Drop)]
+#[derive(Clone, Copy)]
 pub struct Lies {
     // 0: in front of the set's buffer, where it was saved before this frame; else one more than its place in the frame
     pub from: usize,
@@ -65,7 +65,7 @@ impl Lies {
 }
 
 // Both sets.
-#[derive(Drop)]
+#[derive(Clone, Copy)]
 pub struct Waiting {
     // the sequence parameter set, which waits for a picture parameter set or for a unit to be sent before
     pub sps: Lies,

@@ -11,7 +11,7 @@ use crate::places::{Lies, Waiting};
 use h264_put::{Fate, Outcome, PairOutcome, Place, UnitOutcome, both, fate_of, put_pair, put_unit};
 
 // What the pair that waits leaves.
-#[derive(Drop)]
+#[derive(Clone, Copy)]
 struct PutPair {
     // how far output and table are written
     place: Place,
@@ -20,7 +20,7 @@ struct PutPair {
 }
 
 // What the step that sends one unit leaves.
-#[derive(Drop)]
+#[derive(Clone, Copy)]
 pub(crate) struct Emitted {
     // the sets that wait then
     pub waiting: Waiting,

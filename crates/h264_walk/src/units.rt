@@ -14,7 +14,7 @@ use annexb::unit_at;
 use h264_put::{Drops, Place};
 
 // What the units of a frame leave.
-#[derive(Drop)]
+#[derive(Clone, Copy)]
 pub struct Walked {
     // the sets that wait then
     pub waiting: Waiting,
