@@ -13,7 +13,7 @@ use h264_put::{Drops, Place};
 use h264_walk::{Lies, Waiting, walk};
 
 // What sending a frame leaves.
-#[derive(Drop)]
+#[derive(Clone, Copy)]
 pub(crate) struct Delivered {
     // the sets that wait then, by where they lie; none beside a refusal, where all stays as it came
     pub waiting: Waiting,

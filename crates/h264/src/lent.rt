@@ -7,7 +7,7 @@ use crate::send::Payloads;
 
 // How many bytes in front of each lent buffer are a parameter set that waits to be sent. The host leaves both buffers alone between calls.
 #[repr(C)]
-#[derive(Drop)]
+#[derive(Clone, Copy)]
 pub struct LentPayloader {
     // of the sequence parameter set, 0 to 1,024; 0 for none
     pub sps_len: usize,
@@ -16,7 +16,7 @@ pub struct LentPayloader {
 }
 
 // An answer, beside the state after it.
-#[derive(Drop)]
+#[derive(Clone, Copy)]
 pub struct LentSent {
     pub sender: LentPayloader,
     pub answer: Payloads,

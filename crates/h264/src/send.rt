@@ -80,7 +80,7 @@ impl H264Payloader {
     }
 }
 
-#[derive(Drop)]
+#[derive(Clone, Copy)]
 pub enum Payloads {
     // how many packets, how many bytes they have together, and how many units and pairs of parameter sets were dropped for the mtu
     Written {
