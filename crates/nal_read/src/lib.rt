@@ -9,7 +9,7 @@ mod payload;
 pub use aggregate::{hand_stap_a, measure};
 pub use payload::{FUA_NALU_TYPE, kind_of};
 
-#[derive(Drop)]
+#[derive(Clone, Copy)]
 pub enum Kind {
     // under 2 bytes, or under 3 unless type 9
     Short,
@@ -24,7 +24,7 @@ pub enum Kind {
 }
 
 // The units of a STAP-A: how many, and of how many bytes in all; or why it has none.
-#[derive(Drop)]
+#[derive(Clone, Copy)]
 pub enum Measured {
     Units { count: usize, bytes: usize },
     Refused(Error),
