@@ -12,7 +12,7 @@ pub use view::body;
 
 // The state of a reader.
 #[repr(C)]
-#[derive(Drop)]
+#[derive(Clone, Copy)]
 pub struct H264Packet {
     // units are handed out behind a 4-byte length, and not behind a start code
     pub is_avc: bool,
@@ -21,7 +21,7 @@ pub struct H264Packet {
 }
 
 // Where the body of the unit that a packet completed can be seen.
-#[derive(Drop)]
+#[derive(Clone, Copy)]
 pub enum Shown {
     Nowhere,
     Packet,
@@ -29,14 +29,14 @@ pub enum Shown {
     Gather(usize),
 }
 
-#[derive(Drop)]
+#[derive(Clone, Copy)]
 pub enum Depacketize {
     // how many bytes were handed out
     Bytes(usize),
     Refused(Error),
 }
 
-#[derive(Drop)]
+#[derive(Clone, Copy)]
 pub struct Depacketized {
     // as it came beside a refusal
     pub packet: H264Packet,
@@ -45,7 +45,7 @@ pub struct Depacketized {
 }
 
 // What became of a payload.
-#[derive(Drop)]
+#[derive(Clone, Copy)]
 enum Ran {
     // the run that is now open has `gathered` bytes, 0 for none, `bytes` bytes were handed out, and the body of the unit that
     // was completed is shown
@@ -58,7 +58,7 @@ enum Ran {
 }
 
 // Whether a payload begins a partition.
-#[derive(Drop)]
+#[derive(Clone, Copy)]
 pub enum Head {
     Is(bool),
     Refused(Error),
