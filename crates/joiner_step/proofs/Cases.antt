@@ -10,7 +10,7 @@ use Rattle.nal.specs.Fed.{Laid, lay_both}
 use Rattle.sequence.specs.Number.{distance_of}
 use Rattle.joiner_step.specs.Run.{Run, Does, fed_by}
 use Rattle.joiner_step.specs.Choice.{Arrived, Choice}
-use Rattle.joiner_step.specs.Step.{Kept, late, Stepped, unchanged, ClosingStepped, still_open, outside, wrong, laid_by, fed_to, run_at, by_check, by_distance, by_source, by_reading, step, shut, closing}
+use Rattle.joiner_step.specs.Step.{Kept, late, Stepped, unchanged, ClosingStepped, still_open, outside, wrong, laid_by, fed_to, run_at, by_check, by_source, by_reading, step, shut, closing}
 
 -- by a test, whichever way it goes
 by_test : {A : Type 0} (Q : A → Type 0) {x y : A} (b : Bool) → Q x → Q y → Q (cond b x y)

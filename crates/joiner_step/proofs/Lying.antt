@@ -18,7 +18,7 @@ use Rattle.sequence.specs.Codec.{Fed, refusal, fed}
 use Rattle.sequence.specs.Refines.{fed_as, Refines}
 use Rattle.joiner_step.specs.Run.{Units, Run, gathering, Does, hands, gathers, ends, fed_by, nothing, held_of}
 use Rattle.joiner_step.specs.Choice.{Choice}
-use Rattle.joiner_step.specs.Step.{wrong, outside}
+use Rattle.joiner_step.specs.Step.{outside}
 use Rattle.joiner_step.specs.General.{Room, refusing, group_in, Lying, within, codec, lain, lying_codec, run_in}
 
 -- what is gathered has room
