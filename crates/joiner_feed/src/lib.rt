@@ -15,7 +15,7 @@ use nal::Handed;
 use nal_read::Kind;
 
 // A run as a record keeps it; its bytes stand in front of the gather buffer.
-#[derive(Drop)]
+#[derive(Clone, Copy)]
 pub struct Run {
     // a run is open
     pub running: bool,
@@ -28,7 +28,7 @@ pub struct Run {
 }
 
 // What became of a payload: the run that is now open, and how many bytes were handed out.
-#[derive(Drop)]
+#[derive(Clone, Copy)]
 pub enum Ran {
     On { run: Run, bytes: usize },
     Refused(Error),
