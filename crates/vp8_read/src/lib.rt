@@ -10,7 +10,7 @@ use error::Error;
 
 // The fields of the descriptors read so far: a field that a packet does not have keeps its value.
 #[repr(C)]
-#[derive(Drop)]
+#[derive(Clone, Copy)]
 pub struct Vp8Packet {
     // X: 1 where the extension octet is there
     pub x: u8,
@@ -55,7 +55,7 @@ pub struct Vp8Depacketized {
 }
 
 // A descriptor while it is read.
-#[derive(Drop)]
+#[derive(Clone, Copy)]
 struct Reader {
     // the fields so far
     packet: Vp8Packet,

@@ -10,7 +10,7 @@ ghost use Rattle.vp8_send.specs.Asked.{InDomain, ToWrite};
 use error::Error;
 
 #[repr(C)]
-#[derive(Drop)]
+#[derive(Clone, Copy)]
 pub struct Vp8Payloader {
     // whether each payload shows the picture id
     pub enable_picture_id: bool,
