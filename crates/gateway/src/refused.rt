@@ -7,7 +7,7 @@ ghost use Rattle.gateway.specs.Refused.{carried_as, refused_as, not_refused, tes
 use error::Error;
 
 #[repr(C)]
-#[derive(Drop)]
+#[derive(Clone, Copy)]
 pub struct Refused {
     // 0 where the call answers; else which refusal it is, 1 to 25
     pub number: u8,
@@ -67,7 +67,7 @@ pub(crate) fn answered() -> Refused
 
 // Whether something holds.
 #[repr(C)]
-#[derive(Drop)]
+#[derive(Clone, Copy)]
 pub struct RtpTest {
     pub refused: Refused,
     // false beside a refusal

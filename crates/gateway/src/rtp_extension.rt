@@ -9,7 +9,7 @@ use header::{Change, Changed, Got, Header, IdCount, Ids};
 
 // A header after an element was set or deleted.
 #[repr(C)]
-#[derive(Drop)]
+#[derive(Clone, Copy)]
 pub struct RtpHeaderChanged {
     pub refused: Refused,
     // as it came beside a refusal
@@ -18,7 +18,7 @@ pub struct RtpHeaderChanged {
 
 // An element's data: `len` bytes from `at` on, of the header's `extensions.bytes`.
 #[repr(C)]
-#[derive(Drop)]
+#[derive(Clone, Copy)]
 pub struct RtpElement {
     pub refused: Refused,
     // false where the header has none of that id, and beside a refusal
@@ -30,7 +30,7 @@ pub struct RtpElement {
 }
 
 #[repr(C)]
-#[derive(Drop)]
+#[derive(Clone, Copy)]
 pub struct RtpIds {
     pub refused: Refused,
     // how many there are, 0 to 32; 0 beside a refusal

@@ -13,7 +13,7 @@ use h264_packet::{Depacketize, Depacketized, H264Packet, Head, Shown};
 
 // The payloads of a frame.
 #[repr(C)]
-#[derive(Drop)]
+#[derive(Clone, Copy)]
 pub struct RtpH264Sent {
     pub refused: Refused,
     // how many packets were written; 0 beside a refusal
@@ -30,7 +30,7 @@ pub struct RtpH264Sent {
 
 // The payloads of a frame, where the parameter sets lie in lent buffers.
 #[repr(C)]
-#[derive(Drop)]
+#[derive(Clone, Copy)]
 pub struct RtpH264LentSent {
     pub refused: Refused,
     // how many packets were written; 0 beside a refusal
@@ -46,7 +46,7 @@ pub struct RtpH264LentSent {
 }
 
 // What both of these records say before the sender.
-#[derive(Drop)]
+#[derive(Clone, Copy)]
 struct Counted {
     refused: Refused,
     // how many packets were written; 0 beside a refusal
@@ -61,7 +61,7 @@ struct Counted {
 
 // Where the body of the unit that a payload completed lies: `len` bytes from `at` on.
 #[repr(C)]
-#[derive(Drop)]
+#[derive(Clone, Copy)]
 pub struct RtpBody {
     // 0: nowhere; 1: in the payload; 2: in the gather buffer
     pub lies_in: u8,
@@ -71,7 +71,7 @@ pub struct RtpBody {
 
 // A payload that was read.
 #[repr(C)]
-#[derive(Drop)]
+#[derive(Clone, Copy)]
 pub struct RtpH264Read {
     pub refused: Refused,
     // how many bytes were handed out; 0 beside a refusal

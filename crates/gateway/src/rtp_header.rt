@@ -13,7 +13,7 @@ use header::{Header, HeaderRead, Length, Unmarshalled};
 
 // A header that was read.
 #[repr(C)]
-#[derive(Drop)]
+#[derive(Clone, Copy)]
 pub struct RtpHeaderRead {
     pub refused: Refused,
     // the payload's place in the packet; 0 beside a refusal
@@ -24,7 +24,7 @@ pub struct RtpHeaderRead {
 
 // A number of bytes.
 #[repr(C)]
-#[derive(Drop)]
+#[derive(Clone, Copy)]
 pub struct RtpLength {
     pub refused: Refused,
     // 0 beside a refusal

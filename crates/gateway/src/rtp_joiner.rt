@@ -9,7 +9,7 @@ use joiner::{Closed, Closing, Joined, Joiner};
 
 // What became of a packet.
 #[repr(C)]
-#[derive(Drop)]
+#[derive(Clone, Copy)]
 pub struct RtpJoined {
     pub refused: Refused,
     // its number is 32,768 or more ahead: nothing was done with it, and the rest is 0
@@ -24,7 +24,7 @@ pub struct RtpJoined {
 
 // A joiner that was closed.
 #[repr(C)]
-#[derive(Drop)]
+#[derive(Clone, Copy)]
 pub struct RtpClosed {
     pub refused: Refused,
     // the first of the numbers that never came; 0 beside a refusal

@@ -14,7 +14,7 @@ use packet::{PacketRead, Unmarshalled};
 
 // A packet that was read: its payload is `len` bytes of it from `at` on.
 #[repr(C)]
-#[derive(Drop)]
+#[derive(Clone, Copy)]
 pub struct RtpPacketRead {
     pub refused: Refused,
     // 0 beside a refusal

@@ -20,7 +20,7 @@ use packet::PacketRead;
 
 // A number of bytes. The refusals of these calls carry nothing.
 #[repr(C)]
-#[derive(Drop)]
+#[derive(Clone, Copy)]
 pub struct RtpBytes {
     // 0 where the call answers; else which refusal it is: 5, 8, 9 or 10
     pub number: usize,
@@ -30,7 +30,7 @@ pub struct RtpBytes {
 
 // A header that was read, without its arrays.
 #[repr(C)]
-#[derive(Drop)]
+#[derive(Clone, Copy)]
 pub struct RtpHeaderFront {
     // 0 where the call answers; else which refusal it is: 1, 2, 3, 7 or 8
     pub number: usize,
@@ -42,7 +42,7 @@ pub struct RtpHeaderFront {
 
 // A packet that was read, without its header's arrays: its payload is `len` bytes of it from `at` on.
 #[repr(C)]
-#[derive(Drop)]
+#[derive(Clone, Copy)]
 pub struct RtpPacketFront {
     // 0 where the call answers; else which refusal it is: 1, 2, 3, 4, 7 or 8
     pub number: usize,
@@ -300,8 +300,8 @@ pub extern "C" fn rtp_header_unmarshal_parts(
     bytes: &mut [u8; 1024],
 ) -> RtpHeaderFront
     ensures value { result ≡ header_front_as (headerFront (headerHeard (read_header packet.now))) }
-    ensures bytes_after { record { csrc = csrc.exit.now; ids = ids.new; lens = lens.new; bytes = bytes.new }
-        ≡ headerLent (record { csrc = csrc.entry.now; ids = ids.old; lens = lens.old; bytes = bytes.old }) (read_header packet.now) }
+    ensures bytes_after { record { csrc = csrc.new; ids = ids.new; lens = lens.new; bytes = bytes.new }
+        ≡ headerLent (record { csrc = csrc.old; ids = ids.old; lens = lens.old; bytes = bytes.old }) (read_header packet.now) }
 {
     header_front(header::unmarshal_parts(packet, csrc, ids, lens, bytes))
 }
@@ -324,8 +324,8 @@ pub extern "C" fn rtp_packet_unmarshal_parts(
     bytes: &mut [u8; 1024],
 ) -> RtpPacketFront
     ensures value { result ≡ packet_front_as (packetFront (packetHeard (read_packet packet.now))) }
-    ensures bytes_after { record { csrc = csrc.exit.now; ids = ids.new; lens = lens.new; bytes = bytes.new }
-        ≡ packetLent (record { csrc = csrc.entry.now; ids = ids.old; lens = lens.old; bytes = bytes.old }) (read_packet packet.now) }
+    ensures bytes_after { record { csrc = csrc.new; ids = ids.new; lens = lens.new; bytes = bytes.new }
+        ≡ packetLent (record { csrc = csrc.old; ids = ids.old; lens = lens.old; bytes = bytes.old }) (read_packet packet.now) }
 {
     packet_front(packet::unmarshal_parts(packet, csrc, ids, lens, bytes))
 }

@@ -15,7 +15,7 @@ use vp8::{
 
 // The payloads of a frame.
 #[repr(C)]
-#[derive(Drop)]
+#[derive(Clone, Copy)]
 pub struct RtpVp8Sent {
     pub refused: Refused,
     // how many packets were written; 0 beside a refusal
@@ -28,7 +28,7 @@ pub struct RtpVp8Sent {
 
 // A payload that was read.
 #[repr(C)]
-#[derive(Drop)]
+#[derive(Clone, Copy)]
 pub struct RtpVp8Read {
     pub refused: Refused,
     // where the VP8 payload begins: it is all from there on; 0 beside a refusal
