@@ -1,4 +1,5 @@
 pub mod Argument
+pub mod Digits
 pub mod Files
 pub mod Framing
 pub mod Records

@@ -1,5 +1,5 @@
 -- Steps through the packets of a file. Assumes nothing.
-use Rattle.std.specs.Prelude.{◌≡◌, ℕ, ◌+◌, cond, List, take}
+use Rattle.std.specs.Prelude.{◌≡◌, ℕ, ◌+◌, cond, List, take, is_some}
 use Rattle.stream.specs.declared.framing.Record.{Record}
 use Rattle.stream.specs.declared.framing.Record.TheVariants.{Packet, Cut, End}
 use Rattle.stream.specs.declared.records.Next.{Next}
@@ -34,4 +34,4 @@ ending_by End = 0
 
 -- 1 for one that cannot be read
 abbrev pub ending_of : Next → ℕ
-ending_of n = cond n.window.failed 1 (ending_by n.found)
+ending_of n = cond (is_some n.window.failed) 1 (ending_by n.found)

@@ -1,6 +1,6 @@
 -- Text that is put together before it is written. Assumes nothing.
 use Rattle.std.specs.Prelude.{◌≡◌, ℕ, ◌+◌, cond, List, length, replicate, nat_le}
-use Rattle.io.specs.Digits.{last_digits, IsDigitCount}
+use Rattle.stream.specs.Digits.{last_digits, IsDigitCount}
 use Rattle.wire.specs.Part.{splice}
 use Rattle.stream.specs.declared.text.Text.{Text}
 

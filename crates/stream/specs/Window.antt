@@ -1,10 +1,10 @@
 -- The part of a file that stands in a buffer. Assumes nothing.
-use Rattle.std.specs.Prelude.{◌≡◌, ℕ, ◌-◌, ◌≤◌, false, List, length, take}
+use Rattle.std.specs.Prelude.{◌≡◌, ℕ, ◌-◌, ◌≤◌, false, List, length, take, None}
 use Rattle.wire.specs.Part.{part}
 use Rattle.stream.specs.declared.window.Window.{Window}
 
 abbrev pub nothing_read : Window
-nothing_read = record { at = 0; end = 0; ended = false; failed = false }
+nothing_read = record { at = 0; end = 0; ended = false; failed = None }
 
 abbrev pub from : ℕ → Window → Window
 from at w = record { at = at; end = w.end; ended = w.ended; failed = w.failed }

@@ -2,10 +2,13 @@
 ghost use Rattle.std.specs.Prelude.{◌≡◌, ◌<◌};
 ghost use Rattle.stream.specs.Argument.{digit_of, number_of, Between};
 
+use std::env::FillError;
+use std::rt::Env;
+
 // What stands for no number: more than any that `decimal` reads.
 pub const NONE: u64 = 18446744073709551615;
 
-#[derive(Drop)]
+#[derive(Clone, Copy)]
 pub struct Number {
     // whether this argument, and those that were asked before it, are as they must be
     pub ok: bool,
@@ -44,21 +47,37 @@ fn decimal(text: &[u8]) -> u64
 }
 
 // What argument i says, or `otherwise` where it is not there.
-fn given(i: usize, otherwise: u64) -> u64 {
-    if os::arg_count() <= i {
-        return otherwise;
-    }
+fn given(rt: &HostRuntime, i: usize, otherwise: u64) -> u64 {
     let mut text = [0u8; 16];
-    let n = os::arg(i, &mut text);
-    decimal(&text[..n])
+    match rt.arg(i, &mut text) {
+        Ok(n) => decimal(&text[..n]),
+        Err(FillError::NotPresent) => otherwise,
+        Err(FillError::TooLong) => NONE,
+    }
+}
+
+// Whether the program's argument i is there.
+pub fn is_given(rt: &HostRuntime, i: usize) -> bool {
+    let mut text = [0u8; 16];
+    match rt.arg(i, &mut text) {
+        Err(FillError::NotPresent) => false,
+        _ => true,
+    }
 }
 
 // The program's argument i, which must be a number from least to most; `otherwise` where it is not there, and so NONE for one that
 // must be.
-pub fn argument(before: bool, i: usize, least: u64, most: u64, otherwise: u64) -> Number
+pub fn argument(
+    rt: &HostRuntime,
+    before: bool,
+    i: usize,
+    least: u64,
+    most: u64,
+    otherwise: u64,
+) -> Number
     ensures { Between least most result }
 {
-    let value = given(i, otherwise);
+    let value = given(rt, i, otherwise);
     if value < least {
         return Number {
             ok: false,

@@ -9,7 +9,7 @@ ghost use Rattle.std.specs.Prelude.{◌≡◌, ◌+◌, ◌<◌, ◌≤◌, leng
 ghost use Rattle.wire.specs.Part.{splice, part};
 ghost use Rattle.stream.specs.Framing.{framed, record_at};
 
-#[derive(Drop)]
+#[derive(Clone, Copy)]
 pub enum Record {
     // the packet is `len` bytes from `at` on; behind it comes the next record
     Packet { at: usize, len: usize },

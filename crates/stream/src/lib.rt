@@ -4,6 +4,7 @@
 #![tactic(auto)]
 
 mod arguments;
+mod decimal;
 mod files;
 mod framing;
 mod parts;
@@ -12,8 +13,8 @@ pub mod status;
 mod text;
 mod window;
 
-pub use arguments::{NONE, Number, argument};
-pub use files::{Opened, account_to, finish, open, open_files};
+pub use arguments::{NONE, Number, argument, is_given};
+pub use files::{Opened, Output, account_to, create, finish, open, open_files};
 pub use framing::{Record, frame, record_at};
 pub use parts::{front, part};
 pub use records::{Next, ending, is_over, next_packet};

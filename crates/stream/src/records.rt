@@ -7,9 +7,10 @@ use crate::framing::{Record, record_at};
 use crate::parts::front;
 use crate::status;
 use crate::window::{Window, refill};
+use std::fs::File;
 
 // A step through a file.
-#[derive(Drop)]
+#[derive(Clone, Copy)]
 pub struct Next {
     // what is left: a packet's record is taken
     pub window: Window,
@@ -33,7 +34,7 @@ fn first_in(buf: &[u8], w: Window) -> Next
 }
 
 // The next record of a file, behind one more read where the window has none that is whole.
-pub fn next_packet(fd: i32, buf: &mut [u8; 131072], w: Window) -> Next
+pub fn next_packet(from: &mut File, buf: &mut [u8; 131072], w: Window) -> Next
     requires { Within w 131072 }
     ensures { Stepped w buf.old buf.new result × Within result.window 131072 }
 {
@@ -45,7 +46,7 @@ pub fn next_packet(fd: i32, buf: &mut [u8; 131072], w: Window) -> Next
     if let Record::Packet { at: _, len: _ } = found {
         return here;
     }
-    let fresh = refill(fd, buf, w);
+    let fresh = refill(from, buf, w);
     first_in(buf, fresh)
 }
 
@@ -61,11 +62,11 @@ pub fn is_over(status: u8, turns: u64) -> bool
 }
 
 // How a file ended behind its last packet.
-pub fn ending(last: Next) -> u8
+pub fn ending(rt: &HostRuntime, last: Next) -> u8
     ensures { result ≡ ending_of last }
 {
-    if last.window.failed {
-        return status::unread();
+    if let Some(e) = last.window.failed {
+        return status::unread(rt, e);
     }
     let found = last.found;
     if let Record::Cut = found {

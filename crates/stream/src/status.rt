@@ -1,6 +1,10 @@
-// How a program ended, as a number. A program has no exit status: it writes the number to descriptor 9. `./rtp` listens there, says
-// what the number means, and turns it into a status.
+// How a program ended, as a number, which is its exit status. `./rtp` says what the number means, and turns it into a status of its own.
 ghost use Rattle.std.specs.Prelude.{◌≡◌};
+ghost use Rattle.std.specs.Process.{exit_status};
+
+use std::io;
+use std::io::{Error, ErrorKind, Write};
+use std::process::ExitCode;
 
 // All went well.
 pub const DONE: u8 = 0;
@@ -35,22 +39,49 @@ pub const NO_SETS: u8 = 9;
 // All went well, but units or pairs of parameter sets were dropped for the mtu.
 pub const DROPPED: u8 = 10;
 
-const LISTENER: i32 = 9;
-
-pub fn tell(status: u8) {
-    io::print_decimal(LISTENER, status as u64);
+pub fn tell(status: u8) -> ExitCode
+    ensures { exit_status result ≡ status }
+{
+    ExitCode::from(status)
 }
 
-pub fn unread() -> u8
+// An error in the system's words alone, without its number.
+fn words(text: &str) -> &[u8] {
+    match text.rfind(" (os error ") {
+        Some(at) => &text.as_bytes()[..at],
+        None => text.as_bytes(),
+    }
+}
+
+fn write_failure(rt: &HostRuntime, what: &[u8], e: Error) -> io::Result<()> {
+    let mut to = rt.stderr();
+    to.write_all(what)?;
+    to.write_all(b": ")?;
+    let Ok(text) = e.to_string(rt.alloc()) else {
+        return rt.eprintln(e);
+    };
+    to.write_all(words(text.as_str()))?;
+    to.write_all(b"\n")
+}
+
+// Says on standard error what failed, and why. What cannot be written there stays unsaid.
+pub fn fail(rt: &HostRuntime, what: &[u8], e: Error) {
+    let _ = write_failure(rt, what, e);
+}
+
+pub fn unread(rt: &HostRuntime, e: Error) -> u8
     ensures { result ≡ 1 }
 {
-    os::fail(b"rtp: reading");
+    fail(rt, b"rtp: reading", e);
     FAILED
 }
 
-pub fn unwritten() -> u8
+// Nothing is said to a reader that leaves.
+pub fn unwritten(rt: &HostRuntime, e: Error) -> u8
     ensures { result ≡ 1 }
 {
-    os::fail(b"rtp: writing");
+    if e.kind() != ErrorKind::BrokenPipe {
+        fail(rt, b"rtp: writing", e);
+    }
     FAILED
 }

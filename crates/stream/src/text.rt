@@ -2,7 +2,10 @@
 ghost use Rattle.std.specs.Prelude.{◌≡◌, if◌then◌else◌};
 ghost use Rattle.stream.specs.Text.{no_text, word_on, Numbered};
 
+use crate::decimal::decimal;
+use crate::files::Output;
 use crate::parts::front;
+use std::io;
 
 #[derive(Drop)]
 pub struct Text {
@@ -52,13 +55,13 @@ impl Text {
         ensures { Numbered self name.now n result }
     {
         let mut digits = [0u8; 20];
-        let k = io::decimal(n, &mut digits);
+        let k = decimal(n, &mut digits);
         self.word(name).word(&digits[..k])
     }
 
-    // Writes it. Whether all of it was written.
-    pub fn write(self, fd: i32) -> bool {
+    // Writes it: all of it, or it fails.
+    pub fn write(self, rt: &HostRuntime, to: &mut Output) -> io::Result<()> {
         let bytes = self.bytes;
-        io::write_all(fd, front(&bytes, self.len as usize))
+        to.write_all(rt, front(&bytes, self.len as usize))
     }
 }

@@ -3,15 +3,18 @@ ghost use Rattle.std.specs.Prelude.{◌≡◌, ◌-◌, ◌≤◌, length};
 ghost use Rattle.wire.specs.Part.{splice, part};
 ghost use Rattle.stream.specs.Window.{Within, Refilled, nothing_read, from as windowFrom};
 
-#[derive(Drop)]
+use std::fs::File;
+use std::io::{Error, ErrorKind, Read};
+
+#[derive(Clone, Copy)]
 pub struct Window {
     // the bytes of the buffer from `at` up to `end` are read, and not taken yet
     pub at: usize,
     pub end: usize,
     // no byte follows them in the file
     pub ended: bool,
-    // the last read failed
-    pub failed: bool,
+    // why the last read failed, where it did
+    pub failed: Option<Error>,
 }
 
 impl Window {
@@ -23,7 +26,7 @@ impl Window {
             at: 0,
             end: 0,
             ended: false,
-            failed: false,
+            failed: None,
         }
     }
 
@@ -48,17 +51,54 @@ fn to_front(buf: &mut [u8], at: usize, end: usize)
     }
 }
 
-// Whether a file that ended did so because it cannot be read.
-fn is_failing(fd: i32, ended: bool) -> bool {
-    if !ended {
-        return false;
-    }
-    let mut one = [0u8; 1];
-    libc::read(fd, &mut one) < 0
+// What was read into a buffer.
+#[derive(Clone, Copy)]
+struct Got {
+    // how many bytes stand at its start
+    count: usize,
+    // the file ended, or could not be read on
+    ended: bool,
+    failed: Option<Error>,
 }
 
-// Moves what is not taken yet to the front, and reads on behind it until the buffer is full or the file ends.
-pub fn refill(fd: i32, buf: &mut [u8], w: Window) -> Window
+// Reads until the buffer is full, the file ends or a read fails. One that a signal interrupts is made again.
+fn read_full(from: &mut File, buf: &mut [u8]) -> Got
+    ensures { result.count ≤ length buf.new }
+{
+    let mut count = 0;
+    for _ in 0..u64::MAX {
+        if count == buf.len() {
+            break;
+        }
+        match from.read(&mut buf[count..]) {
+            Ok(0) => {
+                return Got {
+                    count,
+                    ended: true,
+                    failed: None,
+                };
+            }
+            Ok(n) => count += n,
+            Err(e) => {
+                if e.kind() != ErrorKind::Interrupted {
+                    return Got {
+                        count,
+                        ended: true,
+                        failed: Some(e),
+                    };
+                }
+            }
+        }
+    }
+    Got {
+        count,
+        ended: false,
+        failed: None,
+    }
+}
+
+// Moves what is not taken yet to the front, and reads on behind it until the buffer is full, the file ends or it cannot be read on.
+pub fn refill(from: &mut File, buf: &mut [u8], w: Window) -> Window
     requires { Within w (length buf.old) }
     ensures { Refilled w buf.old result buf.new }
 {
@@ -66,12 +106,11 @@ pub fn refill(fd: i32, buf: &mut [u8], w: Window) -> Window
     let end = w.end;
     to_front(buf, at, end);
     let kept = end - at;
-    let got = io::read_full(fd, &mut buf[kept..]);
-    let ended = kept + got < buf.len();
+    let got = read_full(from, &mut buf[kept..]);
     Window {
         at: 0,
-        end: kept + got,
-        ended,
-        failed: is_failing(fd, ended),
+        end: kept + got.count,
+        ended: got.ended,
+        failed: got.failed,
     }
 }
