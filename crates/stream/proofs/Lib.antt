@@ -1,4 +1,5 @@
 pub mod Numbers
+pub mod Powers
 pub mod ReadBack
 pub mod Steps
 pub mod Words

@@ -1,5 +1,5 @@
 -- The laws of `number_from`: the digits end, one of them is none or one too many, one of them counts. Assumes nothing.
-use Rattle.std.proofs.Common.{◌≡◌, ℕ, ◌+◌, ◌-◌, ◌*◌, ◌<◌, ◌≤◌, Bool, true, false, cond, ◌&&◌, leb, List, [], length, get_or, drop, sym, ap, ◌∙◌, arith, drop_of_length-le, le-leb}
+use Rattle.std.proofs.Common.{◌≡◌, ℕ, ◌+◌, ◌*◌, ◌<◌, ◌≤◌, Bool, true, false, cond, List, length, get_or, drop, sym, ap, ◌∙◌, drop_of_length-le, le-leb}
 use borrow.Author.Tests.{lt-leb}
 use Rattle.wire.proofs.Part.{drop_front}
 use Rattle.stream.specs.Argument.{none, digit_of, goes_on, number_from}

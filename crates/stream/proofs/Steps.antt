@@ -7,7 +7,7 @@ use Rattle.stream.specs.declared.framing.Record.{Record}
 use Rattle.stream.specs.declared.framing.Record.TheVariants.{Packet, Cut, End}
 use Rattle.stream.specs.declared.records.Next.{Next}
 use Rattle.stream.specs.declared.window.Window.{Window}
-use Rattle.stream.specs.Framing.{record_of, record_at}
+use Rattle.stream.specs.Framing.{record_at}
 use Rattle.stream.specs.Records.{past_record, found_in}
 use Rattle.stream.specs.Window.{nothing_read, Within}
 

@@ -3,7 +3,7 @@ use Rattle.std.proofs.Common.{◌≡◌, ℕ, ◌+◌, ◌-◌, ◌^◌, ◌<◌
 use native.Mathlib.Decide.{dec_le}
 use native.Mathlib.Nat.{pow-le-pow_right}
 use borrow.Author.Tests.{lt-leb}
-use Rattle.io.specs.Digits.{last_digits, IsDigitCount}
+use Rattle.stream.specs.Digits.{last_digits, IsDigitCount}
 use Rattle.stream.specs.declared.text.Text.{Text}
 use Rattle.stream.specs.Text.{with_word, word_on, Numbered}
 

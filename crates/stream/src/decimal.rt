@@ -1,6 +1,6 @@
 // A number in decimal digits, in ASCII.
 ghost use Rattle.std.specs.Prelude.{◌≡◌, ◌<◌, ◌≤◌, length, take, drop};
-ghost use Rattle.stream.specs.Digits.{last_digits, IsDigitCount};
+ghost use Rattle.stream.specs.Digits.{hex_digit_ascii, last_digits, IsDigitCount};
 
 // Puts n's digits at the start of out, and returns how many there are.
 pub fn decimal(n: u64, out: &mut [u8; 20]) -> usize
@@ -26,6 +26,13 @@ fn digit_count(n: u64) -> usize
     k
 }
 
+fn digit_to_ascii(d: u64) -> u8
+    requires { d < 10 }
+    ensures { result ≡ hex_digit_ascii d }
+{
+    b'0' + d as u8
+}
+
 // Puts the last k digits of n at the start of out.
 fn write_digits(n: u64, k: usize, out: &mut [u8])
     requires { k ≤ length out.old }
@@ -35,7 +42,7 @@ fn write_digits(n: u64, k: usize, out: &mut [u8])
     let mut rest = n;
     while i > 0 {
         i -= 1;
-        out[i] = b'0' + (rest % 10) as u8;
+        out[i] = digit_to_ascii(rest % 10);
         rest /= 10;
     }
 }

@@ -1,12 +1,11 @@
 -- The length goes where nothing of the packet stands, so that the packet is as it was.
-use Rattle.std.proofs.Common.{◌≡◌, ℕ, ◌+◌, ◌≤◌, List, ◌++◌, length, drop, sym, refl, ap, ◌∙◌, append_assoc, arith, length-append, take-append-drop, drop-drop, rules}
+use Rattle.std.proofs.Common.{◌≡◌, ℕ, ◌+◌, ◌≤◌, List, ◌++◌, length, drop, sym, refl, ap, ◌∙◌, append_assoc, arith, length-append, take-append-drop, drop-drop}
 use Rattle.wire.specs.Net.{be16}
 use Rattle.wire.specs.Part.{splice, part}
 use Rattle.wire.proofs.Net.{length_be16}
 use Rattle.wire.proofs.Part.{length_part}
 use Rattle.stream.specs.Framing.{framed}
-use Rattle.stream.proofs.framing.frame.Statement.{statement}
-use Rattle.stream.proofs.framing.frame.Tie as tie
+use Rattle.stream.proofs.framing.frame.Goals as goal
 
 framed_so : (xs : List ℕ) (n : ℕ) → 2 + n ≤ length xs → splice xs 0 (be16 n) ≡ splice xs 0 (framed (part xs 2 n))
 unfolding splice framed
@@ -20,17 +19,7 @@ framed_so xs n h =
     ∙ ap (λ (k : ℕ). (be16 n ++ p) ++ drop k xs) all
     ∙ ap (λ (k : ℕ). (be16 k ++ p) ++ drop (0 + length (be16 k ++ p)) xs) (sym (length_part xs 2 n h))
 
-returns : tie.Need-returns
+pub returns : goal.returns
 returns c =
-    let a = c.before.before.before.before.before.args in
-    (refl, c.before.before.put-u16.ensures ∙ framed_so a.s.now a.n (omega arith))
-
-pub frame-spec : {M : Type 1} → statement M
-frame-spec =
-    tie.close
-    (tie.spec
-    (λ c. search rules)
-    (λ c κs. search rules)
-    (λ c. search rules)
-    (λ c. search rules)
-    returns)
+    let a = c.args in
+    (refl, c.put_u16.ensures ∙ framed_so a.s.now a.n (omega arith))
