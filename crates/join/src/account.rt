@@ -6,7 +6,7 @@ use crate::units::Units;
 use error::Error;
 use stream::{Text, status};
 
-#[derive(Drop)]
+#[derive(Clone, Copy)]
 pub struct Account {
     // the packets of the file
     pub packets: u64,

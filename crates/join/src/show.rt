@@ -5,7 +5,8 @@ use crate::units::units_of;
 use error::Error;
 use joiner::{Joined, Joiner, Step};
 use packet::PacketRead;
-use stream::{Text, status};
+use std::fs::File;
+use stream::{Output, Text, status};
 
 #[derive(Drop)]
 pub struct Show {
@@ -15,9 +16,9 @@ pub struct Show {
     pub opened: bool,
     // of the packets so far
     pub account: Account,
-    // the descriptors of the packets and of the clip
-    pub from: i32,
-    pub to: i32,
+    // the packets and the clip
+    pub from: File,
+    pub to: Output,
     // DONE while all goes well
     pub status: u8,
 }
@@ -32,12 +33,13 @@ fn status_of(e: Error) -> u8 {
 }
 
 // Writes the numbers of a jump, if any, and the bytes that were handed out.
-fn write(to: i32, first: u16, count: u16, bytes: &[u8]) -> u8 {
-    if !account::jump(Text::new(), first, count).write(stream::account_to(to)) {
-        return status::unwritten();
+fn write(rt: &HostRuntime, to: &mut Output, first: u16, count: u16, bytes: &[u8]) -> u8 {
+    let mut account = stream::account_to(to);
+    if let Err(e) = account::jump(Text::new(), first, count).write(rt, &mut account) {
+        return status::unwritten(rt, e);
     }
-    if !io::write_all(to, bytes) {
-        return status::unwritten();
+    if let Err(e) = to.write_all(rt, bytes) {
+        return status::unwritten(rt, e);
     }
     status::DONE
 }
@@ -65,7 +67,7 @@ impl Show {
     }
 
     // What became of a packet: `out` is as the joiner left it.
-    fn note<'a>(mut self, packet: &'a [u8], step: Step, out: &'a [u8]) -> Show {
+    fn note<'a>(mut self, rt: &HostRuntime, packet: &'a [u8], step: Step, out: &'a [u8]) -> Show {
         let joiner = step.joiner;
         self.joiner = joiner;
         let account = self.account;
@@ -78,7 +80,8 @@ impl Show {
             } => {
                 let handed = stream::front(out, bytes);
                 self.account = account.accept(units_of(packet, handed), bytes);
-                self.ended(write(self.to, first, count, handed))
+                let status = write(rt, &mut self.to, first, count, handed);
+                self.ended(status)
             }
             Joined::Late => {
                 self.account = account.come_late();
@@ -92,10 +95,16 @@ impl Show {
     }
 
     // One packet more.
-    pub fn join(self, packet: &[u8], gather: &mut [u8; 3145728], out: &mut [u8; 3211264]) -> Show {
+    pub fn join(
+        self,
+        rt: &HostRuntime,
+        packet: &[u8],
+        gather: &mut [u8; 3145728],
+        out: &mut [u8; 3211264],
+    ) -> Show {
         let show = self.open(packet);
         let joiner = show.joiner;
         let step = joiner.join(packet, gather, out);
-        show.note(packet, step, out)
+        show.note(rt, packet, step, out)
     }
 }

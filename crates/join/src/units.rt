@@ -4,7 +4,7 @@ ghost use Rattle.std.specs.Prelude.{◌≤◌, length};
 use nal_read::{Kind, Measured};
 use packet::PacketRead;
 
-#[derive(Drop)]
+#[derive(Clone, Copy)]
 pub struct Units {
     pub count: usize,
     // those whose top bit is set, by which a relay marks what it saw damaged

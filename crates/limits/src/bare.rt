@@ -3,6 +3,7 @@
 use crate::long::length;
 use crate::tell;
 use header::{Fixed, Header};
+use std::io;
 
 fn fixed(version: u8, payload_type: u8) -> Fixed {
     Fixed {
@@ -36,31 +37,37 @@ fn writable(version: u8) -> u64 {
     0
 }
 
-pub fn all() {
+pub fn all(rt: &HostRuntime) -> io::Result<()> {
     tell(
-        b"header marshal_bare, version 4",
+        rt,
+        "header marshal_bare, version 4",
         write_header(4, 0, 0) as u64,
-    );
+    )?;
     tell(
-        b"header marshal_bare, payload type 128",
+        rt,
+        "header marshal_bare, payload type 128",
         write_header(0, 128, 0) as u64,
-    );
+    )?;
     tell(
-        b"header marshal_bare, padding 262,141",
+        rt,
+        "header marshal_bare, padding 262,141",
         write_header(0, 0, 262141) as u64,
-    );
+    )?;
     tell(
-        b"packet marshal_bare, version 4",
+        rt,
+        "packet marshal_bare, version 4",
         write_packet(4, 0, 0) as u64,
-    );
+    )?;
     tell(
-        b"packet marshal_bare, payload type 128",
+        rt,
+        "packet marshal_bare, payload type 128",
         write_packet(0, 128, 0) as u64,
-    );
+    )?;
     tell(
-        b"packet marshal_bare, padding 262,141",
+        rt,
+        "packet marshal_bare, padding 262,141",
         write_packet(0, 0, 262141) as u64,
-    );
-    tell(b"header is_writable, version 3", writable(3));
-    tell(b"header is_writable, version 4", writable(4));
+    )?;
+    tell(rt, "header is_writable, version 3", writable(3))?;
+    tell(rt, "header is_writable, version 4", writable(4))
 }

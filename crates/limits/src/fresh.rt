@@ -1,6 +1,7 @@
 // Senders with nothing saved: a row of a list brings its sets with it.
 use crate::tell;
 use h264::{H264Payloader, LentPayloader, Payloads};
+use std::io;
 
 const FRAME: [u8; 6] = *b"\x00\x00\x01\x65\x01\x02";
 
@@ -35,10 +36,15 @@ fn lent() -> u64 {
     packets(answer)
 }
 
-pub fn all() {
-    tell(b"packets of a frame from a fresh h264 sender", by_value());
+pub fn all(rt: &HostRuntime) -> io::Result<()> {
     tell(
-        b"packets of a frame from a fresh h264 sender, bytes in its lent buffers",
+        rt,
+        "packets of a frame from a fresh h264 sender",
+        by_value(),
+    )?;
+    tell(
+        rt,
+        "packets of a frame from a fresh h264 sender, bytes in its lent buffers",
         lent(),
-    );
+    )
 }

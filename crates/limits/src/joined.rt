@@ -1,6 +1,7 @@
 // The joiner: a packet of one byte too many, and records that no call makes.
 use crate::tell;
 use joiner::{Closed, Joined, Joiner};
+use std::io;
 
 fn join(joiner: Joiner, packet: &[u8]) -> u8 {
     let mut gather = [0u8; 16];
@@ -49,64 +50,75 @@ fn timed(closed: bool) -> Joiner {
     joiner
 }
 
-fn lengths(packet: &[u8]) {
+fn lengths(rt: &HostRuntime, packet: &[u8]) -> io::Result<()> {
     tell(
-        b"joiner join, a length and no run",
+        rt,
+        "joiner join, a length and no run",
         join(holding(false, 1), packet) as u64,
-    );
+    )?;
     tell(
-        b"joiner close, a length and no run",
+        rt,
+        "joiner close, a length and no run",
         close(holding(false, 1)) as u64,
-    );
+    )?;
     tell(
-        b"joiner close, a run of 16,777,216 bytes",
+        rt,
+        "joiner close, a run of 16,777,216 bytes",
         close(holding(true, 16777216)) as u64,
-    );
+    )
 }
 
-fn marks(packet: &[u8]) {
+fn marks(rt: &HostRuntime, packet: &[u8]) -> io::Result<()> {
     tell(
-        b"joiner join, a mark and no run",
+        rt,
+        "joiner join, a mark and no run",
         join(marked(false), packet) as u64,
-    );
+    )?;
     tell(
-        b"joiner close, a mark and no run",
+        rt,
+        "joiner close, a mark and no run",
         close(marked(false)) as u64,
-    );
+    )?;
     tell(
-        b"joiner join, a mark and no run, closed",
+        rt,
+        "joiner join, a mark and no run, closed",
         join(marked(true), packet) as u64,
-    );
+    )?;
     tell(
-        b"joiner close, a mark and no run, closed",
+        rt,
+        "joiner close, a mark and no run, closed",
         close(marked(true)) as u64,
-    );
+    )
 }
 
-fn times(packet: &[u8]) {
+fn times(rt: &HostRuntime, packet: &[u8]) -> io::Result<()> {
     tell(
-        b"joiner join, a time and no run",
+        rt,
+        "joiner join, a time and no run",
         join(timed(false), packet) as u64,
-    );
+    )?;
     tell(
-        b"joiner close, a time and no run",
+        rt,
+        "joiner close, a time and no run",
         close(timed(false)) as u64,
-    );
+    )?;
     tell(
-        b"joiner join, a time and no run, closed",
+        rt,
+        "joiner join, a time and no run, closed",
         join(timed(true), packet) as u64,
-    );
+    )?;
     tell(
-        b"joiner close, a time and no run, closed",
+        rt,
+        "joiner close, a time and no run, closed",
         close(timed(true)) as u64,
-    );
+    )
 }
 
-pub fn all() {
+pub fn all(rt: &HostRuntime) -> io::Result<()> {
     let long = [0x80u8; 65536];
     let packet = *b"\x80\x60\x00\x01\x00\x00\x00\x02\x00\x00\x00\x03\x41\x01\x02";
-    tell(b"joiner join", join(Joiner::open(3, 1), &long) as u64);
-    lengths(&packet);
-    marks(&packet);
-    times(&packet);
+    tell(rt, "joiner join", join(Joiner::open(3, 1), &long) as u64)?;
+    lengths(rt, &packet)?;
+    marks(rt, &packet)?;
+    times(rt, &packet)
 }

@@ -3,6 +3,7 @@ use crate::tell;
 use h264_packet::{Depacketize, H264Packet, Head};
 use header::{Header, HeaderRead, Length};
 use packet::PacketRead;
+use std::io;
 use vp8::{Vp8Packet, Vp8PartitionHead, Vp8Read};
 
 fn read_header(packet: &[u8]) -> u8 {
@@ -92,18 +93,19 @@ fn begins_vp8(payload: &[u8]) -> u8 {
     }
 }
 
-pub fn all() {
+pub fn all(rt: &HostRuntime) -> io::Result<()> {
     let long = [0x41u8; 65536];
-    tell(b"header unmarshal", read_header(&long) as u64);
-    tell(b"packet unmarshal", read_packet(&long) as u64);
+    tell(rt, "header unmarshal", read_header(&long) as u64)?;
+    tell(rt, "packet unmarshal", read_packet(&long) as u64)?;
     tell(
-        b"packet marshal_size",
+        rt,
+        "packet marshal_size",
         length(packet::marshal_size(Header::default(), &long)) as u64,
-    );
-    tell(b"packet marshal_to", write(&long) as u64);
-    tell(b"packet marshal_bare", write_bare(&long) as u64);
-    tell(b"h264 depacketize", read_h264(&long) as u64);
-    tell(b"h264 is_partition_head", begins_h264(&long) as u64);
-    tell(b"vp8 depacketize", read_vp8(&long) as u64);
-    tell(b"vp8 is_partition_head", begins_vp8(&long) as u64);
+    )?;
+    tell(rt, "packet marshal_to", write(&long) as u64)?;
+    tell(rt, "packet marshal_bare", write_bare(&long) as u64)?;
+    tell(rt, "h264 depacketize", read_h264(&long) as u64)?;
+    tell(rt, "h264 is_partition_head", begins_h264(&long) as u64)?;
+    tell(rt, "vp8 depacketize", read_vp8(&long) as u64)?;
+    tell(rt, "vp8 is_partition_head", begins_vp8(&long) as u64)
 }

@@ -9,26 +9,25 @@ mod joined;
 mod long;
 
 use h264_packet::{Shown, body};
-use libc::STDOUT_FILENO;
+use std::io;
 
-pub fn tell(call: &[u8], number: u64) {
-    io::write_all(STDOUT_FILENO, call);
-    io::write_all(STDOUT_FILENO, b": ");
-    io::print_decimal(STDOUT_FILENO, number);
-    io::write_all(STDOUT_FILENO, b"\n");
+pub fn tell(rt: &HostRuntime, call: &str, number: u64) -> io::Result<()> {
+    println!(rt; "{call}: {number}")
 }
 
-fn main() {
-    long::all();
-    bare::all();
-    joined::all();
-    fresh::all();
+fn main(rt: HostRuntime) -> io::Result<()> {
+    long::all(&rt)?;
+    bare::all(&rt)?;
+    joined::all(&rt)?;
+    fresh::all(&rt)?;
     tell(
-        b"bytes of the body of an empty packet",
+        &rt,
+        "bytes of the body of an empty packet",
         body(Shown::Packet, b"", b"\x41").len() as u64,
-    );
+    )?;
     tell(
-        b"bytes of a body beyond the gather buffer",
+        &rt,
+        "bytes of a body beyond the gather buffer",
         body(Shown::Gather(2), b"\x41", b"\x41").len() as u64,
-    );
+    )
 }

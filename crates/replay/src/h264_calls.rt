@@ -116,7 +116,7 @@ fn same_set(same: bool, a: &[u8], set: ParameterSet, behind: [u8; 1024]) -> bool
     let mut places = behind;
     rows::lay(rows::field(a, 1), &mut places);
     let same = equal::number(same, a, 0, set.len);
-    same && check::same(&places, &set.bytes)
+    same && places == set.bytes
 }
 
 pub fn read<'a>(q: &'a [u8], a: &'a [u8]) -> bool {
@@ -159,7 +159,7 @@ fn gathered<'a>(
     gather: &'a [u8; 2048],
 ) -> bool {
     let same = equal::places(same, rows::field(a, 5), rows::FILL, gather);
-    same && check::same(body(shown, payload, gather), rows::field(a, 6))
+    same && body(shown, payload, gather) == rows::field(a, 6)
 }
 
 pub fn head<'a>(q: &'a [u8], a: &'a [u8]) -> bool {

@@ -13,7 +13,7 @@ mod vp8_calls;
 
 use joiner::Joiner;
 use joiner_calls::Host;
-use libc::STDOUT_FILENO;
+use std::{fs, io};
 
 // The counts of a list.
 #[derive(Drop)]
@@ -84,44 +84,31 @@ impl Tally {
         self
     }
 
-    fn report(self, name: &[u8]) {
-        io::write_all(STDOUT_FILENO, name);
-        io::write_all(STDOUT_FILENO, b": ");
-        io::print_decimal(STDOUT_FILENO, self.rows);
-        io::write_all(STDOUT_FILENO, b" rows, ");
-        io::print_decimal(STDOUT_FILENO, self.equal);
-        io::write_all(STDOUT_FILENO, b" equal");
-        if self.other != 0 {
-            io::write_all(STDOUT_FILENO, b", unequal from row ");
-            io::print_decimal(STDOUT_FILENO, self.other);
+    fn report(self, rt: &HostRuntime, name: &str) -> io::Result<()> {
+        let rows = self.rows;
+        let equal = self.equal;
+        print!(rt; "{name}: {rows} rows, {equal} equal")?;
+        let other = self.other;
+        if other != 0 {
+            print!(rt; ", unequal from row {other}")?;
         }
-        io::write_all(STDOUT_FILENO, b"\n");
+        rt.println("")
     }
 }
 
-fn play(name: &[u8]) {
-    let mut list = [0u8; 1048576];
-    load(name, &mut list);
-}
-
-// The room for a list has its length by its type: it is too long to be measured.
-fn load(name: &[u8], room: &mut [u8; 1048576]) {
-    let fd = os::open_read(name);
-    if fd < 0 {
-        os::fail(name);
-        return;
+// A list that cannot be read is named, and the others are replayed.
+fn play(rt: &HostRuntime, name: &str) -> io::Result<()> {
+    match fs::read(rt, name) {
+        Ok(list) => replay(&list).report(rt, name),
+        Err(e) => eprintln!(rt; "{name}: {e}"),
     }
-    let n = io::read_full(fd, room);
-    libc::close(fd);
-    let list = &room[..];
-    replay(&list[0..n]).report(name);
 }
 
-fn main() {
-    play(b"header");
-    play(b"packet");
-    play(b"h264");
-    play(b"vp8");
-    play(b"joiner");
-    play(b"altered");
+fn main(rt: HostRuntime) -> io::Result<()> {
+    play(&rt, "header")?;
+    play(&rt, "packet")?;
+    play(&rt, "h264")?;
+    play(&rt, "vp8")?;
+    play(&rt, "joiner")?;
+    play(&rt, "altered")
 }

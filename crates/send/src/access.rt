@@ -9,7 +9,7 @@ ghost use Rattle.send.specs.Access.{is_slice, is_before, has_header, begins as b
 
 use annexb::{Found, next_code};
 
-#[derive(Drop)]
+#[derive(Clone, Copy)]
 pub enum Edge {
     // the place of the start code before the second access unit
     At(usize),

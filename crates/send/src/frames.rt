@@ -3,9 +3,10 @@ ghost use Rattle.std.specs.Prelude.{length};
 ghost use Rattle.stream.specs.Window.{Within};
 
 use crate::access;
+use std::fs::File;
 use stream::{Window, status};
 
-#[derive(Drop)]
+#[derive(Clone, Copy)]
 pub enum Frame {
     // an access unit is `len` bytes from `at` on
     Bytes { at: usize, len: usize },
@@ -15,7 +16,7 @@ pub enum Frame {
     End,
 }
 
-#[derive(Drop)]
+#[derive(Clone, Copy)]
 pub struct NextFrame {
     // what is left: an access unit is taken
     pub window: Window,
@@ -49,7 +50,7 @@ fn first_in(buf: &[u8], w: Window) -> NextFrame
 }
 
 // The next access unit of a file, behind one more read where the window has none that is whole.
-pub fn next_frame(fd: i32, buf: &mut [u8; 3145728], w: Window) -> NextFrame
+pub fn next_frame(from: &mut File, buf: &mut [u8; 3145728], w: Window) -> NextFrame
     requires { Within w 3145728 }
     ensures { Within result.window 3145728 }
 {
@@ -61,14 +62,14 @@ pub fn next_frame(fd: i32, buf: &mut [u8; 3145728], w: Window) -> NextFrame
     if w.ended {
         return here;
     }
-    let fresh = stream::refill(fd, buf, w);
+    let fresh = stream::refill(from, buf, w);
     first_in(buf, fresh)
 }
 
 // How a file ended behind its last access unit.
-pub fn ending(last: NextFrame) -> u8 {
-    if last.window.failed {
-        return status::unread();
+pub fn ending(rt: &HostRuntime, last: NextFrame) -> u8 {
+    if let Some(e) = last.window.failed {
+        return status::unread(rt, e);
     }
     let frame = last.frame;
     let Frame::Open = frame else {

@@ -4,7 +4,9 @@ ghost use Rattle.std.specs.Prelude.{◌≡◌, ◌≤◌, length};
 use error::Error;
 use h264::{H264Payloader, Payloads};
 use header::{Header, Length};
-use stream::status;
+use std::fs::File;
+use std::io;
+use stream::{Output, status};
 
 #[derive(Drop)]
 pub struct Sending {
@@ -15,9 +17,9 @@ pub struct Sending {
     pub payload_type: u8,
     // how far the time goes on with each access unit, at a clock of 90,000 a second
     pub ticks: u32,
-    // the descriptors of the clip and of the packets
-    pub from: i32,
-    pub to: i32,
+    // the clip and the packets
+    pub from: File,
+    pub to: Output,
     // with the parameter sets saved so far
     pub sender: H264Payloader,
     // the number of the next packet
@@ -37,23 +39,29 @@ pub struct Sending {
     pub status: u8,
 }
 
-// Writes the record of one packet. Whether it was written.
-fn write_packet(to: i32, h: Header, payload: &[u8], record: &mut [u8]) -> bool
+// Writes the record of one packet, or fails.
+fn write_packet(
+    rt: &HostRuntime,
+    to: &mut Output,
+    h: Header,
+    payload: &[u8],
+    record: &mut [u8],
+) -> io::Result<()>
     requires { length «record».old ≡ 65537 }
 {
     let length = packet::marshal_to(h, payload, &mut record[2..]);
     match length {
         Length::Bytes(n) => {
             let size = stream::frame(record, n);
-            io::write_all(to, stream::front(record, size))
+            to.write_all(rt, stream::front(record, size))
         }
-        Length::Refused(_) => false,
+        Length::Refused(_) => Err(io::Error::from(io::ErrorKind::InvalidData)),
     }
 }
 
 // Whether a payload is a STAP-A, in which the sender puts a pair of parameter sets.
 fn is_pair(payload: &[u8]) -> bool {
-    check::same(stream::front(payload, 1), b"\x78")
+    stream::front(payload, 1) == b"\x78".as_slice()
 }
 
 // Where packet i ends, which begins at `from`.
@@ -84,7 +92,7 @@ impl Sending {
         self
     }
 
-    fn header(self, marker: bool) -> Header {
+    fn header(&self, marker: bool) -> Header {
         let mut h = Header::default();
         h.version = 2;
         h.marker = marker;
@@ -96,12 +104,19 @@ impl Sending {
     }
 
     // One packet more.
-    fn packet(mut self, payload: &[u8], last: bool, record: &mut [u8; 65537]) -> Sending {
+    fn packet(
+        mut self,
+        rt: &HostRuntime,
+        payload: &[u8],
+        last: bool,
+        record: &mut [u8; 65537],
+    ) -> Sending {
         if self.status != status::DONE {
             return self;
         }
-        if !write_packet(self.to, self.header(last), payload, record) {
-            return self.ended(status::unwritten());
+        let h = self.header(last);
+        if let Err(e) = write_packet(rt, &mut self.to, h, payload, record) {
+            return self.ended(status::unwritten(rt, e));
         }
         self.number = sequence::after(self.number);
         self.packets = std::num::wrapping_add_u64(self.packets, 1);
@@ -113,14 +128,15 @@ impl Sending {
 
     // The n packets of an access unit, as the sender left them. All bear its time, since a joiner refuses a fragment of another; the
     // marker stands on the last.
-    fn write<'a>(self, n: usize, out: &'a [u8], ends: &'a [usize]) -> Sending {
+    fn write<'a>(self, rt: &HostRuntime, n: usize, out: &'a [u8], ends: &'a [usize]) -> Sending {
         let mut record = [0u8; 65537];
         let mut sending = self;
         let mut from = 0;
         let mut i = 0;
         while i < n {
             let to = end_of(ends, i, from);
-            sending = sending.packet(stream::part(out, from, to - from), i == n - 1, &mut record);
+            let payload = stream::part(out, from, to - from);
+            sending = sending.packet(rt, payload, i == n - 1, &mut record);
             from = to;
             i += 1;
         }
@@ -132,6 +148,7 @@ impl Sending {
     // One access unit more.
     pub fn send(
         mut self,
+        rt: &HostRuntime,
         frame: &[u8],
         out: &mut [u8; 3407872],
         ends: &mut [usize; 65536],
@@ -150,7 +167,7 @@ impl Sending {
             } => {
                 self.units_dropped = std::num::wrapping_add_u64(self.units_dropped, units as u64);
                 self.pairs_dropped = std::num::wrapping_add_u64(self.pairs_dropped, pairs as u64);
-                self.write(packets, out, ends)
+                self.write(rt, packets, out, ends)
             }
             Payloads::Refused(e) => self.ended(status_of(e)),
         }

@@ -2,7 +2,7 @@
 use header::Header;
 use nal_read::Kind;
 
-#[derive(Drop)]
+#[derive(Clone, Copy)]
 pub struct Above {
     // whether it is a fragment of an H.264 unit, and not its last
     pub open: bool,

@@ -1,7 +1,7 @@
 // The account of shows: a table of figures.
 use crate::list;
 use crate::list::{Table, plus};
-use libc::STDOUT_FILENO;
+use std::io;
 
 // packets and groups that were sent
 pub const SENT: usize = 0;
@@ -69,11 +69,11 @@ pub fn closed(account: &mut Table, missed: usize) {
     check(account, sum == list::entry(account, SENT));
 }
 
-pub fn report(name: &[u8], account: &Table) {
-    io::write_all(STDOUT_FILENO, name);
+pub fn report(rt: &HostRuntime, name: &str, account: &Table) -> io::Result<()> {
+    rt.print(name)?;
     for k in 0..13 {
-        io::write_all(STDOUT_FILENO, b" ");
-        io::print_decimal(STDOUT_FILENO, list::entry(account, k) as u64);
+        let n = list::entry(account, k);
+        print!(rt; " {n}")?;
     }
-    io::write_all(STDOUT_FILENO, b"\n");
+    rt.println("")
 }

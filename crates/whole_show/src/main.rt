@@ -15,6 +15,7 @@ mod theorem;
 mod units;
 
 use list::{Store, Table};
+use std::io;
 
 // One show, added to an account.
 fn run(show: usize, account: &mut Table) {
@@ -29,21 +30,20 @@ fn run(show: usize, account: &mut Table) {
 }
 
 // Shows from one up to another, as one account.
-fn shows(name: &[u8], from: usize, to: usize) {
+fn shows(rt: &HostRuntime, name: &str, from: usize, to: usize) -> io::Result<()> {
     let mut account: Table = [0; 4096];
     for show in from..to {
         run(show, &mut account);
     }
-    account::report(name, &account);
+    account::report(rt, name, &account)
 }
 
-fn main() {
-    io::write_all(
-        libc::STDOUT_FILENO,
-        b"shows      packets groups pairs pairs-dropped arrived accepted late foreign unreadable missed handed-out bytes unlike-the-theorem\n",
-    );
-    shows(b"clean     ", 0, 1);
-    shows(b"lossy     ", 1, 2);
-    shows(b"everything", 2, 3);
-    shows(b"further   ", 3, 1003);
+fn main(rt: HostRuntime) -> io::Result<()> {
+    rt.println(
+        "shows      packets groups pairs pairs-dropped arrived accepted late foreign unreadable missed handed-out bytes unlike-the-theorem",
+    )?;
+    shows(&rt, "clean     ", 0, 1)?;
+    shows(&rt, "lossy     ", 1, 2)?;
+    shows(&rt, "everything", 2, 3)?;
+    shows(&rt, "further   ", 3, 1003)
 }

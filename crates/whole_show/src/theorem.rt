@@ -46,7 +46,7 @@ pub fn row_of(index: usize, account: &mut Table, rows: &Table) -> usize {
 // Where a string ends that stands at a place of the bytes: beyond all bytes where it does not stand there.
 fn behind(bytes: &[u8], at: usize, string: &[u8]) -> usize {
     let end = plus(at, string.len());
-    if check::same(list::part(bytes, at, end), string) {
+    if list::part(bytes, at, end) == string {
         end
     } else {
         usize::MAX
