@@ -10,7 +10,7 @@ pub use place::{join_by_value, join_in_place};
 
 // The state of a joiner, which a host keeps for the whole show.
 #[repr(C)]
-#[derive(Drop)]
+#[derive(Clone, Copy)]
 pub struct Joiner {
     // the sender's SSRC
     pub source: u32,
@@ -30,7 +30,7 @@ pub struct Joiner {
     pub closed: bool,
 }
 
-#[derive(Drop)]
+#[derive(Clone, Copy)]
 pub enum Joined {
     // The packet was accepted. Before it `count` numbers were passed over, `first` the first of them; `bytes` bytes were handed
     // out.
@@ -44,20 +44,20 @@ pub enum Joined {
     Refused(Error),
 }
 
-#[derive(Drop)]
+#[derive(Clone, Copy)]
 pub struct Step {
     pub joiner: Joiner,
     pub answer: Joined,
 }
 
-#[derive(Drop)]
+#[derive(Clone, Copy)]
 pub enum Closed {
     // Closed, after `count` numbers from `first` on never came.
     Closed { first: u16, count: u16 },
     Refused(Error),
 }
 
-#[derive(Drop)]
+#[derive(Clone, Copy)]
 pub struct Closing {
     pub joiner: Joiner,
     pub answer: Closed,

@@ -8,7 +8,7 @@ ghost use Rattle.joiner_read.specs.Arrive.{arrival_said, arrival_of};
 use error::Error;
 use packet::PacketRead;
 
-#[derive(Drop)]
+#[derive(Clone, Copy)]
 pub enum Arrival {
     // the payload is `len` bytes of the packet from `at` on
     Packet {
