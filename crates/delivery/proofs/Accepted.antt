@@ -28,6 +28,7 @@ module _ {B : Type 0} where
 
   arrived_onto : (j : ℕ) (before earlier : List (Arrival B)) → Arrived j before ⊎ Arrived j earlier → Arrived j (onto before earlier)
   unfolding onto
+  arrived_onto j [] earlier (inl h) = elim h [ ]
   arrived_onto j [] earlier (inr h) = h
   arrived_onto j (ours i ∷ before) earlier (inl (inl e)) = arrived_onto j before (ours i ∷ earlier) (inr (inl e))
   arrived_onto j (ours i ∷ before) earlier (inl (inr h)) = arrived_onto j before (ours i ∷ earlier) (inl h)
@@ -57,6 +58,7 @@ accepted_exactly avc m w d before later i e = (above, accepts)
 
     before_only : (j : ℕ) → Arrived j before ⊎ ⊥ → Arrived j before
     before_only j (inl h) = h
+    before_only j (inr none) = elim none [ ]
 
     above : get_or (map (λ (st : Stepped). play.is_accepted st.answer) (played m w)) (length before) false ≡ true → (j : ℕ) → Arrived j before → j < i
     above t j h = (accepted_sentence i (onto before [])).0 (sym told ∙ t) j (arrived_onto j before [] (inl h))
