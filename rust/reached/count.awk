@@ -21,6 +21,7 @@ BEGIN { split("eq == ne != ult < ule <= ugt > uge >= slt < sle <= sgt > sge >=",
 }
 name == "main" && /^  ret / { hand_out = ++lines }
 { text[++lines] = $0 }
+/^declare .*@write\(/ { declared = 1 }
 /^}/ { ours = 0 }
 !ours { next }
 /^[^ ]*:/ {
@@ -46,6 +47,7 @@ name == "main" && /^  ret / { hand_out = ++lines }
 END {
     text[hand_out] = "  call i64 @write(i32 3, ptr @reached, i64 " n ")"
     for (i = 1; i <= lines; i++) print text[i]
+    if (!declared) print "declare i64 @write(i32, ptr, i64)"
     for (i = 1; i <= n; i++) { zeros = zeros "0"; print kinds[i] "|" said[i] >counters }
     print "@reached = internal global [" n " x i8] c\"" zeros "\""
 }
