@@ -15,12 +15,12 @@ use Rattle.header.specs.Read.{read_header}
 use Rattle.header.specs.Size.{size_asked, length_asked}
 use Rattle.header.specs.Write.{write_header}
 use Rattle.header.specs.Extension.{set_extension, del_extension, get_extension, get_extension_ids}
-use Rattle.header.specs.Said.{Written, written, change_heard, ids_heard, reading_heard as headerHeard}
-use Rattle.header.specs.Parts.{together, bare, Lent as Arrays, front_heard as headerFront, lent_read as headerLent}
+use Rattle.header.specs.Said.{Written, written, change_heard, ids_heard, reading_heard as header_heard}
+use Rattle.header.specs.Parts.{together, bare, Lent as Arrays, front_heard as header_front, lent_read as header_lent}
 use Rattle.packet.specs.Read.{read_packet}
 use Rattle.packet.specs.Write.{packet_size_asked, write_packet}
-use Rattle.packet.specs.Said.{reading_heard as packetHeard}
-use Rattle.packet.specs.Fronts.{front_heard as packetFront, lent_read as packetLent}
+use Rattle.packet.specs.Said.{reading_heard as packet_heard}
+use Rattle.packet.specs.Fronts.{front_heard as packet_front, lent_read as packet_lent}
 use Rattle.vp8_send.specs.declared.Vp8Payloader.{Vp8Payloader}
 use Rattle.vp8_read.specs.declared.Vp8Packet.{Vp8Packet}
 use Rattle.vp8_send.specs.Send.{Sending, payloaded}
@@ -31,7 +31,7 @@ use Rattle.h264_put.specs.Groups.{nothing_saved}
 use Rattle.h264.specs.Payload.{Lent, LeftIn, Left, lay_out, payload_of, lent_of}
 use Rattle.h264_packet.specs.declared.H264Packet.{H264Packet}
 use Rattle.h264_packet.specs.Depacketize.{head_test}
-use Rattle.h264_packet.specs.Depacketize.{depacketized as depacketizedBy}
+use Rattle.h264_packet.specs.Depacketize.{depacketized as depacketized_by}
 use Rattle.h264_packet.specs.Said.{Heard, depacketized_heard}
 use Rattle.joiner.specs.declared.Joiner.{Joiner}
 use Rattle.joiner.specs.Join.{Stepped, opened, join_step, close_step}
@@ -71,8 +71,8 @@ by_three a b c = by_both (by_value a) (by_both (by_value b) (by_value c))
 pub header_default_only : Determined (λ (r : Header). r ≡ blank)
 header_default_only = by_value blank
 
-pub header_unmarshal_only : (s : List ℕ) → Determined (λ (r : RtpHeaderRead). r ≡ header_read_as (headerHeard (read_header s)))
-header_unmarshal_only s = by_value (header_read_as (headerHeard (read_header s)))
+pub header_unmarshal_only : (s : List ℕ) → Determined (λ (r : RtpHeaderRead). r ≡ header_read_as (header_heard (read_header s)))
+header_unmarshal_only s = by_value (header_read_as (header_heard (read_header s)))
 
 pub header_marshal_size_only : (h : Header) → Determined (λ (r : RtpLength). r ≡ length_as (size_asked h))
 header_marshal_size_only h = by_value (length_as (size_asked h))
@@ -103,8 +103,8 @@ header_get_extension_ids_only h = by_value (ids_as (ids_heard (get_extension_ids
 
 -- ---- the packet
 
-pub packet_unmarshal_only : (s : List ℕ) → Determined (λ (r : RtpPacketRead). r ≡ packet_read_as (packetHeard (read_packet s)))
-packet_unmarshal_only s = by_value (packet_read_as (packetHeard (read_packet s)))
+pub packet_unmarshal_only : (s : List ℕ) → Determined (λ (r : RtpPacketRead). r ≡ packet_read_as (packet_heard (read_packet s)))
+packet_unmarshal_only s = by_value (packet_read_as (packet_heard (read_packet s)))
 
 pub packet_marshal_size_only : (h : Header) (payload : List ℕ) → Determined (λ (r : RtpLength). r ≡ length_as (packet_size_asked h payload))
 packet_marshal_size_only h payload = by_value (length_as (packet_size_asked h payload))
@@ -162,22 +162,22 @@ pub packet_marshal_bare_only : (f : Fixed) (profile pads : ℕ) (s buf : List �
 packet_marshal_bare_only f profile pads s buf = wrote_only (written buf (write_packet (bare f profile pads) s (length buf)))
 
 pub header_unmarshal_front_only : (s : List ℕ) →
-    Determined (λ (r : RtpHeaderFront). r ≡ header_front_as (headerFront (headerHeard (read_header s))))
-header_unmarshal_front_only s = by_value (header_front_as (headerFront (headerHeard (read_header s))))
+    Determined (λ (r : RtpHeaderFront). r ≡ header_front_as (header_front (header_heard (read_header s))))
+header_unmarshal_front_only s = by_value (header_front_as (header_front (header_heard (read_header s))))
 
 pub header_unmarshal_parts_only : (s : List ℕ) (old : Arrays) →
     Determined (λ (r : RtpHeaderFront × Arrays).
-    (r.0 ≡ header_front_as (headerFront (headerHeard (read_header s)))) × (r.1 ≡ headerLent old (read_header s)))
-header_unmarshal_parts_only s old = by_both (header_unmarshal_front_only s) (by_value (headerLent old (read_header s)))
+    (r.0 ≡ header_front_as (header_front (header_heard (read_header s)))) × (r.1 ≡ header_lent old (read_header s)))
+header_unmarshal_parts_only s old = by_both (header_unmarshal_front_only s) (by_value (header_lent old (read_header s)))
 
 pub packet_unmarshal_front_only : (s : List ℕ) →
-    Determined (λ (r : RtpPacketFront). r ≡ packet_front_as (packetFront (packetHeard (read_packet s))))
-packet_unmarshal_front_only s = by_value (packet_front_as (packetFront (packetHeard (read_packet s))))
+    Determined (λ (r : RtpPacketFront). r ≡ packet_front_as (packet_front (packet_heard (read_packet s))))
+packet_unmarshal_front_only s = by_value (packet_front_as (packet_front (packet_heard (read_packet s))))
 
 pub packet_unmarshal_parts_only : (s : List ℕ) (old : Arrays) →
     Determined (λ (r : RtpPacketFront × Arrays).
-    (r.0 ≡ packet_front_as (packetFront (packetHeard (read_packet s)))) × (r.1 ≡ packetLent old (read_packet s)))
-packet_unmarshal_parts_only s old = by_both (packet_unmarshal_front_only s) (by_value (packetLent old (read_packet s)))
+    (r.0 ≡ packet_front_as (packet_front (packet_heard (read_packet s)))) × (r.1 ≡ packet_lent old (read_packet s)))
+packet_unmarshal_parts_only s old = by_both (packet_unmarshal_front_only s) (by_value (packet_lent old (read_packet s)))
 
 -- ---- H.264
 
@@ -200,10 +200,10 @@ h264_lent_payload_only k mtu frame out ends =
     by_both (by_value (h264_lent_sent_as l)) (by_both (by_value l.sender.sps) (by_three l.sender.pps l.out l.ends))
 
 pub h264_depacketize_only : (k : H264Packet) (payload gather out : List ℕ) →
-    let h = depacketized_heard k payload (depacketizedBy k.is_avc k.gathered payload gather out) in
+    let h = depacketized_heard k payload (depacketized_by k.is_avc k.gathered payload gather out) in
     Determined (λ (r : RtpH264Read × (List ℕ × List ℕ)). (r.0 ≡ h264_read_as h (length payload) (length gather)) × ((r.1.0 ≡ h.gather) × (r.1.1 ≡ h.out)))
 h264_depacketize_only k payload gather out =
-    let h : Heard = depacketized_heard k payload (depacketizedBy k.is_avc k.gathered payload gather out) in
+    let h : Heard = depacketized_heard k payload (depacketized_by k.is_avc k.gathered payload gather out) in
     by_three (h264_read_as h (length payload) (length gather)) h.gather h.out
 
 pub h264_partition_head_only : (s : List ℕ) → Determined (λ (r : RtpTest). r ≡ test_as (head_test s))

@@ -4,13 +4,13 @@ ghost use Rattle.header.specs.Read.{read_header};
 ghost use Rattle.header.specs.Size.{size_asked, length_asked};
 ghost use Rattle.header.specs.Write.{write_header};
 ghost use Rattle.header.specs.Extension.{get_extension, get_extension_ids};
-ghost use Rattle.header.specs.Said.{written, ids_heard, reading_heard as headerHeard};
-ghost use Rattle.header.specs.Parts.{together, bare, heard_front as heardHeader, front_heard as headerFront, lent_read as headerLent};
+ghost use Rattle.header.specs.Said.{written, ids_heard, reading_heard as header_heard};
+ghost use Rattle.header.specs.Parts.{together, bare, heard_front as heard_header, front_heard as header_front, lent_read as header_lent};
 ghost use Rattle.header_write.specs.Said.{said_length};
 ghost use Rattle.packet.specs.Read.{read_packet};
 ghost use Rattle.packet.specs.Write.{packet_size_asked, write_packet};
-ghost use Rattle.packet.specs.Said.{reading_heard as packetHeard};
-ghost use Rattle.packet.specs.Fronts.{heard_front as heardPacket, front_heard as packetFront, lent_read as packetLent};
+ghost use Rattle.packet.specs.Said.{reading_heard as packet_heard};
+ghost use Rattle.packet.specs.Fronts.{heard_front as heard_packet, front_heard as packet_front, lent_read as packet_lent};
 ghost use Rattle.gateway.specs.HeaderAnswers.{element_as, ids_as};
 ghost use Rattle.gateway.specs.PartsAnswers.{bytes_as, header_front_as, packet_front_as};
 
@@ -67,7 +67,7 @@ fn counted(answer: Length) -> RtpBytes
 }
 
 fn header_front(answer: header::FrontRead) -> RtpHeaderFront
-    ensures { result ≡ header_front_as (heardHeader answer) }
+    ensures { result ≡ header_front_as (heard_header answer) }
 {
     let read = answer.read;
     let front = answer.front;
@@ -86,7 +86,7 @@ fn header_front(answer: header::FrontRead) -> RtpHeaderFront
 }
 
 fn packet_front(answer: packet::FrontRead) -> RtpPacketFront
-    ensures { result ≡ packet_front_as (heardPacket answer) }
+    ensures { result ≡ packet_front_as (heard_packet answer) }
 {
     let read = answer.read;
     let front = answer.front;
@@ -285,7 +285,7 @@ pub extern "C" fn rtp_packet_marshal_size_parts<'a>(
 // Reads a header without its arrays.
 #[unsafe(no_mangle)]
 pub extern "C" fn rtp_header_unmarshal_front(packet: &[u8]) -> RtpHeaderFront
-    ensures { result ≡ header_front_as (headerFront (headerHeard (read_header packet.now))) }
+    ensures { result ≡ header_front_as (header_front (header_heard (read_header packet.now))) }
 {
     header_front(header::unmarshal_front(packet))
 }
@@ -299,9 +299,9 @@ pub extern "C" fn rtp_header_unmarshal_parts(
     lens: &mut [u16; 32],
     bytes: &mut [u8; 1024],
 ) -> RtpHeaderFront
-    ensures value { result ≡ header_front_as (headerFront (headerHeard (read_header packet.now))) }
+    ensures value { result ≡ header_front_as (header_front (header_heard (read_header packet.now))) }
     ensures bytes_after { record { csrc = csrc.new; ids = ids.new; lens = lens.new; bytes = bytes.new }
-        ≡ headerLent (record { csrc = csrc.old; ids = ids.old; lens = lens.old; bytes = bytes.old }) (read_header packet.now) }
+        ≡ header_lent (record { csrc = csrc.old; ids = ids.old; lens = lens.old; bytes = bytes.old }) (read_header packet.now) }
 {
     header_front(header::unmarshal_parts(packet, csrc, ids, lens, bytes))
 }
@@ -309,7 +309,7 @@ pub extern "C" fn rtp_header_unmarshal_parts(
 // Reads a packet without its header's arrays.
 #[unsafe(no_mangle)]
 pub extern "C" fn rtp_packet_unmarshal_front(packet: &[u8]) -> RtpPacketFront
-    ensures { result ≡ packet_front_as (packetFront (packetHeard (read_packet packet.now))) }
+    ensures { result ≡ packet_front_as (packet_front (packet_heard (read_packet packet.now))) }
 {
     packet_front(packet::unmarshal_front(packet))
 }
@@ -323,9 +323,9 @@ pub extern "C" fn rtp_packet_unmarshal_parts(
     lens: &mut [u16; 32],
     bytes: &mut [u8; 1024],
 ) -> RtpPacketFront
-    ensures value { result ≡ packet_front_as (packetFront (packetHeard (read_packet packet.now))) }
+    ensures value { result ≡ packet_front_as (packet_front (packet_heard (read_packet packet.now))) }
     ensures bytes_after { record { csrc = csrc.new; ids = ids.new; lens = lens.new; bytes = bytes.new }
-        ≡ packetLent (record { csrc = csrc.old; ids = ids.old; lens = lens.old; bytes = bytes.old }) (read_packet packet.now) }
+        ≡ packet_lent (record { csrc = csrc.old; ids = ids.old; lens = lens.old; bytes = bytes.old }) (read_packet packet.now) }
 {
     packet_front(packet::unmarshal_parts(packet, csrc, ids, lens, bytes))
 }
