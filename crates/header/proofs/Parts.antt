@@ -1,15 +1,24 @@
--- A record and its parts are one: put together again they are the record, and where it has no CSRCs and no elements its arrays are not
--- looked at. Assumes nothing.
+-- A record and its parts are one: put together again they are the record, measured by its parts it is measured, and where it has no CSRCs
+-- and no elements its arrays are not looked at. Assumes nothing.
 use mathlib.Core.Path.{◌≡◌, refl, ap, ap₂, ◌∙◌}
 use mathlib.Core.Bool.{false}
-use mathlib.Core.List.{[]}
+use mathlib.Core.List.{List, []}
 use Prim.Native.Nat.{ℕ, ◌*◌, ◌≤◌}
 use native.Mathlib.Nat.{zero-mul}
 use native.Mathlib.Omega.{arith}
+use lib.ListN.{length}
+use Rattle.error.specs.declared.Error.{Error}
+use Rattle.error.specs.Said.{refuse}
 use Rattle.wire.proofs.Part.{length_pad_to}
+use Rattle.elements.specs.declared.Extensions.{Extensions}
 use Rattle.elements.specs.Elements.{elements_of, lay_elements}
 use Rattle.block.specs.Form.{form_of, per_element}
 use Rattle.header_write.specs.declared.Fixed.{Fixed}
+use Rattle.header_write.specs.declared.Length.{Length}
+use Rattle.header_write.specs.declared.Length.TheVariants as len
+use Rattle.header_write.specs.Parts as parts
+use Rattle.header_write.specs.Said.{said_length}
+use Rattle.header_write.proofs.Domain.{measured_outside, measured_says, measured_refuses}
 use Rattle.header.specs.declared.Header.{Header}
 use Rattle.header.specs.Fields.{fields_of, in_domain}
 use Rattle.header.specs.Write.{in_writing_domain, write_header}
@@ -83,3 +92,26 @@ module _ (f : Fixed) (profile pads : ℕ) where
   pub bare_outside : (f.version ≤ 3 → f.payload_type ≤ 127 → pads ≤ 262140 → ⊥) → in_writing_domain (bare f profile pads) ≡ false
   unfolding bare together
   bare_outside out = not_fine (bare f profile pads) bare_arrays (λ w. out w.version w.type w.limits.zeros)
+
+-- ---- the record of parts that were measured
+
+pub arrays_of : (f : Fixed) (n : ℕ) (csrc : List ℕ) (profile : ℕ) (x : Extensions) (pads : ℕ) → length csrc ≡ 15 → length x.ids ≡ 32 →
+    length x.lens ≡ 32 → length x.bytes ≡ 1024 → Arrays (together f n csrc profile x pads)
+unfolding together
+arrays_of f n csrc profile x pads c i l b = record { csrc = c; ids = i; lens = l; bytes = b }
+
+module _ (f : Fixed) (n : ℕ) (csrc : List ℕ) (profile : ℕ) (x : Extensions) (pads : ℕ)
+    (a : Arrays (together f n csrc profile x pads)) (r : Length)
+    (e : said_length r ≡ parts.measured f n profile x.count x.ids x.lens pads) where
+  pub known_of : (k : ℕ) → r ≡ len.Bytes k → Measured (together f n csrc profile x pads) k
+  unfolding together
+  known_of k p =
+      let s = measured_says f n profile x.count x.ids x.lens pads r e k p in
+      measured (together f n csrc profile x pads) a k s.0 s.1
+
+  -- .. or 8
+  pub unknown_of : (k : Error) → r ≡ len.Refused k → (said_length r ≡ refuse 8) × (in_writing_domain (together f n csrc profile x pads) ≡ false)
+  unfolding together
+  unknown_of k p =
+      let out = measured_refuses f n profile x.count x.ids x.lens pads r e k p in
+      (e ∙ measured_outside f n profile x.count x.ids x.lens pads out, not_fine (together f n csrc profile x pads) a out)

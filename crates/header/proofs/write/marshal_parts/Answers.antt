@@ -4,65 +4,35 @@ use mathlib.Core.List.{List}
 use Prim.Native.Nat.{ℕ, ◌≤◌}
 use native.Mathlib.Omega.{arith}
 use lib.ListN.{length}
-use Rattle.error.specs.declared.Error.{Error}
 use Rattle.error.specs.Said.{Said}
 use Rattle.elements.specs.declared.Extensions.{Extensions}
 use Rattle.header_write.specs.declared.Fixed.{Fixed}
-use Rattle.header_write.specs.declared.Length.{Length}
-use Rattle.header_write.specs.declared.Length.TheVariants as len
-use Rattle.header_write.specs.Parts.{measured}
-use Rattle.header_write.specs.Said.{said_length}
 use Rattle.header_write.specs.Size.{size_for}
-use Rattle.header_write.proofs.Domain.{measured_outside, measured_says, measured_refuses}
 use Rattle.header.specs.declared.Header.{Header}
 use Rattle.header.specs.Fields.{fields_of}
-use Rattle.header.specs.Write.{write_header}
 use Rattle.header.specs.Size.{header_size}
-use Rattle.header.specs.Said.{heard_written, written}
+use Rattle.header.specs.Said.{written}
 use Rattle.header.specs.Parts.{together}
-use Rattle.header.proofs.Sizes.{Arrays}
-use Rattle.header.proofs.Writing.{Measured, not_fine, few, sized, octets_room, all_writable_lem, short_written, judge_written, put_written, write_outside}
-use Rattle.header.proofs.Writing as w
+use Rattle.header.proofs.Writing.{Measured, few, sized, octets_room, all_writable_lem, short_written, judge_written, put_written, write_outside}
+use Rattle.header.proofs.Parts.{arrays_of, known_of, unknown_of}
 use Rattle.header.proofs.write.marshal_parts.Goals as goal
 
-module _ (f : Fixed) (n : ℕ) (csrc : List ℕ) (profile : ℕ) (x : Extensions) (pads : ℕ)
-    (a : Arrays (together f n csrc profile x pads)) (r : Length)
-    (e : said_length r ≡ measured f n profile x.count x.ids x.lens pads) where
-  -- ---- 8
-  outside : (k : Error) → r ≡ len.Refused k → (buf : List ℕ) →
-      heard_written r buf ≡ written buf (write_header (together f n csrc profile x pads) (length buf))
-  unfolding together
-  outside k p buf =
-      let out = measured_refuses f n profile x.count x.ids x.lens pads r e k p in
-      ap (λ (s : Said ℕ). record { answer = s; buffer = buf })
-      (e ∙ measured_outside f n profile x.count x.ids x.lens pads out)
-      ∙ sym (ap (written buf) (write_outside (together f n csrc profile x pads) (length buf) (not_fine (together f n csrc profile x pads) a out)))
-
-  known : (k : ℕ) → r ≡ len.Bytes k → Measured (together f n csrc profile x pads) k
-  unfolding together
-  known k p =
-      let s = measured_says f n profile x.count x.ids x.lens pads r e k p in
-      w.measured (together f n csrc profile x pads) a k s.0 s.1
-
-  -- room for the size
-  roomy : (k : ℕ) (p : r ≡ len.Bytes k) (size room : ℕ) → size ≡ size_for n f.extension k pads → size ≤ room →
-      header_size (fields_of (together f n csrc profile x pads)) ≤ room
-  unfolding together
-  roomy k p size room s h = omega (arith, sized (together f n csrc profile x pads) k (known k p))
-
--- the arrays are as long as their types say
-arrays : (f : Fixed) (n : ℕ) (csrc : List ℕ) (profile : ℕ) (x : Extensions) (pads : ℕ) → length csrc ≡ 15 → length x.ids ≡ 32 →
-    length x.lens ≡ 32 → length x.bytes ≡ 1024 → Arrays (together f n csrc profile x pads)
+-- room for the size
+roomy : (f : Fixed) (n : ℕ) (csrc : List ℕ) (profile : ℕ) (x : Extensions) (pads k : ℕ) → Measured (together f n csrc profile x pads) k →
+    (size room : ℕ) → size ≡ size_for n f.extension k pads → size ≤ room → header_size (fields_of (together f n csrc profile x pads)) ≤ room
 unfolding together
-arrays f n csrc profile x pads c i l b = record { csrc = c; ids = i; lens = l; bytes = b }
+roomy f n csrc profile x pads k m size room s h = omega (arith, sized (together f n csrc profile x pads) k m)
 
+-- ---- 8
 pub returns-in_default : goal.returns-in_default
 returns-in_default c =
     let a = c.args in
     let x : Extensions = record { count = a.count; ids = a.ids.now; lens = a.lens.now; bytes = a.bytes.now } in
-    let lengths = arrays a.fixed a.csrc_count a.csrc.now a.profile x a.padding c.told-csrc c.told-ids c.told-lens c.told-bytes in
-    outside a.fixed a.csrc_count a.csrc.now a.profile x a.padding lengths c.measure-measured.result c.measure-measured.ensures
-    _ c.in_default.is a.buf.now
+    let lengths = arrays_of a.fixed a.csrc_count a.csrc.now a.profile x a.padding c.told-csrc c.told-ids c.told-lens c.told-bytes in
+    let out = unknown_of a.fixed a.csrc_count a.csrc.now a.profile x a.padding lengths c.measure-measured.result c.measure-measured.ensures
+    _ c.in_default.is in
+    ap (λ (s : Said ℕ). record { answer = s; buffer = a.buf.now }) out.0
+    ∙ sym (ap (written a.buf.now) (write_outside _ (length a.buf.now) out.1))
 
 -- ---- 5
 pub size_of-requires : goal.size_of-requires
@@ -71,8 +41,8 @@ size_of-requires c =
     let a = c.args in
     let x : Extensions = record { count = a.count; ids = a.ids.now; lens = a.lens.now; bytes = a.bytes.now } in
     let h : Header = together a.fixed a.csrc_count a.csrc.now a.profile x a.padding in
-    let lengths = arrays a.fixed a.csrc_count a.csrc.now a.profile x a.padding c.told-csrc c.told-ids c.told-lens c.told-bytes in
-    let m = known a.fixed a.csrc_count a.csrc.now a.profile x a.padding lengths c.measure-measured.result c.measure-measured.ensures
+    let lengths = arrays_of a.fixed a.csrc_count a.csrc.now a.profile x a.padding c.told-csrc c.told-ids c.told-lens c.told-bytes in
+    let m = known_of a.fixed a.csrc_count a.csrc.now a.profile x a.padding lengths c.measure-measured.result c.measure-measured.ensures
     _ c.in-Bytes.is in
     record {
       csrc_count_bound = m.can.limits.sources;
@@ -86,8 +56,8 @@ returns-then-buf-size_of c =
     let a = c.args in
     let x : Extensions = record { count = a.count; ids = a.ids.now; lens = a.lens.now; bytes = a.bytes.now } in
     let h : Header = together a.fixed a.csrc_count a.csrc.now a.profile x a.padding in
-    let lengths = arrays a.fixed a.csrc_count a.csrc.now a.profile x a.padding c.told-csrc c.told-ids c.told-lens c.told-bytes in
-    let m = known a.fixed a.csrc_count a.csrc.now a.profile x a.padding lengths c.measure-measured.result c.measure-measured.ensures
+    let lengths = arrays_of a.fixed a.csrc_count a.csrc.now a.profile x a.padding c.told-csrc c.told-ids c.told-lens c.told-bytes in
+    let m = known_of a.fixed a.csrc_count a.csrc.now a.profile x a.padding lengths c.measure-measured.result c.measure-measured.ensures
     _ c.in-Bytes.is in
     short_written h _ m a.buf.now (omega (arith, c.size_of.ensures, c.if-buf-size_of.true))
 
@@ -98,11 +68,11 @@ returns-in_default-judged c =
     let a = c.args in
     let x : Extensions = record { count = a.count; ids = a.ids.now; lens = a.lens.now; bytes = a.bytes.now } in
     let h : Header = together a.fixed a.csrc_count a.csrc.now a.profile x a.padding in
-    let lengths = arrays a.fixed a.csrc_count a.csrc.now a.profile x a.padding c.told-csrc c.told-ids c.told-lens c.told-bytes in
-    let m = known a.fixed a.csrc_count a.csrc.now a.profile x a.padding lengths c.measure-measured.result c.measure-measured.ensures
+    let lengths = arrays_of a.fixed a.csrc_count a.csrc.now a.profile x a.padding c.told-csrc c.told-ids c.told-lens c.told-bytes in
+    let m = known_of a.fixed a.csrc_count a.csrc.now a.profile x a.padding lengths c.measure-measured.result c.measure-measured.ensures
     _ c.in-Bytes.is in
-    let fits = roomy a.fixed a.csrc_count a.csrc.now a.profile x a.padding lengths c.measure-measured.result c.measure-measured.ensures
-    _ c.in-Bytes.is c.size_of.result (length a.buf.now) c.size_of.ensures c.if-buf-size_of.false in
+    let fits = roomy a.fixed a.csrc_count a.csrc.now a.profile x a.padding _ m c.size_of.result (length a.buf.now) c.size_of.ensures
+    c.if-buf-size_of.false in
     judge_written h _ m a.buf.now fits c.judge-judged.result c.judge-judged.ensures _ c.in_default-judged.is
 
 -- ---- the octets
@@ -112,11 +82,11 @@ put_header-requires c =
     let a = c.args in
     let x : Extensions = record { count = a.count; ids = a.ids.now; lens = a.lens.now; bytes = a.bytes.now } in
     let h : Header = together a.fixed a.csrc_count a.csrc.now a.profile x a.padding in
-    let lengths = arrays a.fixed a.csrc_count a.csrc.now a.profile x a.padding c.told-csrc c.told-ids c.told-lens c.told-bytes in
-    let m = known a.fixed a.csrc_count a.csrc.now a.profile x a.padding lengths c.measure-measured.result c.measure-measured.ensures
+    let lengths = arrays_of a.fixed a.csrc_count a.csrc.now a.profile x a.padding c.told-csrc c.told-ids c.told-lens c.told-bytes in
+    let m = known_of a.fixed a.csrc_count a.csrc.now a.profile x a.padding lengths c.measure-measured.result c.measure-measured.ensures
     _ c.in-Bytes.is in
-    let fits = roomy a.fixed a.csrc_count a.csrc.now a.profile x a.padding lengths c.measure-measured.result c.measure-measured.ensures
-    _ c.in-Bytes.is c.size_of.result (length a.buf.now) c.size_of.ensures c.if-buf-size_of.false in
+    let fits = roomy a.fixed a.csrc_count a.csrc.now a.profile x a.padding _ m c.size_of.result (length a.buf.now) c.size_of.ensures
+    c.if-buf-size_of.false in
     record {
       version_bound = (m.can.version, m.can.type);
       csrc_count_bound = (m.can.limits.sources, m.can.sources);
@@ -132,9 +102,9 @@ returns c =
     let a = c.args in
     let x : Extensions = record { count = a.count; ids = a.ids.now; lens = a.lens.now; bytes = a.bytes.now } in
     let h : Header = together a.fixed a.csrc_count a.csrc.now a.profile x a.padding in
-    let lengths = arrays a.fixed a.csrc_count a.csrc.now a.profile x a.padding c.told-csrc c.told-ids c.told-lens c.told-bytes in
-    let m = known a.fixed a.csrc_count a.csrc.now a.profile x a.padding lengths c.measure-measured.result c.measure-measured.ensures
+    let lengths = arrays_of a.fixed a.csrc_count a.csrc.now a.profile x a.padding c.told-csrc c.told-ids c.told-lens c.told-bytes in
+    let m = known_of a.fixed a.csrc_count a.csrc.now a.profile x a.padding lengths c.measure-measured.result c.measure-measured.ensures
     _ c.in-Bytes.is in
-    let fits = roomy a.fixed a.csrc_count a.csrc.now a.profile x a.padding lengths c.measure-measured.result c.measure-measured.ensures
-    _ c.in-Bytes.is c.size_of.result (length a.buf.now) c.size_of.ensures c.if-buf-size_of.false in
+    let fits = roomy a.fixed a.csrc_count a.csrc.now a.profile x a.padding _ m c.size_of.result (length a.buf.now) c.size_of.ensures
+    c.if-buf-size_of.false in
     put_written h _ m a.buf.now fits c.judge-judged.result c.judge-judged.ensures _ c.in-Bytes-judged.is _ _ c.put_header.ensures
