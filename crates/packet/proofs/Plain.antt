@@ -1,25 +1,24 @@
 -- A packet with the plainest header reads back: its header has twelve bytes, and the payload is what follows. Assumes nothing.
-use mathlib.Core.Path.{◌≡◌, refl, sym, ap, ap₂, ◌∙◌}
-use mathlib.Core.Bool.{Bool, true, false, cond}
-use mathlib.Core.List.{List, [], ◌∷◌, ◌++◌, append-nil}
-use Prim.Native.Nat.{ℕ, suc, ◌+◌, ◌-◌, ◌*◌, ◌/◌, ◌%◌, ◌≤◌, ◌<◌}
+use mathlib.Core.Path.{◌≡◌, ap, ap₂, ◌∙◌}
+use mathlib.Core.Bool.{Bool, true, false}
+use mathlib.Core.List.{List, [], ◌++◌, append-nil}
+use Prim.Native.Nat.{ℕ, ◌+◌, ◌-◌, ◌*◌, ◌/◌, ◌%◌, ◌≤◌, ◌<◌}
 use native.Mathlib.Omega.{arith}
-use lib.Dec.{eqb}
-use lib.ListN.{length, take, drop, get_or}
+use lib.ListN.{length}
 use lib.Seq.{take_all}
 use borrow.Author.Tests.{eq-eqb, ne_eqb, le-leb, le-ltb}
-use Rattle.error.specs.Said.{Said, says}
+use Rattle.error.specs.Said.{says}
 use Rattle.wire.specs.Net.{u16_at, u32_at, be16, be32, bit}
 use Rattle.wire.specs.Part.{part}
 use Rattle.elements.specs.Elements.{elements_of, lay_elements}
 use Rattle.block_read.specs.Read.{block_at}
 use Rattle.header.specs.Fields.{Fields, fields_of, lay_out, in_domain}
-use Rattle.header.specs.Read.{Reading, fields_at, read_header}
+use Rattle.header.specs.Read.{fields_at, read_header}
 use Rattle.header.specs.Size.{header_size}
 use Rattle.header_write.specs.Fixed.{flag, fixed_for}
 use Rattle.header.specs.Write.{octets_of, in_writing_domain}
 use Rattle.header.proofs.Reading.{header_plain}
-use Rattle.packet.specs.Read.{Payload, PacketReading, behind, read_packet}
+use Rattle.packet.specs.Read.{behind, read_packet}
 use Rattle.packet.specs.Write.{payload_octets, packet_octets, packet_size, write_packet}
 use Rattle.packet.specs.Plain.{Stamp, Stampable, plain_fields, plain_packet}
 

@@ -23,7 +23,7 @@ use Rattle.header_write.specs.Size.{size_for}
 use Rattle.header_write.specs.Said.{said_length}
 use Rattle.header.specs.Said.{heard_written, written}
 use Rattle.header.proofs.Octets.{octets_fit}
-use Rattle.header.proofs.Writing.{block_asked, write_asked, block_asked_says, Measured, octets_by, sized, octets_by_lem, judge_refuses, judge_says}
+use Rattle.header.proofs.Writing.{block_asked, write_asked, block_asked_says, Measured, octets_by, sized, size_few, octets_by_lem, judge_refuses, judge_says}
 use Rattle.packet.specs.Write.{padding_length, padding_octets, payload_octets, packet_octets, packet_size, short_enough, packet_size_asked, write_packet}
 
 -- ---- the padding
@@ -156,6 +156,19 @@ module _ (h : Header) (n : ℕ) (m : Measured h n) (payload buf : List ℕ) (q :
           room = omega (arith, put.next);
           reach = omega (arith, put.next);
         }
+
+  -- the packet's size as it is counted, of the header's and the padding's
+  module _ (size pads : ℕ) (s : size ≡ size_for h.csrc_count h.extension n h.extensions_padding)
+      (p : pads ≡ padding_length h.padding (length payload)) where
+    pub size_counted : packet_size (fields_of h) payload ≡ size + length payload + pads
+    size_counted = omega (arith, size_measured, s, p)
+
+    pub size_small : size ≤ 263308
+    size_small = omega (arith, s, size_few h n m)
+
+    -- the header's octets reach no further than its size
+    pub reached : (exit : List ℕ) (at : ℕ) → Behind h payload buf exit at → at ≤ size
+    reached exit at b = omega (arith, b.reach, size_counted, p)
 
 -- the rest of the buffer, lent on from `at`, has room
 pub rest_room : (l : List ℕ) (at n : ℕ) → at + n ≤ length l → n ≤ length (take (length l - at) (drop at l))

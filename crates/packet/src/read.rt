@@ -85,8 +85,8 @@ fn unmarshal_padded(
     bytes: &mut [u8; 1024],
 ) -> FrontRead
     ensures result_value { heard_front result ≡ front_heard (reading_heard (read_packet packet.now)) }
-    ensures bytes_after { record { csrc = csrc.exit.now; ids = ids.new; lens = lens.new; bytes = bytes.new }
-        ≡ lent_read (record { csrc = csrc.entry.now; ids = ids.old; lens = lens.old; bytes = bytes.old }) (read_packet packet.now) }
+    ensures bytes_after { record { csrc = csrc.new; ids = ids.new; lens = lens.new; bytes = bytes.new }
+        ≡ lent_read (record { csrc = csrc.old; ids = ids.old; lens = lens.old; bytes = bytes.old }) (read_packet packet.now) }
 {
     let seen = unmarshal_front(packet);
     let read = seen.read;
@@ -106,8 +106,8 @@ pub fn unmarshal_parts(
     bytes: &mut [u8; 1024],
 ) -> FrontRead
     ensures result_value { heard_front result ≡ front_heard (reading_heard (read_packet packet.now)) }
-    ensures bytes_after { record { csrc = csrc.exit.now; ids = ids.new; lens = lens.new; bytes = bytes.new }
-        ≡ lent_read (record { csrc = csrc.entry.now; ids = ids.old; lens = lens.old; bytes = bytes.old }) (read_packet packet.now) }
+    ensures bytes_after { record { csrc = csrc.new; ids = ids.new; lens = lens.new; bytes = bytes.new }
+        ≡ lent_read (record { csrc = csrc.old; ids = ids.old; lens = lens.old; bytes = bytes.old }) (read_packet packet.now) }
 {
     if is_padded(packet) {
         return unmarshal_padded(packet, csrc, ids, lens, bytes);
