@@ -52,7 +52,7 @@ known profile =
       | no a ↦ elim (ℕ_discrete profile 0x1000) [ yes e ↦ is_two_byte e | no b ↦ is_other (form_other a b) a b ]
     ]
 
--- an element of the one_byte form that is taken: its head is any octet but 0 and those of id 15
+-- an element of the one-byte form that is taken: its head is any octet but 0 and those of id 15
 pub record OneTaken (id n : ℕ) : Type 0 where
   pub id_fits : id ≤ 14
   pub enough : 1 ≤ n

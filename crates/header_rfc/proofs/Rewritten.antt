@@ -149,7 +149,7 @@ fifteen_cuts f w on p es fs bytes at k most payload fits =
 
 -- ---- id 0, written
 
--- in the one_byte form an element of id 0 with one byte is written as the octets of padding and that byte ..
+-- in the one-byte form an element of id 0 with one byte is written as the octets of padding and that byte ..
 pub zero_octets : (b : ℕ) → blocks.element_octets forms.one_byte (record { id = 0; bytes = b ∷ [] }) ≡ item_octets one_byte padding ++ (b ∷ [])
 zero_octets b = refl
 
@@ -172,7 +172,7 @@ module _ (h : Header) (t : AsTyped h) (d : in_writing_domain h ≡ true) where
       (bytes ++ (blocks.block_octets forms.one_byte fs ++ replicate (zeros_for forms.one_byte f.elements) 0) ++ payload)
   fifteen_written on p es fs bytes at k most payload fits = fifteen_cuts f (only_in_range h t d) on p es fs bytes at k most payload fits
 
-  -- in the one_byte form elements of id 0 with 2 to 16 bytes are written and read back as such
+  -- in the one-byte form elements of id 0 with 2 to 16 bytes are written and read back as such
   pub zero_reads_back : f.extension ≡ true → f.profile ≡ 0xBEDE → AllTaken one_byte (items_for f.elements) →
       (payload : List ℕ) → Fits (octets_of f ++ payload) →
       read_header (octets_of f ++ payload) ≡ says (record { fields = read_back f; place = length (octets_of f) })

@@ -102,7 +102,7 @@ module _ (h : Header) (room : ℕ) (fits : header_size (fields_of h) ≤ room) w
   unfolding fields_of
   ways_written d s = write_asked h room d fits ∙ not_judged (fields_of h) (octets_of (fields_of h)) s
 
-  -- in the one_byte and the two-byte profile everything in the writing domain is written, ids 0 and 15 too
+  -- in the one-byte and the two-byte profile everything in the writing domain is written, ids 0 and 15 too
   pub form_written : in_writing_domain h ≡ true → (form_of h.extension_profile ≡ forms.other → ⊥) → write_header h room ≡ says (octets_of (fields_of h))
   form_written d g =
       write_asked h room d fits

@@ -103,7 +103,7 @@ taken_at : (form : Form) (es : List Element) (e : Element) (fs : List Element) �
 taken_at form [] e fs t = t.0
 taken_at form (d ∷ es) e fs t = taken_at form es e fs t.1
 
--- in the one_byte profile: ids up to 14, 1 to 16 bytes, and not the octet 0
+-- in the one-byte profile: ids up to 14, 1 to 16 bytes, and not the octet 0
 pub one_byte_taken : (s : List ℕ) → Octets s → (r : Reading) → read_header s ≡ says r → r.fields.profile ≡ 0xBEDE →
     (es : List Element) (e : Element) (fs : List Element) → r.fields.elements ≡ es ++ (e ∷ fs) → OneTaken e.id (length e.bytes)
 one_byte_taken s o r q p es e fs at = go (as_yielded s o r q).way
@@ -127,7 +127,7 @@ two_byte_taken s o r q p es e fs at = go (as_yielded s o r q).way
         (taken_at (two_byte appbits) es e fs (subst (TakenElements (two_byte appbits)) at y)).not_padding
     go (whole u on g w m a b) = absurd (b p)
 
--- RFC 8285 4.2: the one_byte form's ids 15, and 0 with one byte, are written and never read
+-- RFC 8285 4.2: the one-byte form's ids 15, and 0 with one byte, are written and never read
 pub fifteen_never : (f : Fields) → f.profile ≡ 0xBEDE → (es : List Element) (e : Element) (fs : List Element) → f.elements ≡ es ++ (e ∷ fs) →
     e.id ≡ 15 → IsRead f → ⊥
 fifteen_never f p es e fs at h i =

@@ -60,8 +60,8 @@ pub record Kept (highest least most : ℕ) (e : Element) : Type 0 where
 abbrev pub AllKept : ℕ → ℕ → ℕ → List Element → Type 0
 AllKept highest least most es = Each (Kept highest least most) es
 
--- "ids 1..14 (one_byte), 1..255 (two-byte), or one id-0 element of whole words", with the lengths of a record to be written: "in the
--- one_byte profile .. lengths 1 to 16, in the two-byte profile lengths 0 to 255"
+-- "ids 1..14 (one-byte), 1..255 (two-byte), or one id-0 element of whole words", with the lengths of a record to be written: "in the
+-- one-byte profile .. lengths 1 to 16, in the two-byte profile lengths 0 to 255"
 abbrev pub KeptIn : Form → List Element → Type 0
 KeptIn one_byte es = AllKept 14 1 16 es
 KeptIn two_byte es = AllKept 255 0 255 es

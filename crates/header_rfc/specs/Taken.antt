@@ -13,7 +13,7 @@ use Rattle.header_rfc.specs.Says.{elements_among, pads_among, whole_element, rea
 
 -- ---- items that are taken
 
--- RFC 8285 4.1.2, one_byte form: an id 0 with a length field above 0. The RFC ends the elements there; the reader takes an element of 2 to 16 bytes
+-- RFC 8285 4.1.2, one-byte form: an id 0 with a length field above 0. The RFC ends the elements there; the reader takes an element of 2 to 16 bytes
 pub record ZeroId (id n : ℕ) : Type 0 where
   pub is_zero : id ≡ 0
   pub enough : 2 ≤ n
@@ -38,7 +38,7 @@ AllTaken form is = Each (TakenItem form) is
 pub data Ending : Type 0 where
   -- it ends
   ends : Ending
-  -- RFC 8285 4.2, one_byte form: the reserved id 15, whatever its length field; `rest` is what the block has behind it
+  -- RFC 8285 4.2, one-byte form: the reserved id 15, whatever its length field; `rest` is what the block has behind it
   fifteen : (len : ℕ) (rest : List ℕ) → Ending
   -- an element of which the block holds `part` of the data alone; the payload begins with `more`, the others
   leaving : (id : ℕ) (part more : List ℕ) → Ending

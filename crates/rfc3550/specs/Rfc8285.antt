@@ -1,4 +1,4 @@
--- RFC 8285: the elements of a header extension, one_byte form (section 4.2) and two-byte form (section 4.3). An extension's content is a
+-- RFC 8285: the elements of a header extension, one-byte form (section 4.2) and two-byte form (section 4.3). An extension's content is a
 -- list of items, each an element or an octet of padding, so that padding may stand anywhere between them (section 4.1.2); its octets are a
 -- function of that list. Assumes nothing.
 use Rattle.std.specs.Prelude.{◌≡◌, List, [], ◌∷◌, ◌++◌, ◌≢◌, ℕ, ◌+◌, ◌-◌, ◌*◌, ◌/◌, ◌<◌, ◌≤◌, length}
@@ -37,12 +37,12 @@ pub data Item : Type 0 where
   padding : Item
   element : (id : ℕ) (bytes : List ℕ) → Item
 
--- local identifiers are 1 to 14 in the one_byte form and 1 to 255 in the two-byte form
+-- local identifiers are 1 to 14 in the one-byte form and 1 to 255 in the two-byte form
 abbrev pub highest_id : Form → ℕ
 highest_id one_byte = 14
 highest_id (two_byte appbits) = 255
 
--- 1 to 16 bytes of data in the one_byte form, 0 to 255 in the two-byte form
+-- 1 to 16 bytes of data in the one-byte form, 0 to 255 in the two-byte form
 abbrev pub least_data : Form → ℕ
 least_data one_byte = 1
 least_data (two_byte appbits) = 0
@@ -150,9 +150,9 @@ octets p = rtp.octets (plan_of p)
 
 -- what stands at the first octet that begins no lawful item, with the rest of the block
 pub data Stray : Type 0 where
-  -- section 4.2, one_byte form: the reserved id 15, whatever its length field
+  -- section 4.2, one-byte form: the reserved id 15, whatever its length field
   reserved : (len : ℕ) (rest : List ℕ) → Stray
-  -- section 4.1.2, one_byte form: id 0 with a length field above 0 (in the two-byte form an octet 0 in an id's place is padding)
+  -- section 4.1.2, one-byte form: id 0 with a length field above 0 (in the two-byte form an octet 0 in an id's place is padding)
   zero_id : (len : ℕ) (rest : List ℕ) → Stray
   -- an element of n bytes of which the block holds only `part`
   leaves : (id n : ℕ) (part : List ℕ) → Stray
