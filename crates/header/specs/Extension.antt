@@ -42,7 +42,7 @@ limited es h = cond (leb (length es) 32 && leb (length (data_of es)) 1024) (says
 abbrev pub change : Header → ℕ → List Element → ℕ → Said Header
 change h profile es pads = limited es (changed h profile es pads)
 
--- "11, 12: set, one_byte: id not 1..14; size over 16", "13, 14: set, two-byte: id 0; size over 255", "10: other profile: set with
+-- "11, 12: set, one-byte: id not 1..14; size over 16", "13, 14: set, two-byte: id 0; size over 255", "10: other profile: set with
 -- id not 0"
 abbrev pub id_refusal : Form → ℕ → ℕ → Said Header → Said Header
 id_refusal one_byte id len next = cond (leb 1 id && leb id 14) (cond (leb len 16) next (refuse 12)) (refuse 11)
