@@ -22,7 +22,7 @@ use Rattle.header.specs.Write as written
 use Rattle.rfc3550.specs.Rfc3550.{Fixed, LawfulFixed, one_if, LawfulExtension}
 use Rattle.rfc3550.specs.Rfc3550 as rtp
 use Rattle.rfc3550.proofs.Places.{plain_octets}
-use Rattle.rfc3550.specs.Rfc8285.{Form, one_byte, two_byte, profile_of, Item, padding, block_octets, extension_with}
+use Rattle.rfc3550.specs.Rfc8285.{Form, one_byte, two_byte, profile_of, Item, block_octets, extension_with}
 use Rattle.header_rfc.specs.Says.{elements_among, pads_among, Within, PlainForm}
 use Rattle.header_rfc.specs.RoundTrip.{InRange, items_with}
 use Rattle.header_rfc.proofs.Fixed.{extended}

@@ -1,21 +1,20 @@
 -- What `AsTyped` says is what the types of a record make sure of: the prover knows it of any record that a function is handed.
 use mathlib.Core.Path.{refl}
 use mathlib.Core.List.{List, [], ◌∷◌}
-use Prim.Native.Nat.{ℕ, zero, suc, ◌<◌}
+use Prim.Native.Nat.{ℕ, suc, ◌<◌}
 use borrow.Author.Rules.{rules}
 use native.Mathlib.Omega.{arith}
 use lib.ListN.{get_or}
 use mir.Val.{Fits}
 use mir.Syntax.{w32}
 use Rattle.rfc3550.specs.Rfc3550.{AllBelow}
-use Rattle.header_rfc.proofs.typed.Statement.{statement}
-use Rattle.header_rfc.proofs.typed.Tie as tie
+use Rattle.header_rfc.proofs.typed.Goals as goal
 
 each_below : (n : ℕ) (xs : List ℕ) → ((i : ℕ) → get_or xs i 0 < n) → AllBelow n xs
 each_below n [] h = tt
 each_below n (x ∷ xs) h = (h 0, each_below n xs (λ i. h (suc i)))
 
-returns : tie.Need-returns
+pub returns : goal.returns
 returns c =
     let word : (i : ℕ) → Fits w32 (get_or c.args.h.csrc i 0) = λ i. search rules in (
       refl,
@@ -31,6 +30,3 @@ returns c =
         bytes = search rules;
       },
     )
-
-pub typed_spec : {M : Type 1} → statement M
-typed_spec = tie.close (tie.spec returns)
