@@ -124,8 +124,7 @@ arrived-requires c =
     let p = c.in-Packet in
     let a : Arrived = arrived p.source p.number p.time p.at p.len in
     let told : arrival_of (read_packet bytes) ≡ says a = came bytes _ _ c.arrive-arrival.ensures p.is in
-    let inside = arrived_inside bytes a told in
-    (
+    let inside = arrived_inside bytes a told in (
       subst⁻¹ (λ (k : ℕ). k ≤ 65535) (length_payload bytes a inside) (omega (arith, inside, arrived_short bytes a told)),
       c.if-gather-gathered.false,
       c.if-self.false,
