@@ -31,7 +31,7 @@ use Rattle.sequence.proofs.Joining.{Passes, owed_pass, delivered}
 use Rattle.joiner_step.specs.Run.{Units, Run, none}
 use Rattle.joiner_step.specs.Step.{Accepted, opening, wrong}
 use Rattle.joiner_step.specs.General.{Room, Enough, refusing, codec, heard_from, reader, parts}
-use Rattle.joiner_step.specs.Play.{handed_out, joiner_after}
+use Rattle.joiner_step.specs.Play.{joiner_after}
 use Rattle.wire.proofs.Bools.{or_false_left}
 use Rattle.joiner_step.proofs.Rooms.{Small, small_enough}
 use Rattle.joiner_step.proofs.Playing.{accepted_as, refused_as, handed_as, rooms, Plays, plays}
