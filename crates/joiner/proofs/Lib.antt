@@ -3,3 +3,4 @@ pub mod General
 pub mod Only
 pub mod Records
 pub mod SentGroups
+pub mod Handed
