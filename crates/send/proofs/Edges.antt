@@ -1,7 +1,7 @@
 -- The laws of `look`, and what holds before each turn of the search for an edge: some fuel is enough for what is left, and leads
 -- to the answer. Assumes nothing.
 use Rattle.std.proofs.Common.{◌≡◌, ℕ, ◌+◌, ◌-◌, ◌<◌, ◌≤◌, Bool, true, false, cond, ◌&&◌, ◌||◌, List, length, get_or, sym, refl, ap, ◌∙◌, ap₂, arith, le-ltb, lt-ltb}
-use Rattle.wire.specs.Turns.{Turn, more, done, run}
+use Rattle.wire.specs.Turns.{more, done, run}
 use Rattle.wire.proofs.Turns.{run_more, run_done}
 use Rattle.annexb.specs.declared.Found.TheVariants as found
 use Rattle.annexb.specs.Search.{next_code}

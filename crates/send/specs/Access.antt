@@ -1,6 +1,6 @@
 -- Where the access units of an Annex B stream begin, by H.264, section 7.4.1.2.3; a picture's first slice is told by its first
 -- macroblock. Assumes nothing.
-use Rattle.std.specs.Prelude.{ℕ, ◌+◌, ◌%◌, ◌≤◌, Bool, true, false, cond, ◌&&◌, ◌||◌, List, length, ◌==◌, nat_le, nat_lt, slice_index}
+use Rattle.std.specs.Prelude.{ℕ, ◌+◌, ◌%◌, ◌≤◌, Bool, false, cond, ◌&&◌, ◌||◌, List, length, ◌==◌, nat_le, nat_lt, slice_index}
 use Rattle.wire.specs.Turns.{Turn, more, done, run}
 use Rattle.annexb.specs.declared.Found.{Found}
 use Rattle.annexb.specs.declared.Found.TheVariants as found

@@ -87,7 +87,7 @@ fn account(rt: &HostRuntime, s: Sending) -> u8 {
         .number(b"\npackets ", s.packets)
         .number(b"\nunits dropped for the mtu ", s.units_dropped)
         .number(b"\npairs dropped for the mtu ", s.pairs_dropped)
-        .number(b"\nend ", s.number as u64)
+        .number(b"\nend ", u64::from(s.number))
         .word(b"\n");
     let status = told(&s);
     stream::finish(rt, text, s.to, status)
