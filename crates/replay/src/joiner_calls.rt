@@ -4,7 +4,7 @@ ghost use Rattle.std.specs.Prelude.{◌≡◌, length};
 use crate::{equal, rows};
 use joiner::{Closed, Joined, Joiner, Step, join_by_value};
 
-#[derive(Drop)]
+#[derive(Clone, Copy)]
 pub struct Host {
     pub joiner: Joiner,
     pub gather: [u8; 2048],
