@@ -13,7 +13,7 @@ use h264_packet::{Depacketize, Depacketized, H264Packet, Head, Shown};
 
 // The payloads of a frame.
 #[repr(C)]
-#[derive(Drop)]
+#[derive(Clone, Copy)]
 pub struct RtpH264Sent {
     pub refused: Refused,
     // how many packets were written; 0 beside a refusal

@@ -12,7 +12,7 @@ use error::Error;
 
 // A parameter set that waits to be sent.
 #[repr(C)]
-#[derive(Drop)]
+#[derive(Clone, Copy)]
 pub struct ParameterSet {
     // its bytes, zeros behind them
     pub bytes: [u8; 1024],
@@ -21,7 +21,7 @@ pub struct ParameterSet {
 }
 
 #[repr(C)]
-#[derive(Drop)]
+#[derive(Clone, Copy)]
 pub struct H264Payloader {
     // the sequence parameter set that waits for a picture parameter set or for a unit to be sent before
     pub sps: ParameterSet,
@@ -93,7 +93,7 @@ pub enum Payloads {
 }
 
 // An answer, beside the state after it.
-#[derive(Drop)]
+#[derive(Clone, Copy)]
 pub struct Sent {
     pub sender: H264Payloader,
     pub answer: Payloads,

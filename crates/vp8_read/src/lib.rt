@@ -40,14 +40,14 @@ pub struct Vp8Packet {
     pub key_idx: u8,
 }
 
-#[derive(Drop)]
+#[derive(Clone, Copy)]
 pub enum Vp8Read {
     // where the VP8 payload begins: it is all from there on, and not empty
     Payload(usize),
     Refused(Error),
 }
 
-#[derive(Drop)]
+#[derive(Clone, Copy)]
 pub struct Vp8Depacketized {
     // the fields as they are now
     pub packet: Vp8Packet,
@@ -253,7 +253,7 @@ impl Reader {
     }
 }
 
-#[derive(Drop)]
+#[derive(Clone, Copy)]
 pub enum Vp8PartitionHead {
     Head(bool),
     Refused(Error),

@@ -18,14 +18,14 @@ pub struct Vp8Payloader {
     pub picture_id: u16,
 }
 
-#[derive(Drop)]
+#[derive(Clone, Copy)]
 pub enum Vp8Answer {
     // how many payloads were written, and their bytes in all
     Sent { packets: usize, bytes: usize },
     Refused(Error),
 }
 
-#[derive(Drop)]
+#[derive(Clone, Copy)]
 pub struct Vp8Payloaded {
     // the payloader for the next frame
     pub payloader: Vp8Payloader,
