@@ -8,7 +8,7 @@ use crate::list::{Store, Table, plus};
 use crate::send::Sending;
 use crate::{account, list, show};
 
-#[derive(Drop)]
+#[derive(Clone, Copy)]
 pub struct Groups {
     // how many
     pub count: usize,

@@ -120,7 +120,12 @@ fn give(
                 pairs_dropped: plus(sending.pairs_dropped, pairs),
             }
         }
-        Payloads::Refused(_) => sending,
+        // a refused call leaves the sender as it was
+        Payloads::Refused(_) => Sending {
+            sender,
+            units_dropped: sending.units_dropped,
+            pairs_dropped: sending.pairs_dropped,
+        },
     }
 }
 
