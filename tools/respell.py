@@ -50,7 +50,7 @@ def snake(name):
         return name.replace("-", "_")
     if re.match(r"^[A-Z]", name):
         return name
-    name = re.sub(r"(?<=[a-z0-9'])([A-Z])", lambda m: "_" + m[1].lower(), name)
+    name = re.sub(r"(?<=[a-z0-9'])([A-Z]+)", lambda m: "_" + m[1].lower(), name)
     return name.replace("-", "_")
 
 

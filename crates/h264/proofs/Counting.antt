@@ -12,7 +12,7 @@ use borrow.Author.Tests.{le-leb, lt-leb}
 use Rattle.annexb.specs.Units.{units, units_at}
 use Rattle.h264_put.specs.declared.fate.Fate.{Fate}
 use Rattle.h264_put.specs.declared.fate.Fate.TheVariants.{Empty, Dropped, Sps, Pps, Coded}
-use Rattle.h264_put.specs.declared.outcome.UnitOutcome.TheVariants as of-unit
+use Rattle.h264_put.specs.declared.outcome.UnitOutcome.TheVariants as of_unit
 use Rattle.h264_put.specs.declared.outcome.PairOutcome.{PairOutcome}
 use Rattle.h264_put.specs.declared.outcome.Outcome.{Outcome}
 use Rattle.h264_put.specs.declared.outcome.Drops.{Drops}
@@ -34,7 +34,7 @@ unit_over : (mtu : ℕ) (v : Saved) (u : List ℕ) → unit_dropped (outcome_for
 unfolding outcome_for
 unit_over mtu v u = go (fate_of u)
   where
-    dropped_or_not : (t : Bool) → unit_dropped (cond t of-unit.Sent of-unit.DroppedForMtu) ≡ not t
+    dropped_or_not : (t : Bool) → unit_dropped (cond t of_unit.Sent of_unit.DroppedForMtu) ≡ not t
     dropped_or_not true = refl
     dropped_or_not false = refl
 

@@ -13,7 +13,7 @@ use borrow.Author.Tests.{eqb-true, eqb-false, le-leb, lt-leb}
 use Rattle.h264_put.specs.declared.fate.Fate.{Fate}
 use Rattle.h264_put.specs.declared.fate.Fate.TheVariants.{Empty, Dropped, Sps, Pps, Coded}
 use Rattle.h264_put.specs.declared.outcome.UnitOutcome.{UnitOutcome}
-use Rattle.h264_put.specs.declared.outcome.UnitOutcome.TheVariants as of-unit
+use Rattle.h264_put.specs.declared.outcome.UnitOutcome.TheVariants as of_unit
 use Rattle.h264_put.specs.declared.outcome.PairOutcome.{PairOutcome}
 use Rattle.h264_put.specs.declared.outcome.PairOutcome.TheVariants as of_pair
 use Rattle.h264_put.specs.declared.outcome.Outcome.{Outcome}
@@ -80,14 +80,14 @@ pair_named mtu v = go (both_saved v) (leb (length (stap_a v.sps v.pps)) mtu)
     go false fits = refl
 
 -- a unit that is to be sent goes out where it fits or can be cut
-pub by_room : (mtu : ℕ) (u : List ℕ) → unit_outcome mtu u ≡ cond (leb (length u) mtu || leb 3 mtu) of-unit.Sent of-unit.DroppedForMtu
+pub by_room : (mtu : ℕ) (u : List ℕ) → unit_outcome mtu u ≡ cond (leb (length u) mtu || leb 3 mtu) of_unit.Sent of_unit.DroppedForMtu
 by_room mtu u = go (dec_le (length u) mtu) (dec_le 3 mtu)
   where
     told : (a b : Bool) → leb (length u) mtu ≡ a → leb 3 mtu ≡ b →
-        cond (a || b) of-unit.Sent of-unit.DroppedForMtu ≡ cond (leb (length u) mtu || leb 3 mtu) of-unit.Sent of-unit.DroppedForMtu
-    told a b e q = sym (ap₂ (λ (x y : Bool). cond (x || y) of-unit.Sent of-unit.DroppedForMtu) e q)
+        cond (a || b) of_unit.Sent of_unit.DroppedForMtu ≡ cond (leb (length u) mtu || leb 3 mtu) of_unit.Sent of_unit.DroppedForMtu
+    told a b e q = sym (ap₂ (λ (x y : Bool). cond (x || y) of_unit.Sent of_unit.DroppedForMtu) e q)
 
-    go : Dec (length u ≤ mtu) → Dec (3 ≤ mtu) → unit_outcome mtu u ≡ cond (leb (length u) mtu || leb 3 mtu) of-unit.Sent of-unit.DroppedForMtu
+    go : Dec (length u ≤ mtu) → Dec (3 ≤ mtu) → unit_outcome mtu u ≡ cond (leb (length u) mtu || leb 3 mtu) of_unit.Sent of_unit.DroppedForMtu
     go (yes h) d = sym (sent_alone mtu u h) ∙ told true (leb 3 mtu) (le-leb (length u) mtu h) refl
     go (no h) (no g) =
         sym (dropped_under mtu u (omega arith) (omega arith)) ∙ told false false (lt-leb (length u) mtu (omega arith)) (lt-leb 3 mtu (omega arith))
@@ -96,7 +96,7 @@ by_room mtu u = go (dec_le (length u) mtu) (dec_le 3 mtu)
 unit_named : (mtu : ℕ) (u : List ℕ) → units_in (unit_for mtu u) ≡ unit_sent (unit_outcome mtu u) u
 unit_named mtu u = unit_carries mtu u ∙ go (leb (length u) mtu || leb 3 mtu) ∙ sym (ap (λ (x : UnitOutcome). unit_sent x u) (by_room mtu u))
   where
-    go : (t : Bool) → cond t (u ∷ []) [] ≡ unit_sent (cond t of-unit.Sent of-unit.DroppedForMtu) u
+    go : (t : Bool) → cond t (u ∷ []) [] ≡ unit_sent (cond t of_unit.Sent of_unit.DroppedForMtu) u
     go true = refl
     go false = refl
 
@@ -139,8 +139,8 @@ module _ (mtu : ℕ) (v : Saved) (u : List ℕ) where
   unfolding outcome_for groups_for keep
   unit_seen = go (fate_of u) (fate_means u)
     where
-      sent_or_not : (x : UnitOutcome) → unit_outcome mtu u ≡ x → (t : Bool) → x ≡ cond t of-unit.Sent of-unit.DroppedForMtu → Other u →
-          UnitSeen (cond t of-unit.Sent of-unit.DroppedForMtu) v u (groups_by Coded mtu v u) (keep_by Coded v u)
+      sent_or_not : (x : UnitOutcome) → unit_outcome mtu u ≡ x → (t : Bool) → x ≡ cond t of_unit.Sent of_unit.DroppedForMtu → Other u →
+          UnitSeen (cond t of_unit.Sent of_unit.DroppedForMtu) v u (groups_by Coded mtu v u) (keep_by Coded v u)
       sent_or_not x e true q m = coded_units ∙ ap (λ (y : UnitOutcome). unit_sent y u) (e ∙ q)
       sent_or_not x e false q m = (m, coded_units ∙ ap (λ (y : UnitOutcome). unit_sent y u) (e ∙ q))
 
@@ -191,22 +191,22 @@ module _ (mtu : ℕ) (v : Saved) (u : List ℕ) where
 
 -- of a unit, by its fate and the units that went out
 abbrev seen_of : Fate → List (List ℕ) → UnitOutcome
-seen_of Empty us = of-unit.Empty
-seen_of Dropped us = of-unit.DroppedByType
-seen_of Sps us = of-unit.Saved
-seen_of Pps us = of-unit.Saved
-seen_of Coded [] = of-unit.DroppedForMtu
-seen_of Coded (u ∷ us) = of-unit.Sent
+seen_of Empty us = of_unit.Empty
+seen_of Dropped us = of_unit.DroppedByType
+seen_of Sps us = of_unit.Saved
+seen_of Pps us = of_unit.Saved
+seen_of Coded [] = of_unit.DroppedForMtu
+seen_of Coded (u ∷ us) = of_unit.Sent
 
 one_unit : (x : UnitOutcome) (v : Saved) (u : List ℕ) (gs : List Group) (v' : Saved) → (units_in gs ≡ u ∷ [] → Other u) → UnitSeen x v u gs v' →
     seen_of (fate_of u) (units_in gs) ≡ x
-one_unit of-unit.Empty v u gs v' f s = ap (λ (k : Fate). seen_of k (units_in gs)) (means_fate Empty u s)
-one_unit of-unit.DroppedByType v u gs v' f s = ap (λ (k : Fate). seen_of k (units_in gs)) (means_fate Dropped u s)
-one_unit of-unit.Saved v u gs v' f s =
+one_unit of_unit.Empty v u gs v' f s = ap (λ (k : Fate). seen_of k (units_in gs)) (means_fate Empty u s)
+one_unit of_unit.DroppedByType v u gs v' f s = ap (λ (k : Fate). seen_of k (units_in gs)) (means_fate Dropped u s)
+one_unit of_unit.Saved v u gs v' f s =
     ⊎_elim (λ m. ap (λ (k : Fate). seen_of k (units_in gs)) (means_fate Sps u m.0))
     (λ m. ap (λ (k : Fate). seen_of k (units_in gs)) (means_fate Pps u m.0)) s
-one_unit of-unit.Sent v u gs v' f s = ap₂ seen_of (means_fate Coded u (f s)) s
-one_unit of-unit.DroppedForMtu v u gs v' f s = ap₂ seen_of (means_fate Coded u s.0) s.1
+one_unit of_unit.Sent v u gs v' f s = ap₂ seen_of (means_fate Coded u (f s)) s
+one_unit of_unit.DroppedForMtu v u gs v' f s = ap₂ seen_of (means_fate Coded u s.0) s.1
 
 none_some : {g : Group} {gs : List Group} → gs ≡ g ∷ [] → gs ≡ [] → ⊥
 none_some e q = absurd (omega (arith, ap length (sym e ∙ q)))
@@ -320,7 +320,7 @@ pub no_forgetting_untold : (s : Step) → ForgetsUntold s → TellsAlways s → 
 no_forgetting_untold s w t = w.untold (((t w.mtu w.saved w.unit).pair_told of_pair.DroppedForMtu).1 (w.gone, w.unsent))
 
 pub no_dropping_untold : (s : Step) → DropsUntold s → TellsAlways s → ⊥
-no_dropping_untold s w t = w.untold (((t w.mtu w.saved w.unit).unit_told of-unit.DroppedForMtu).1 (w.other, w.unsent))
+no_dropping_untold s w t = w.untold (((t w.mtu w.saved w.unit).unit_told of_unit.DroppedForMtu).1 (w.other, w.unsent))
 
 pub no_counting_unasked : (s : Step) → CountsUnasked s → TellsAlways s → ⊥
-no_counting_unasked s w t = w.never (((t w.mtu w.saved w.unit).unit_told of-unit.DroppedForMtu).0 w.told).0
+no_counting_unasked s w t = w.never (((t w.mtu w.saved w.unit).unit_told of_unit.DroppedForMtu).0 w.told).0

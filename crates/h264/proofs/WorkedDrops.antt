@@ -8,7 +8,7 @@ use Rattle.wire.specs.Net.{be16}
 use Rattle.wire.specs.Packets.{whole}
 use Rattle.wire.specs.Part.{splice, pad_to}
 use Rattle.annexb.specs.Units.{units, units_at}
-use Rattle.h264_put.specs.declared.outcome.UnitOutcome.TheVariants as of-unit
+use Rattle.h264_put.specs.declared.outcome.UnitOutcome.TheVariants as of_unit
 use Rattle.h264_put.specs.declared.outcome.PairOutcome.TheVariants as of_pair
 use Rattle.h264_put.specs.declared.outcome.Outcome.{Outcome}
 use Rattle.h264_put.specs.Groups.{nothing_saved, keep, stap_a, pair_for, unit_for, groups_for, fragment}
@@ -24,7 +24,7 @@ counts packets bytes units pairs = says (record { packets = packets; bytes = byt
 
 -- the unit with the pair at it
 abbrev with : Outcome → List Outcome
-with o = without_pair of-unit.Saved ∷ without_pair of-unit.Saved ∷ o ∷ []
+with o = without_pair of_unit.Saved ∷ without_pair of_unit.Saved ∷ o ∷ []
 
 -- 67AA, 68BB, 650102
 abbrev pair_then_unit : List ℕ
@@ -33,13 +33,13 @@ pair_then_unit = 0 ∷ 0 ∷ 1 ∷ 0x67 ∷ 0xAA ∷ 0 ∷ 0 ∷ 1 ∷ 0x68 ∷ 
 pub table : List Row
 table =
     -- the pair fits
-    (9, pair_then_unit, with (record { unit = of-unit.Sent; pair = of_pair.Sent }), counts 2 12 0 0)
+    (9, pair_then_unit, with (record { unit = of_unit.Sent; pair = of_pair.Sent }), counts 2 12 0 0)
     -- one pair dropped, the unit sent
-    ∷ (8, pair_then_unit, with (record { unit = of-unit.Sent; pair = of_pair.DroppedForMtu }), counts 1 3 0 1)
+    ∷ (8, pair_then_unit, with (record { unit = of_unit.Sent; pair = of_pair.DroppedForMtu }), counts 1 3 0 1)
     -- pair and unit dropped
-    ∷ (2, pair_then_unit, with (record { unit = of-unit.DroppedForMtu; pair = of_pair.DroppedForMtu }), counts 0 0 1 1)
+    ∷ (2, pair_then_unit, with (record { unit = of_unit.DroppedForMtu; pair = of_pair.DroppedForMtu }), counts 0 0 1 1)
     -- in fragments
-    ∷ (4, 0x65 ∷ 1 ∷ 2 ∷ 3 ∷ 4 ∷ 5 ∷ [], without_pair of-unit.Sent ∷ [], counts 3 11 0 0)
+    ∷ (4, 0x65 ∷ 1 ∷ 2 ∷ 3 ∷ 4 ∷ 5 ∷ [], without_pair of_unit.Sent ∷ [], counts 3 11 0 0)
     -- at mtu 0, and of an empty frame, nothing is asked
     ∷ (0, pair_then_unit, [], counts 0 0 0 0)
     ∷ (2, [], [], counts 0 0 0 0)
@@ -47,11 +47,11 @@ table =
     ∷ (
       1,
       0 ∷ 0 ∷ 1 ∷ 0x09 ∷ 0x10 ∷ 0 ∷ 0 ∷ 1 ∷ 0 ∷ 0 ∷ 1 ∷ 0x0C ∷ 0x80 ∷ [],
-      without_pair of-unit.DroppedByType ∷ without_pair of-unit.Empty ∷ without_pair of-unit.DroppedByType ∷ [],
+      without_pair of_unit.DroppedByType ∷ without_pair of_unit.Empty ∷ without_pair of_unit.DroppedByType ∷ [],
       counts 0 0 0 0,
     )
     -- a refused frame has no counts
-    ∷ (2, 0 ∷ 0 ∷ 1 ∷ 0x65 ∷ 1 ∷ 2 ∷ 0 ∷ 0 ∷ 1 ∷ (0x67 ∷ replicate 1024 0xAA), without_pair of-unit.DroppedForMtu ∷ without_pair of-unit.Saved ∷ [], refuse 7)
+    ∷ (2, 0 ∷ 0 ∷ 1 ∷ 0x65 ∷ 1 ∷ 2 ∷ 0 ∷ 0 ∷ 1 ∷ (0x67 ∷ replicate 1024 0xAA), without_pair of_unit.DroppedForMtu ∷ without_pair of_unit.Saved ∷ [], refuse 7)
     ∷ []
 
 abbrev asked : Row → List Outcome × Said Counts

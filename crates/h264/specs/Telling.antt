@@ -2,7 +2,7 @@
 -- the sets before and after; and without the sizes by which ours decides. Assumes nothing.
 use Rattle.std.specs.Prelude.{◌≡◌, List, [], ◌∷◌, ◌++◌, true, ◌⊎◌, ◌↔◌, ℕ, ◌%◌}
 use Rattle.h264_put.specs.declared.outcome.UnitOutcome.{UnitOutcome}
-use Rattle.h264_put.specs.declared.outcome.UnitOutcome.TheVariants as of-unit
+use Rattle.h264_put.specs.declared.outcome.UnitOutcome.TheVariants as of_unit
 use Rattle.h264_put.specs.declared.outcome.PairOutcome.{PairOutcome}
 use Rattle.h264_put.specs.declared.outcome.PairOutcome.TheVariants as of_pair
 use Rattle.h264_put.specs.declared.outcome.Outcome.{Outcome}
@@ -40,11 +40,11 @@ Gone v v' = (both_saved v ≡ true) × (v' ≡ nothing_saved)
 -- ---- each outcome, by what is seen
 
 abbrev pub UnitSeen : UnitOutcome → Saved → List ℕ → List Group → Saved → Type 0
-UnitSeen of-unit.Empty v u gs v' = u ≡ []
-UnitSeen of-unit.DroppedByType v u gs v' = Typed 9 u ⊎ Typed 12 u
-UnitSeen of-unit.Saved v u gs v' = ChangedTo u v v'
-UnitSeen of-unit.Sent v u gs v' = units_in gs ≡ u ∷ []
-UnitSeen of-unit.DroppedForMtu v u gs v' = Other u × (units_in gs ≡ [])
+UnitSeen of_unit.Empty v u gs v' = u ≡ []
+UnitSeen of_unit.DroppedByType v u gs v' = Typed 9 u ⊎ Typed 12 u
+UnitSeen of_unit.Saved v u gs v' = ChangedTo u v v'
+UnitSeen of_unit.Sent v u gs v' = units_in gs ≡ u ∷ []
+UnitSeen of_unit.DroppedForMtu v u gs v' = Other u × (units_in gs ≡ [])
 
 abbrev pub PairSeen : PairOutcome → Saved → List Group → Saved → Type 0
 PairSeen of_pair.NotDue v gs v' = (Gone v v' → ⊥) × (pairs_in gs ≡ [])
@@ -58,11 +58,11 @@ sets_sent of_pair.Sent v = v.sps ∷ v.pps ∷ []
 sets_sent of_pair.DroppedForMtu v = []
 
 abbrev pub unit_sent : UnitOutcome → List ℕ → List (List ℕ)
-unit_sent of-unit.Empty u = []
-unit_sent of-unit.DroppedByType u = []
-unit_sent of-unit.Saved u = []
-unit_sent of-unit.Sent u = u ∷ []
-unit_sent of-unit.DroppedForMtu u = []
+unit_sent of_unit.Empty u = []
+unit_sent of_unit.DroppedByType u = []
+unit_sent of_unit.Saved u = []
+unit_sent of_unit.Sent u = u ∷ []
+unit_sent of_unit.DroppedForMtu u = []
 
 -- ---- a step that tells
 
@@ -110,7 +110,7 @@ pub record DropsUntold (s : Step) : Type 0 where
   pub unit : List ℕ
   pub other : Other unit
   pub unsent : units_in (s.sends mtu saved unit) ≡ []
-  pub untold : (s.says mtu saved unit).unit ≡ of-unit.DroppedForMtu → ⊥
+  pub untold : (s.says mtu saved unit).unit ≡ of_unit.DroppedForMtu → ⊥
 
 -- one that says of a unit that is not to be sent, of a delimiter say, that it was dropped for the mtu
 pub record CountsUnasked (s : Step) : Type 0 where
@@ -118,4 +118,4 @@ pub record CountsUnasked (s : Step) : Type 0 where
   pub saved : Saved
   pub unit : List ℕ
   pub never : Other unit → ⊥
-  pub told : (s.says mtu saved unit).unit ≡ of-unit.DroppedForMtu
+  pub told : (s.says mtu saved unit).unit ≡ of_unit.DroppedForMtu

@@ -8,7 +8,7 @@ use native.Mathlib.Omega.{arith}
 use lib.Dec.{leb, ltb}
 use lib.ListN.{length}
 use borrow.Author.Tests.{le-leb, lt-leb, lt-ltb, le-ltb}
-use Rattle.h264_put.specs.declared.outcome.UnitOutcome.TheVariants as of-unit
+use Rattle.h264_put.specs.declared.outcome.UnitOutcome.TheVariants as of_unit
 use Rattle.h264_put.specs.declared.outcome.PairOutcome.TheVariants as of_pair
 use Rattle.h264_put.specs.declared.outcome.Outcome.{Outcome}
 use Rattle.h264_put.specs.declared.outcome.Drops.{Drops}
@@ -18,17 +18,17 @@ use Rattle.h264_put.proofs.Sinks.{length_stap_a}
 
 module _ (mtu : ℕ) (u : List ℕ) where
   by_tests : (fits under : Bool) → leb (length u) mtu ≡ fits → ltb mtu 3 ≡ under →
-      cond fits of-unit.Sent (cond under of-unit.DroppedForMtu of-unit.Sent) ≡ unit_outcome mtu u
+      cond fits of_unit.Sent (cond under of_unit.DroppedForMtu of_unit.Sent) ≡ unit_outcome mtu u
   unfolding unit_outcome
-  by_tests fits under e q = sym (ap₂ (λ (x y : Bool). cond x of-unit.Sent (cond y of-unit.DroppedForMtu of-unit.Sent)) e q)
+  by_tests fits under e q = sym (ap₂ (λ (x y : Bool). cond x of_unit.Sent (cond y of_unit.DroppedForMtu of_unit.Sent)) e q)
 
-  pub sent_alone : length u ≤ mtu → of-unit.Sent ≡ unit_outcome mtu u
+  pub sent_alone : length u ≤ mtu → of_unit.Sent ≡ unit_outcome mtu u
   sent_alone h = by_tests true (ltb mtu 3) (le-leb (length u) mtu h) refl
 
-  pub dropped_under : mtu < length u → mtu < 3 → of-unit.DroppedForMtu ≡ unit_outcome mtu u
+  pub dropped_under : mtu < length u → mtu < 3 → of_unit.DroppedForMtu ≡ unit_outcome mtu u
   dropped_under h g = by_tests false true (lt-leb (length u) mtu h) (lt-ltb mtu 3 g)
 
-  pub sent_divided : mtu < length u → 3 ≤ mtu → of-unit.Sent ≡ unit_outcome mtu u
+  pub sent_divided : mtu < length u → 3 ≤ mtu → of_unit.Sent ≡ unit_outcome mtu u
   sent_divided h g = by_tests false false (lt-leb (length u) mtu h) (le-ltb mtu 3 g)
 
 module _ (mtu : ℕ) (v : Saved) where

@@ -3,7 +3,7 @@ use Rattle.std.specs.Prelude.{List, [], ◌∷◌, Bool, true, false, cond, ℕ,
 use Rattle.h264_put.specs.declared.fate.Fate.{Fate}
 use Rattle.h264_put.specs.declared.fate.Fate.TheVariants.{Empty, Dropped, Sps, Pps, Coded}
 use Rattle.h264_put.specs.declared.outcome.UnitOutcome.{UnitOutcome}
-use Rattle.h264_put.specs.declared.outcome.UnitOutcome.TheVariants as of-unit
+use Rattle.h264_put.specs.declared.outcome.UnitOutcome.TheVariants as of_unit
 use Rattle.h264_put.specs.declared.outcome.PairOutcome.{PairOutcome}
 use Rattle.h264_put.specs.declared.outcome.PairOutcome.TheVariants as of_pair
 use Rattle.h264_put.specs.declared.outcome.Outcome.{Outcome}
@@ -14,7 +14,7 @@ use Rattle.h264_put.specs.Groups.{Saved, both_saved, fate_of, keep, stap_a}
 
 -- "A unit that fits goes alone, else as FU-A with at most mtu - 2 bytes each; under mtu 3 it is dropped."
 unfoldable pub unit_outcome : ℕ → List ℕ → UnitOutcome
-unit_outcome mtu u = cond (leb (length u) mtu) of-unit.Sent (cond (ltb mtu 3) of-unit.DroppedForMtu of-unit.Sent)
+unit_outcome mtu u = cond (leb (length u) mtu) of_unit.Sent (cond (ltb mtu 3) of_unit.DroppedForMtu of_unit.Sent)
 
 -- "with both saved, is preceded by a STAP-A (0x78) if that fits the mtu; the pair is forgotten either way"
 unfoldable pub pair_outcome : ℕ → Saved → PairOutcome
@@ -27,10 +27,10 @@ without_pair u = record { unit = u; pair = of_pair.NotDue }
 
 -- "Empty units and types 9, 12 are dropped; 7, 8 are saved. Any other unit" is sent or dropped for the mtu
 abbrev pub outcome_by : Fate → ℕ → Saved → List ℕ → Outcome
-outcome_by Empty mtu v u = without_pair of-unit.Empty
-outcome_by Dropped mtu v u = without_pair of-unit.DroppedByType
-outcome_by Sps mtu v u = without_pair of-unit.Saved
-outcome_by Pps mtu v u = without_pair of-unit.Saved
+outcome_by Empty mtu v u = without_pair of_unit.Empty
+outcome_by Dropped mtu v u = without_pair of_unit.DroppedByType
+outcome_by Sps mtu v u = without_pair of_unit.Saved
+outcome_by Pps mtu v u = without_pair of_unit.Saved
 outcome_by Coded mtu v u = record { unit = unit_outcome mtu u; pair = pair_outcome mtu v }
 
 -- what becomes of one unit and of the pair at it, where v is saved
@@ -45,11 +45,11 @@ outcomes_of mtu v (u ∷ us) = outcome_for mtu v u ∷ outcomes_of mtu (keep v u
 -- ---- how many are dropped for the mtu
 
 abbrev pub unit_dropped : UnitOutcome → Bool
-unit_dropped of-unit.Empty = false
-unit_dropped of-unit.DroppedByType = false
-unit_dropped of-unit.Saved = false
-unit_dropped of-unit.Sent = false
-unit_dropped of-unit.DroppedForMtu = true
+unit_dropped of_unit.Empty = false
+unit_dropped of_unit.DroppedByType = false
+unit_dropped of_unit.Saved = false
+unit_dropped of_unit.Sent = false
+unit_dropped of_unit.DroppedForMtu = true
 
 abbrev pub pair_dropped : PairOutcome → Bool
 pair_dropped of_pair.NotDue = false

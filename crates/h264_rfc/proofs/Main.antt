@@ -34,7 +34,7 @@ use Rattle.h264_rfc.proofs.Complete as complete
 use Rattle.h264_rfc.proofs.Readers as readers
 use Rattle.h264_rfc.proofs.Sound as sound
 use Rattle.h264_rfc.proofs.Runs as runs
-use Rattle.h264_rfc.proofs.SoundRuns as soundRuns
+use Rattle.h264_rfc.proofs.SoundRuns as sound_runs
 use Rattle.h264_rfc.proofs.Sent as sent
 use Rattle.h264_rfc.proofs.Contract as contract
 
@@ -80,7 +80,7 @@ NO_FIXED_OUTPUT = readers.no_fixed_output
 -- answer is what its kind says. With an FU-A's E bit the parts of all FU-As accepted since the last E bit are handed out as one unit: they are those
 -- of one unit with F clear, and this is the unit (`OneUnit`), or they deviate in one of the ways that are rows of docs/DIFFERENCES.md (`Deviates`).
 pub SOUND : Sound depacketized
-SOUND = soundRuns.sound
+SOUND = sound_runs.sound
 
 -- An STAP-A that is accepted is one of the RFC, the rules on F and NRI aside; or something in it is empty, or of no type 1 to 23.
 pub AS_SENT_OR_STRAYS : (payload : List ℕ) (units : List (List ℕ)) → Aggregation payload units → AsSent payload units ⊎ Somewhere Stray units

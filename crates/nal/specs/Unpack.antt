@@ -39,9 +39,9 @@ unpack s = run unpack_turn lone (length s + 1) (record { rest = s; units = [] })
 
 -- a codec's refusals of the two
 abbrev pub said_by : {A : Type 0} → (ℕ → ℕ → Refusal) → Refusal → Unpacked A → Said A
-said_by atPast atLone (right a) = says a
-said_by atPast atLone (past size left) = refused (atPast size left)
-said_by atPast atLone lone = refused atLone
+said_by at_past at_lone (right a) = says a
+said_by at_past at_lone (past size left) = refused (at_past size left)
+said_by at_past at_lone lone = refused at_lone
 
 -- the units, where the sizes are right
 abbrev pub units_in : Unpacked (List (List ℕ)) → List (List ℕ)

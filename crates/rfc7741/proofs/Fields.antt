@@ -7,7 +7,7 @@ use Prim.Native.Nat.{ℕ, ◌+◌, ◌*◌, ◌/◌, ◌%◌, ◌<◌, ◌≤◌
 use native.Mathlib.Omega.{arith}
 use lib.Dec.{lit<, lit≤}
 use lib.ListN.{length}
-use Rattle.rfc7741.specs.Descriptor.{Required, PictureId, absent, short, long, Indices, Layers, neither, only_t, only_k, both_tK, Extension, flag_i, flag_l, flag_t, flag_k, first_octet, extension_octet, id_octets, tl0_octets, indices_octet, layers_octets, optional_octets, FormedRequired, FormedIndices, FormedExtension}
+use Rattle.rfc7741.specs.Descriptor.{Required, PictureId, absent, short, long, Indices, Layers, neither, only_t, only_k, both_tk, Extension, flag_i, flag_l, flag_t, flag_k, first_octet, extension_octet, id_octets, tl0_octets, indices_octet, layers_octets, optional_octets, FormedRequired, FormedIndices, FormedExtension}
 
 -- the fields that the first octet says, and those of the octet of T and K
 abbrev pub required_at : ℕ → Required
@@ -50,13 +50,13 @@ pub flag_t< : (l : Layers) → flag_t l < 2
 flag_t< neither = lit< tt
 flag_t< (only_t o) = lit< tt
 flag_t< (only_k o) = lit< tt
-flag_t< (both_tK o) = lit< tt
+flag_t< (both_tk o) = lit< tt
 
 flag_k< : (l : Layers) → flag_k l < 2
 flag_k< neither = lit< tt
 flag_k< (only_t o) = lit< tt
 flag_k< (only_k o) = lit< tt
-flag_k< (both_tK o) = lit< tt
+flag_k< (both_tk o) = lit< tt
 
 -- the extension octet says the flags
 pub record Flags (e : Extension) (b : ℕ) : Type 0 where

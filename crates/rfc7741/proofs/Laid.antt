@@ -8,7 +8,7 @@ use native.Mathlib.Nat.{not-suc-le-zero}
 use native.Mathlib.Decide.{dec_lt}
 use native.Mathlib.Omega.{arith}
 use lib.ListN.{length}
-use Rattle.rfc7741.specs.Descriptor.{Octets, PictureId, absent, short, long, Layers, neither, only_t, only_k, both_tK, flag_i, flag_l, flag_t, flag_k, first_octet, id_octets, tl0_octets, indices_octet, layers_octets, FormedRequired, FormedId, FormedTl0, FormedIndices, FormedLayers}
+use Rattle.rfc7741.specs.Descriptor.{Octets, PictureId, absent, short, long, Layers, neither, only_t, only_k, both_tk, flag_i, flag_l, flag_t, flag_k, first_octet, id_octets, tl0_octets, indices_octet, layers_octets, FormedRequired, FormedId, FormedTl0, FormedIndices, FormedLayers}
 use Rattle.rfc7741.proofs.Fields.{required_at, indices_at}
 
 -- a field's plan at the front of s: formed, with this flag, and octets behind it
@@ -100,4 +100,4 @@ layers_laid (suc t) (suc k) (b ∷ s) ht hk h o =
     let i = indices_laid b o.0 in
     let one : 1 ≡ suc t = omega arith in
     let one' : 1 ≡ suc k = omega arith in
-    record { plan = both_tK (indices_at b); behind = s; formed = i.0; says_t = one; says_k = one'; laid = ap (λ (x : ℕ). x ∷ s) i.1 }
+    record { plan = both_tk (indices_at b); behind = s; formed = i.0; says_t = one; says_k = one'; laid = ap (λ (x : ℕ). x ∷ s) i.1 }

@@ -8,7 +8,7 @@ use Prim.Native.Nat.{ℕ, ◌+◌, ◌-◌, ◌*◌, ◌/◌, ◌%◌, ◌<◌}
 use native.Mathlib.Omega.{arith}
 use lib.Dec.{eqb, leb, lit<}
 use borrow.Author.Tests.{le-leb, lt-leb}
-use Rattle.rfc7741.specs.Descriptor.{Required, PictureId, absent, short, long, Indices, Layers, neither, only_t, only_k, both_tK, Extension, Descriptor, plain, extended, flag_i, flag_l, flag_t, flag_k, first_octet, id_octets, tl0_octets, indices_octet, layers_octets, optional_octets, octets, FormedRequired, FormedId, FormedIndices, FormedLayers, FormedExtension, Formed}
+use Rattle.rfc7741.specs.Descriptor.{Required, PictureId, absent, short, long, Indices, Layers, neither, only_t, only_k, both_tk, Extension, Descriptor, plain, extended, flag_i, flag_l, flag_t, flag_k, first_octet, id_octets, tl0_octets, indices_octet, layers_octets, optional_octets, octets, FormedRequired, FormedId, FormedIndices, FormedLayers, FormedExtension, Formed}
 use Rattle.rfc7741.proofs.Fields.{required_at, indices_at, firsts, flags, index_parts, apart}
 
 -- ---- a decoder, one for each field: the field's flag and the octets, to the field and the octets behind it
@@ -29,7 +29,7 @@ decode_tl0 flag (b ∷ s) = cond (eqb flag 1) (some b, s) (none, b ∷ s)
 decode_layers : ℕ → ℕ → List ℕ → Layers × List ℕ
 decode_layers t k [] = (neither, [])
 decode_layers t k (b ∷ s) =
-    cond (eqb t 1) (cond (eqb k 1) (both_tK (indices_at b), s) (only_t (indices_at b), s))
+    cond (eqb t 1) (cond (eqb k 1) (both_tk (indices_at b), s) (only_t (indices_at b), s))
     (cond (eqb k 1) (only_k (indices_at b), s) (neither, b ∷ s))
 
 id_back : (p : PictureId) (s : List ℕ) → FormedId p → decode_id (flag_i p) (id_octets p ++ s) ≡ (p, s)
@@ -57,7 +57,7 @@ layers_back neither [] h = refl
 layers_back neither (b ∷ s) h = refl
 layers_back (only_t o) s h = ap (λ (o' : Indices). (only_t o', s)) (indices_back o h)
 layers_back (only_k o) s h = ap (λ (o' : Indices). (only_k o', s)) (indices_back o h)
-layers_back (both_tK o) s h = ap (λ (o' : Indices). (both_tK o', s)) (indices_back o h)
+layers_back (both_tk o) s h = ap (λ (o' : Indices). (both_tk o', s)) (indices_back o h)
 
 -- ---- the whole descriptor, read back
 

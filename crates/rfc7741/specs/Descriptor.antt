@@ -38,7 +38,7 @@ pub data Layers : Type 0 where
   neither : Layers
   only_t : Indices → Layers
   only_k : Indices → Layers
-  both_tK : Indices → Layers
+  both_tk : Indices → Layers
 
 -- what X announces: the flags I, L, T, K are those of the fields that are there
 pub record Extension : Type 0 where
@@ -67,13 +67,13 @@ abbrev pub flag_t : Layers → ℕ
 flag_t neither = 0
 flag_t (only_t o) = 1
 flag_t (only_k o) = 0
-flag_t (both_tK o) = 1
+flag_t (both_tk o) = 1
 
 abbrev pub flag_k : Layers → ℕ
 flag_k neither = 0
 flag_k (only_t o) = 0
 flag_k (only_k o) = 1
-flag_k (both_tK o) = 1
+flag_k (both_tk o) = 1
 
 -- ---- the octets
 --
@@ -116,7 +116,7 @@ abbrev pub layers_octets : Layers → List ℕ
 layers_octets neither = []
 layers_octets (only_t o) = indices_octet o ∷ []
 layers_octets (only_k o) = indices_octet o ∷ []
-layers_octets (both_tK o) = indices_octet o ∷ []
+layers_octets (both_tk o) = indices_octet o ∷ []
 
 abbrev pub optional_octets : Extension → List ℕ
 optional_octets e = id_octets e.picture_id ++ (tl0_octets e.tl0picidx ++ layers_octets e.layers)
@@ -152,7 +152,7 @@ abbrev pub FormedLayers : Layers → Type 0
 FormedLayers neither = Unit
 FormedLayers (only_t o) = FormedIndices o
 FormedLayers (only_k o) = FormedIndices o
-FormedLayers (both_tK o) = FormedIndices o
+FormedLayers (both_tk o) = FormedIndices o
 
 pub record FormedExtension (e : Extension) : Type 0 where
   pub picture_id : FormedId e.picture_id

@@ -5,7 +5,7 @@
 // comparison of headers in section 7.4.1.2.4: in a stream with slices in arbitrary order the two differ, and with them marker and
 // time.
 ghost use Rattle.std.specs.Prelude.{◌≡◌, ◌≤◌, length};
-ghost use Rattle.send.specs.Access.{is_slice, is_before, has_header, begins as beginsOf, edge_of, Inside, first_len};
+ghost use Rattle.send.specs.Access.{is_slice, is_before, has_header, begins as begins_of, edge_of, Inside, first_len};
 
 use annexb::{Found, next_code};
 
@@ -58,7 +58,7 @@ fn has_header(t: u8) -> bool
 
 // Whether a unit begins an access unit where a slice came before, by its first two bytes.
 fn begins(head: u8, next: u8) -> bool
-    ensures { result ≡ beginsOf head next }
+    ensures { result ≡ begins_of head next }
 {
     if is_before(head % 32) {
         return true;

@@ -1,7 +1,7 @@
 // A file in a buffer: the part of it that is read and not taken yet.
 ghost use Rattle.std.specs.Prelude.{◌≡◌, ◌-◌, ◌≤◌, length};
 ghost use Rattle.wire.specs.Part.{splice, part};
-ghost use Rattle.stream.specs.Window.{Within, Refilled, nothing_read, from as windowFrom};
+ghost use Rattle.stream.specs.Window.{Within, Refilled, nothing_read, from as window_from};
 
 use std::fs::File;
 use std::io::{Error, ErrorKind, Read};
@@ -32,7 +32,7 @@ impl Window {
 
     // All before a place is taken.
     pub fn from(mut self, at: usize) -> Window
-        ensures { result ≡ windowFrom at self }
+        ensures { result ≡ window_from at self }
     {
         self.at = at;
         self

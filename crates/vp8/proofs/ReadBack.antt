@@ -11,7 +11,7 @@ use lib.ListN.{length, length-append}
 use borrow.Author.Tests.{eq-eqb, ne_eqb}
 use Rattle.error.specs.Said.{says, refuse}
 use Rattle.wire.specs.Net.{u16_at}
-use Rattle.rfc7741.specs.Descriptor.{Required, PictureId, absent, short, long, Indices, Layers, neither, only_t, only_k, both_tK, Extension, extended, flag_i, flag_l, flag_t, flag_k, first_octet, extension_octet, id_octets, tl0_octets, indices_octet, layers_octets, octets, FormedRequired, FormedId, FormedLayers, FormedExtension}
+use Rattle.rfc7741.specs.Descriptor.{Required, PictureId, absent, short, long, Indices, Layers, neither, only_t, only_k, both_tk, Extension, extended, flag_i, flag_l, flag_t, flag_k, first_octet, extension_octet, id_octets, tl0_octets, indices_octet, layers_octets, octets, FormedRequired, FormedId, FormedLayers, FormedExtension}
 use Rattle.rfc7741.proofs.Fields.{firsts, flags, index_parts, apart}
 use Rattle.vp8_read.specs.declared.Vp8Packet.{Vp8Packet}
 use Rattle.vp8_read.specs.Read.{put_required, put_flags, put_picture_id, put_tl0, put_tid, put_key, set_required, set_flags, set_tid, set_key, with_picture_id, with_tl0, with_layers, third, second, read_on}
@@ -71,7 +71,7 @@ layers_stage (only_k o) q at r h t k =
     layers_k _ k
     ∙ ap (λ (q' : Vp8Packet). record { packet = q'; at = at + 1; rest = r })
     (ap (set_key (indices_octet o)) (tid_kept (indices_octet o) q t) ∙ key_set (indices_octet o) q o k p.keyidx)
-layers_stage (both_tK o) q at r h t k =
+layers_stage (both_tk o) q at r h t k =
     let p = index_parts o h in
     layers_t _ t
     ∙ ap (λ (q' : Vp8Packet). record { packet = q'; at = at + 1; rest = r })
@@ -110,7 +110,7 @@ unfolding put_tid put_key
 layers_head neither q = refl
 layers_head (only_t o) q = refl
 layers_head (only_k o) q = refl
-layers_head (both_tK o) q = refl
+layers_head (both_tk o) q = refl
 
 -- ---- what `fields` tells
 
@@ -130,7 +130,7 @@ unfolding put_tid put_key
 layers_told neither q = tt
 layers_told (only_t o) q = (refl, refl)
 layers_told (only_k o) q = refl
-layers_told (both_tK o) q = (refl, refl, refl)
+layers_told (both_tk o) q = (refl, refl, refl)
 
 tl0_keeps : (l : Option ℕ) (q : Vp8Packet) → (tell_tl0 l q).picture_id ≡ q.picture_id
 unfolding put_tl0
@@ -142,7 +142,7 @@ unfolding put_tid put_key
 layers_keep neither q = (refl, refl)
 layers_keep (only_t o) q = (refl, refl)
 layers_keep (only_k o) q = (refl, refl)
-layers_keep (both_tK o) q = (refl, refl)
+layers_keep (both_tk o) q = (refl, refl)
 
 module _ (d : Required) (e : Extension) (old : Vp8Packet) where
   pub fields_head : head_of (fields d e old)
@@ -278,7 +278,7 @@ cut_short (some n) neither q at hl ht hk h =
     left_over _ (λ c. second (with_tl0 c)) (omega arith) ∙ ap second (tl0_stage (some n) q at [] hl) ∙ none_left _ _ (omega arith)
 cut_short l (only_t o) q at hl ht hk h = at_third l (only_t o) q at hl ht hk h (omega arith)
 cut_short l (only_k o) q at hl ht hk h = at_third l (only_k o) q at hl ht hk h (omega arith)
-cut_short l (both_tK o) q at hl ht hk h = at_third l (both_tK o) q at hl ht hk h (omega arith)
+cut_short l (both_tk o) q at hl ht hk h = at_third l (both_tk o) q at hl ht hk h (omega arith)
 
 pub reads_empty : (old : Vp8Packet) (d : Required) (e : Extension) → FormedRequired d → FormedExtension e →
     read_on (begun old (octets (extended d e) ++ [])) ≡ record { packet = fields d e old; said = refuse 4 }

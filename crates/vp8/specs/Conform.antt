@@ -2,7 +2,7 @@
 use Rattle.std.specs.Prelude.{◌≡◌, Bool, true, false, cond, List, [], ◌∷◌, ◌++◌, map, ℕ, ◌+◌, ◌≤◌, ◌<◌, ltb, length}
 use Rattle.std.proofs.Math.Option.{Option, none, some}
 use Rattle.error.specs.Said.{says}
-use Rattle.rfc7741.specs.Descriptor.{Required, PictureId, absent, short, long, Layers, neither, only_t, only_k, both_tK, Extension, Descriptor, extended, flag_i, flag_l, flag_t, flag_k, octets, Lawful, Strays}
+use Rattle.rfc7741.specs.Descriptor.{Required, PictureId, absent, short, long, Layers, neither, only_t, only_k, both_tk, Extension, Descriptor, extended, flag_i, flag_l, flag_t, flag_k, octets, Lawful, Strays}
 use Rattle.rfc7741.specs.Frame.{Carries}
 use Rattle.vp8_read.specs.declared.Vp8Packet.{Vp8Packet}
 use Rattle.vp8_send.specs.declared.Vp8Payloader.{Vp8Payloader}
@@ -24,7 +24,7 @@ abbrev pub TellsLayers : Layers → Vp8Packet → Type 0
 TellsLayers neither p = Unit
 TellsLayers (only_t o) p = (p.tid ≡ o.tid) × (p.y ≡ o.y)
 TellsLayers (only_k o) p = p.key_idx ≡ o.keyidx
-TellsLayers (both_tK o) p = (p.tid ≡ o.tid) × (p.y ≡ o.y) × (p.key_idx ≡ o.keyidx)
+TellsLayers (both_tk o) p = (p.tid ≡ o.tid) × (p.y ≡ o.y) × (p.key_idx ≡ o.keyidx)
 
 -- the record says the descriptor's fields: X, N, S, PID, the flags, and each optional field that is there
 pub record Tells (d : Required) (e : Extension) (p : Vp8Packet) : Type 0 where
@@ -88,7 +88,7 @@ abbrev pub tell_layers : Layers → Vp8Packet → Vp8Packet
 tell_layers neither p = p
 tell_layers (only_t o) p = put_tid o.tid o.y p
 tell_layers (only_k o) p = put_key o.keyidx p
-tell_layers (both_tK o) p = put_key o.keyidx (put_tid o.tid o.y p)
+tell_layers (both_tk o) p = put_key o.keyidx (put_tid o.tid o.y p)
 
 -- the fields when the flags have been read, when the picture id has, when TL0PICIDX has, and all of them
 abbrev pub fields_flags : Required → Extension → Vp8Packet → Vp8Packet
