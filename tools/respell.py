@@ -6,7 +6,7 @@ usage: tools/respell.py [--check] [ROOT]
 It goes by the names that the texts of crates/*/specs and crates/*/proofs declare: top-level definitions, fields, constructors, parameters and local
 names. It turns them in those texts, in the clauses of crates/*/src and in must-fail edits, and in the code spans of the pages of docs/ and of README.md.
 Names of functions of src/, exported names, strings, inputs and outputs stay. --check writes nothing, and prints the names that would meet another.
-A second run writes nothing more.
+It is for the text as the toolchain's port.py leaves it: once, before any proof is turned to answers, whose goals have names with dashes.
 """
 
 import collections

@@ -16,7 +16,7 @@ use Rattle.joiner_step.specs.Step.{Accepted, step, closing}
 use Rattle.joiner_step.specs.General as any
 use Rattle.joiner_step.specs.General.{parts, closing_said}
 use Rattle.joiner_step.proofs.Playing.{Stands}
-use Rattle.joiner_step.proofs.Cases.{closing_cases}
+use Rattle.joiner_step.proofs.Sayable.{closing_cases}
 use Rattle.joiner_step.proofs.Main.{Ready}
 use Rattle.joiner_step.proofs.Main as any-main
 use Rattle.joiner_feed.specs.Content.{Note}

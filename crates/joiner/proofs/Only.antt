@@ -12,8 +12,7 @@ use Rattle.packet.specs.Read.{PacketReading, read_packet}
 use Rattle.packet.proofs.Only.{packet_sayable}
 use Rattle.sequence.specs.Number.{distance_of, next_of}
 use Rattle.joiner_step.specs.Step.{Accepted, Answer, accepted, late}
-use Rattle.joiner_step.proofs.Cases.{closing_cases}
-use Rattle.joiner_step.proofs.Sayable.{Speaks, step_sayable}
+use Rattle.joiner_step.proofs.Sayable.{Speaks, step_sayable, closing_cases}
 use Rattle.joiner_feed.specs.H264.{check}
 use Rattle.joiner_feed.proofs.Sayable.{check_sayable, timed_sayable, fed_sayable}
 use Rattle.joiner.specs.declared.Joiner.{Joiner}

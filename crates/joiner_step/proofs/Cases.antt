@@ -1,4 +1,4 @@
--- How a call and a closing can end: what is so of each outcome is so of them. Assumes nothing.
+-- How a call can end: what is so of each outcome is so of it. Assumes nothing.
 use mathlib.Core.Path.{◌≡◌, refl}
 use mathlib.Core.Bool.{Bool, true, false, cond}
 use mathlib.Core.List.{List}
@@ -10,7 +10,7 @@ use Rattle.nal.specs.Fed.{Laid, lay_both}
 use Rattle.sequence.specs.Number.{distance_of}
 use Rattle.joiner_step.specs.Run.{Run, Does, fed_by}
 use Rattle.joiner_step.specs.Choice.{Arrived, Choice}
-use Rattle.joiner_step.specs.Step.{Kept, late, Stepped, unchanged, ClosingStepped, still_open, outside, wrong, laid_by, fed_to, run_at, by_check, by_source, by_reading, step, shut, closing}
+use Rattle.joiner_step.specs.Step.{Kept, late, Stepped, unchanged, outside, laid_by, fed_to, run_at, by_check, by_source, by_reading, step}
 
 -- by a test, whichever way it goes
 by_test : {A : Type 0} (Q : A → Type 0) {x y : A} (b : Bool) → Q x → Q y → Q (cond b x y)
@@ -61,13 +61,3 @@ module _ {P C N : Type 0} (c : Choice P C N) (Q : Stepped (Kept N) → Type 0) (
     unfolding step
     step_cases =
         by_test Q j.closed o.closed (by_test Q (outside c j.run gather) o.outside (by_reading_lem (c.reads packet) refl))
-
-module _ {P C N : Type 0} (c : Choice P C N) (Q : ClosingStepped (Kept N) → Type 0) (j : Kept N) (number : ℕ) where
-  pub closing_cases : Q (still_open j 22) → Q (still_open j 8) → Q (still_open j 23) → Q (still_open j 24) →
-      ((d : ℕ) → Q (record { joiner = shut c j d; answer = says (record { first = j.awaited; count = d; bytes = 0 }) })) →
-      Q (closing c j number)
-  unfolding closing
-  closing_cases closed outside far full ends =
-      let d : ℕ = distance_of number j.awaited in
-      by_test Q j.closed closed
-      (by_test Q (wrong c j.run) outside (by_test Q (leb 32768 d) far (by_test Q (ltb 4294967295 (j.missed + d)) full (ends d))))

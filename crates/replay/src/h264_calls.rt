@@ -26,15 +26,16 @@ fn sent_by<'a>(lent: bool, q: &'a [u8], a: &'a [u8]) -> bool {
     let mut ends = [equal::NO_END; 2048];
     let places = rows::room(rows::number(q, 3));
     let packets = rows::room(rows::number(q, 4));
+    let before = sender(q);
     let r = payload(
         lent,
-        sender(q),
+        before,
         rows::number(q, 1),
         rows::field(q, 2),
         &mut out[0..places],
         &mut ends[0..packets],
     );
-    let same = sent(a, r, lent, sender(q));
+    let same = sent(a, r, lent, before);
     let same = equal::buffer(same, rows::field(a, 4), rows::FILL, &out);
     equal::ends(same, rows::field(a, 5), &ends)
 }

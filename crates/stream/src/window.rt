@@ -4,7 +4,7 @@ ghost use Rattle.wire.specs.Part.{splice, part};
 ghost use Rattle.stream.specs.Window.{Within, Refilled, nothing_read, from as window_from};
 
 use std::fs::File;
-use std::io::{Error, ErrorKind, Read};
+use std::io::{Error, Read};
 
 #[derive(Clone, Copy)]
 pub struct Window {
@@ -61,15 +61,12 @@ struct Got {
     failed: Option<Error>,
 }
 
-// Reads until the buffer is full, the file ends or a read fails. One that a signal interrupts is made again.
+// Reads until the buffer is full, the file ends or a read fails.
 fn read_full(from: &mut File, buf: &mut [u8]) -> Got
     ensures { result.count ≤ length buf.new }
 {
     let mut count = 0;
-    for _ in 0..u64::MAX {
-        if count == buf.len() {
-            break;
-        }
+    while count < buf.len() {
         match from.read(&mut buf[count..]) {
             Ok(0) => {
                 return Got {
@@ -80,13 +77,11 @@ fn read_full(from: &mut File, buf: &mut [u8]) -> Got
             }
             Ok(n) => count += n,
             Err(e) => {
-                if e.kind() != ErrorKind::Interrupted {
-                    return Got {
-                        count,
-                        ended: true,
-                        failed: Some(e),
-                    };
-                }
+                return Got {
+                    count,
+                    ended: true,
+                    failed: Some(e),
+                };
             }
         }
     }

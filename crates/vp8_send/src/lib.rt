@@ -106,6 +106,8 @@ impl Vp8Payloader {
         self
     }
 
+    // The tests of the code are those of the definition.
+    #[tactic(auto, unfolding(crate::specs::Send::header_size))]
     fn header_size(self) -> usize
         ensures { result ≡ header_size self }
     {

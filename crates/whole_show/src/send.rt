@@ -10,7 +10,7 @@ use header::{Header, Length};
 pub const SOURCE: u32 = 0x2468ACE0;
 
 // How far a show is sent.
-#[derive(Drop)]
+#[derive(Clone, Copy)]
 pub struct Sending {
     // with the parameter sets saved so far
     pub sender: H264Payloader,
@@ -120,12 +120,7 @@ fn give(
                 pairs_dropped: plus(sending.pairs_dropped, pairs),
             }
         }
-        // a refused call leaves the sender as it was
-        Payloads::Refused(_) => Sending {
-            sender,
-            units_dropped: sending.units_dropped,
-            pairs_dropped: sending.pairs_dropped,
-        },
+        Payloads::Refused(_) => sending,
     }
 }
 
