@@ -78,7 +78,7 @@ def as_record(body, names):
         parts.append(here)
     if len(parts) != len(names):
         return body
-    lines = [f"{n} = {p.strip()}" for n, p in zip(names, parts) if p.strip() != "search rules" or True]
+    lines = [f"{n} = {p.strip()}" for n, p in zip(names, parts)]
     return body[:at].rstrip() + " record {\n      " + ";\n      ".join(lines) + ";\n    }"
 
 
@@ -109,7 +109,6 @@ class Function:
         self.loops = [(old[1], names) for old, names in info["loops"]]
         self.loop_old = [norm(old[0]) for old, _ in info["loops"]]
         self.needs = info["needs"]
-        self.asked_at = info["asked_at"]
 
     def goal_of(self, old):
         for o, n in self.needs:
@@ -191,8 +190,8 @@ def close_of(text, at):
 
 
 class Turner:
-    def __init__(self, fn, where, params_of):
-        self.fn, self.where, self.path = fn, where, params_of
+    def __init__(self, fn, where, path):
+        self.fn, self.where, self.path = fn, where, path
         self.said = []
 
     def field(self, segs):
@@ -234,7 +233,7 @@ class Turner:
                 rest = [rest[0], names[k]] + rest[2 + k :]
         return [new] + rest
 
-    def body(self, text, root, root_place=None, goal=None):
+    def body(self, text, root):
         """A term in which `root` stands for the record of what is known."""
         alias = {root}
         # the lets that only name a place
@@ -255,14 +254,12 @@ class Turner:
             segs = [s for s in m[2].split(".") if s]
             if not segs and re.match(r"\s*=(?!=)", text[m.end() :]):
                 continue
-            bare = [s for s in segs]
+            bare = segs
             while bare and bare[0] == "before":
                 bare = bare[1:]
             out.append(text[at : m.start()])
             if bare:
                 out.append(".".join([root] + self.field(bare)))
-            elif m[1] == root and not segs and False:
-                out.append(root)
             else:
                 out.append("@@PLACE@@")
             at = m.end()
@@ -275,7 +272,8 @@ def turn_use(text):
     return [u for u in uses if not re.search(r"\.(Statement\.\{statement\}|Tie as tie)$", u)]
 
 
-def turn(path, info, params_of):
+def turn(path, info, called):
+    """Writes the files of the function `called`, as nal::buffers::finish, beside its Proof.antt. What is left is returned, a line each."""
     where = os.path.dirname(path)
     text = open(path, encoding="utf-8").read()
     fn = Function(info)
@@ -325,17 +323,9 @@ def turn(path, info, params_of):
             if mm[2].strip() == "search rules":
                 continue
             inline[new] = (mm[1].split(), mm[2])
-    t = Turner(fn, where, params_of)
+    t = Turner(fn, where, called)
     inv_out, ans_out = [], []
-    place_at = {}
-    for k, (old, new) in enumerate(needs):
-        place_at[new] = fn.asked_at[k][1]
     used_places = set()
-
-    def placed(body, goal):
-        if "@@PLACE@@" not in body:
-            return body
-        return body
 
     # helper lemmas over a place: their record's place, by name
     helper_place = {}
@@ -410,7 +400,7 @@ def turn(path, info, params_of):
                 if root != "c":
                     body = re.sub(r"(?<![^\s(){};,@«»\[\]])%s(?=[.\s)])" % re.escape(root), "c", body)
                 if g.startswith("returns"):
-                    body = as_record(body, clause_names(params_of, "ensures"))
+                    body = as_record(body, clause_names(called, "ensures"))
                 ans_out.append((comment + "\n" if comment else "") + f"pub {g} : goal.{g}\n" + "".join(u + "\n" for u in unf) + f"{g} c ={body.rstrip()}")
             continue
         # a lemma of the file
@@ -436,7 +426,7 @@ def turn(path, info, params_of):
         if names[0] != "c":
             body = re.sub(r"(?<![^\s(){};,@«»\[\]])%s(?=[.\s)])" % re.escape(names[0]), "c", body)
         if g.startswith("returns"):
-            body = as_record(body, clause_names(params_of, "ensures"))
+            body = as_record(body, clause_names(called, "ensures"))
         ans_out.append(f"pub {g} : goal.{g}\n{g} c = {body.strip()}")
     said += t.said
     # records that an invariant is of stand with it
