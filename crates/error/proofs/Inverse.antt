@@ -1,13 +1,15 @@
--- No two refusals have one number and one list of carried values: `refusal_of` has an inverse, which goes through the numbers.
--- Assumes nothing.
-use mathlib.Core.Path.{◌≡◌, refl}
+-- No two refusals have one number and one list of carried values: `refusal_of` has an inverse, which goes through the numbers. So no
+-- two results say the same. Assumes nothing.
+use mathlib.Core.Path.{◌≡◌, refl, ap}
 use mathlib.Core.Bool.{cond}
 use Prim.Native.Nat.{ℕ}
 use lib.Dec.{eqb}
 use lib.ListN.{get_or}
+use Rattle.std.specs.Prelude.{Result, Ok, Err}
 use Rattle.error.specs.declared.Error.{Error}
 use Rattle.error.specs.declared.Error.TheVariants.{ErrHeaderSizeInsufficient, ErrHeaderSizeInsufficientForExtension, ElementPastPacket, ErrShortPacket, ErrBufferTooSmall, GatherTooSmall, OverLimits, OutsideDomain, HeaderExtensionPayloadNot32BitWords, ErrRfc3550headerIdrange, ErrRfc8285oneByteHeaderIdrange, ErrRfc8285oneByteHeaderSize, ErrRfc8285twoByteHeaderIdrange, ErrRfc8285twoByteHeaderSize, ErrHeaderExtensionNotFound, ErrHeaderExtensionsNotEnabled, StapASizeLargerThanBuffer, StapASizeCut, NaluTypeIsNotHandled, OtherSource, StartAndEnd, AlreadyClosed, ClosingTooFar, MissedTotalFull, OtherTime}
 use Rattle.error.specs.Refusal.{Refusal, refusal_of}
+use Rattle.error.specs.Said.{Said, says, refused, said}
 
 -- the refusal of a number, carrying a and b where it carries any
 abbrev numbered : ℕ → ℕ → ℕ → Error
@@ -66,3 +68,12 @@ error_of_refusal_of AlreadyClosed = refl
 error_of_refusal_of ClosingTooFar = refl
 error_of_refusal_of MissedTotalFull = refl
 error_of_refusal_of OtherTime = refl
+
+-- the result that says this
+abbrev pub unsaid : {A : Type 0} → Said A → Result A Error
+unsaid (says x) = Ok x
+unsaid (refused r) = Err (error_of r)
+
+pub unsaid_said : {A : Type 0} (r : Result A Error) → unsaid (said r) ≡ r
+unsaid_said (Ok x) = refl
+unsaid_said (Err e) = ap Err (error_of_refusal_of e)

@@ -3,11 +3,12 @@
 use mathlib.Core.Path.{◌≡◌, refl, sym, ap, ◌∙◌}
 use mathlib.Core.Bool.{Bool, true, false, cond}
 use Prim.Native.Nat.{ℕ}
+use Rattle.std.specs.Prelude.{Result}
 use Rattle.error.specs.declared.Error.{Error}
 use Rattle.error.specs.Refusal.{Refusal, number_of, refusal_of}
-use Rattle.error.specs.Said.{Said, says, refused}
+use Rattle.error.specs.Said.{Said, says, refused, said}
 use Rattle.error.specs.Only.{Determined}
-use Rattle.error.proofs.Inverse.{error_of}
+use Rattle.error.proofs.Inverse.{error_of, unsaid, unsaid_said}
 
 -- the contract is an equation of the answer itself
 pub by_value {ℓ} : {A : Type ℓ} (a : A) → Determined (λ (r : A). r ≡ a)
@@ -50,6 +51,15 @@ known e = cc
 -- a refusal that is passed on
 pub passed : {A B : Type 0} {r : Refusal} → Sayable {A = A} (refused r) → Sayable {A = B} (refused r)
 passed {A} {B} {r} e = ap refused (known {A = A} {r = r} e)
+
+-- a result says again what it was taken from
+pub said_unsaid : {A : Type 0} (x : Said A) → said (unsaid x) ≡ spoken x
+said_unsaid (says x) = refl
+said_unsaid (refused r) = refl
+
+-- the contract is an equation of what the result says
+pub by_said : {A : Type 0} (x : Said A) → Sayable x → Determined (λ (r : Result A Error). said r ≡ x)
+by_said x s = by_view said unsaid unsaid_said (unsaid x) x (said_unsaid x ∙ s)
 
 -- the same of what two outcomes say
 pub tested : {L A : Type 0} (said : L → Said A) (x y : L) (b : Bool) → Sayable (said x) → Sayable (said y) → Sayable (said (cond b x y))

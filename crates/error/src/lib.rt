@@ -7,7 +7,7 @@
 ghost use Rattle.std.specs.Prelude.{◌≡◌};
 ghost use Rattle.error.specs.Refusal.{number_of};
 
-#[derive(Clone, Copy)]
+#[derive(Clone, Copy, Debug, PartialEq, Eq)]
 pub enum Error {
     // 1: under 4 bytes, or under 12 + 4 x CC
     ErrHeaderSizeInsufficient,
@@ -63,6 +63,7 @@ pub enum Error {
 
 impl Error {
     // The paper's number.
+    // Stays: the table is by the paper, `number` is the name that callers have, and a `From<Error> for u8` would be the same match.
     pub fn number(self) -> u8
         ensures { result ≡ number_of self }
     {

@@ -74,22 +74,13 @@ module _ {ℓ} {A : Type ℓ} where
       splice_one (splice xs at ys) (at + length ys) v within ∙ splice_on xs at ys (v ∷ []) (omega arith)
 
   -- a turn of a loop that copies ys
-  pub splice_more : (xs : List A) (at : ℕ) (ys : List A) (j : ℕ) (d : A) → at + length ys ≤ length xs → j < length ys →
+  splice_more : (xs : List A) (at : ℕ) (ys : List A) (j : ℕ) (d : A) → at + length ys ≤ length xs → j < length ys →
       set (splice xs at (take j ys)) (at + j) (get_or ys j d) ≡ splice xs at (take (j + 1) ys)
   splice_more xs at ys j d h hj =
       let l : length (take j ys) ≡ j = length-take-le j ys (omega arith) in
       ap (λ (k : ℕ). set (splice xs at (take j ys)) (at + k) (get_or ys j d)) (sym l)
       ∙ splice_push xs at (take j ys) (get_or ys j d) (omega arith)
       ∙ ap (splice xs at) (sym (take-suc ys j d hj) ∙ ap (λ (k : ℕ). take k ys) (sym (add-one j)))
-
-  -- a turn of a loop that fills with v
-  pub splice_same : (xs : List A) (at j : ℕ) (v : A) → at + j < length xs →
-      set (splice xs at (replicate j v)) (at + j) v ≡ splice xs at (replicate (j + 1) v)
-  splice_same xs at j v h =
-      let l : length (replicate j v) ≡ j = length-replicate j v in
-      ap (λ (k : ℕ). set (splice xs at (replicate j v)) (at + k) v) (sym l)
-      ∙ splice_push xs at (replicate j v) v (omega arith)
-      ∙ ap (splice xs at) (replicate-append-replicate j 1 v)
 
   -- what stands before a part may be counted to it
   pub splice_from : (xs : List A) (at : ℕ) (ys : List A) → at ≤ length xs → splice xs 0 (take at xs ++ ys) ≡ splice xs at ys
@@ -137,6 +128,14 @@ splice_lent {A} a k xs at ys h g =
     (append_assoc ys (drop n (take k rest)) (drop k rest) ∙ ap (λ (l : List A). ys ++ l) behind))
     ∙ sym (append_assoc (take a xs) (take at rest) (ys ++ drop (a + at + length ys) xs))
     ∙ ap (λ (l : List A). l ++ (ys ++ drop (a + at + length ys) xs)) (sym (take-add a at xs))
+
+-- a part that is lent and written whole
+pub put_whole : {A : Type 0} (at k : ℕ) (xs ys zs : List A) → ys ≡ zs → k ≡ at + length zs → put_mid at (k - at) xs ys ≡ splice xs at zs
+unfolding splice
+put_whole at k xs ys zs e h =
+    let n : k - at ≡ length zs = omega arith in
+    ap₂ (λ (l : List _) (m : ℕ). take at xs ++ (l ++ drop m (drop at xs))) e n
+    ∙ ap (λ (l : List _). take at xs ++ (zs ++ l)) (drop-drop (length zs) at xs)
 
 -- ---- what stands at a place
 

@@ -33,16 +33,10 @@ turn len size step taken left s more d =
 one_more : (n k : ℕ) → (n + 1) * k ≡ n * k + k
 one_more n k = add-mul n 1 k ∙ ap (λ (m : ℕ). n * k + m) (one-mul k)
 
-pub loop-step-init : goal.loop-step-init
-loop-step-init c = (record { times = 0; is = sym (mul-one _) }, search rules, search rules)
-
 pub loop-step-preserved : goal.loop-step-preserved
 loop-step-preserved c =
     let s = c.loop-step.invariant.0 in
     (record { times = suc s.times; is = ap (λ (k : ℕ). 2 * k) s.is ∙ sym (doubled _ s.times) }, search rules, search rules)
-
-pub loop-step-2-init : goal.loop-step-2-init
-loop-step-2-init c = (c.loop-step.invariant.0, record { whole = search rules; some = search rules; most = search rules })
 
 -- in the second loop
 small : (c : At-loop-step-2) → c.loop-step-2.taken < c.args.len
@@ -72,12 +66,3 @@ returns c =
     let quotient : (a.len - 1) / a.size ≡ at.taken =
     div-eq_of_lt-le a.size (omega (arith, at.invariant.1.whole, at.invariant.1.some)) (omega (arith, at.invariant.1.whole, at.invariant.1.most)) in
     (omega arith, omega (arith, small (goal.at.returns c).At-loop-step-2))
-
-pub overflow_mul-taken : goal.overflow_mul-taken
-overflow_mul-taken c = let s = small (goal.at.overflow_mul-taken c).At-loop-step-2 in search rules
-
-pub overflow_add-taken : goal.overflow_add-taken
-overflow_add-taken c = let s = small (goal.at.overflow_add-taken c).At-loop-step-2 in search rules
-
-pub overflow_add-result : goal.overflow_add-result
-overflow_add-result c = let s = small (goal.at.overflow_add-result c).At-loop-step-2 in search rules
