@@ -6,25 +6,23 @@ use mathlib.Core.List.{List}
 use Prim.Native.Nat.{ℕ}
 use lib.Dec.{ltb}
 use lib.ListN.{length}
+use Rattle.std.specs.Prelude.{Result, Ok, Err}
 use Rattle.error.specs.declared.Error.TheVariants.{ErrShortPacket, ErrBufferTooSmall, OutsideDomain}
 use Rattle.error.specs.declared.Error.{Error}
 use Rattle.error.specs.Refusal.{refusal_of}
-use Rattle.error.specs.Said.{refused}
+use Rattle.error.specs.Said.{refused, said}
 use Rattle.wire.specs.Packets.{joined, whole}
 use Rattle.error.specs.Only.{Determined}
-use Rattle.error.proofs.Only.{by_value, by_view}
+use Rattle.error.proofs.Only.{by_value, by_view, by_said, Sayable, either_sayable}
 use Rattle.vp8_read.specs.declared.Vp8Packet.{Vp8Packet}
-use Rattle.vp8_read.specs.declared.Vp8Read.TheVariants as read
 use Rattle.vp8_read.specs.declared.Vp8Depacketized.{Vp8Depacketized}
-use Rattle.vp8_read.specs.declared.Vp8PartitionHead.{Vp8PartitionHead}
-use Rattle.vp8_read.specs.declared.Vp8PartitionHead.TheVariants as head
 use Rattle.vp8_send.specs.declared.Vp8Payloader.{Vp8Payloader}
 use Rattle.vp8_read.specs.Read.{Stage, Reading, or_short, third, second, read_on, with_tl0, with_layers, depacketized}
 use Rattle.vp8_read.specs.ReadAnswer.{reading}
-use Rattle.vp8_read.specs.Partition.{start_bit, partition_head, said_head}
+use Rattle.vp8_read.specs.Partition.{partition_head}
 use Rattle.vp8_send.specs.Send.{packets_of, after_packets, from0, sent_all, delivered, payloaded}
 use Rattle.vp8_send.specs.SendAnswer.{refused_by, sent_by}
-use Rattle.vp8.proofs.Inverse.{depacketized_of, depacketized_of_reading, head_of, head_of_said_head, Left, sending_of, left_of, left_of_sending_of}
+use Rattle.vp8.proofs.Inverse.{depacketized_of, depacketized_of_reading, Left, sending_of, left_of, left_of_sending_of}
 
 -- some answer is seen as this value; where both cases of a test are seen so, the test is
 module _ {A S : Type 0} (view : A → S) where
@@ -39,16 +37,16 @@ module _ {A S : Type 0} (view : A → S) where
 
 test_seen : (go : Stage → Reading) → ((c : Stage) → Seen reading (go c)) → (c : Stage) → Seen reading (or_short c go)
 unfolding or_short
-test_seen go h c = seen_test reading (ltb 0 (length c.rest)) (h c) (record { packet = c.packet; read = read.Refused ErrShortPacket }, refl)
+test_seen go h c = seen_test reading (ltb 0 (length c.rest)) (h c) (record { packet = c.packet; read = Err ErrShortPacket }, refl)
 
 read_seen : (p : Vp8Packet) (s : List ℕ) → Seen reading (depacketized p s)
 unfolding depacketized read_on second third
 read_seen p s =
-    seen_test reading (ltb 65535 (length s)) (record { packet = p; read = read.Refused OutsideDomain }, refl)
-    (seen_test reading (ltb 32767 p.picture_id) (record { packet = p; read = read.Refused OutsideDomain }, refl)
-    (seen_test reading (ltb (length s) 4) (record { packet = p; read = read.Refused ErrShortPacket }, refl)
+    seen_test reading (ltb 65535 (length s)) (record { packet = p; read = Err OutsideDomain }, refl)
+    (seen_test reading (ltb 32767 p.picture_id) (record { packet = p; read = Err OutsideDomain }, refl)
+    (seen_test reading (ltb (length s) 4) (record { packet = p; read = Err ErrShortPacket }, refl)
     (test_seen _
-    (λ c. test_seen _ (λ c₁. test_seen _ (λ c₂. (record { packet = c₂.packet; read = read.Payload c₂.at }, refl)) (with_layers c₁)) (with_tl0 c)) _)))
+    (λ c. test_seen _ (λ c₁. test_seen _ (λ c₂. (record { packet = c₂.packet; read = Ok c₂.at }, refl)) (with_layers c₁)) (with_tl0 c)) _)))
 
 pub depacketize_only : (p : Vp8Packet) (s : List ℕ) → Determined (λ (r : Vp8Depacketized). reading r ≡ depacketized p s)
 depacketize_only p s =
@@ -57,14 +55,12 @@ depacketize_only p s =
 
 -- ---- the partition tests
 
-head_seen : (s : List ℕ) → Seen said_head (partition_head s)
+head_sayable : (s : List ℕ) → Sayable (partition_head s)
 unfolding partition_head
-head_seen s = seen_test said_head (ltb 65535 (length s)) (head.Refused OutsideDomain, refl) (head.Head (start_bit s), refl)
+head_sayable s = either_sayable (ltb 65535 (length s)) refl refl
 
-pub is_partition_head_only : (s : List ℕ) → Determined (λ (r : Vp8PartitionHead). said_head r ≡ partition_head s)
-is_partition_head_only s =
-    let a = head_seen s in
-    by_view said_head head_of head_of_said_head a.0 (partition_head s) a.1
+pub is_partition_head_only : (s : List ℕ) → Determined (λ (r : Result Bool Error). said r ≡ partition_head s)
+is_partition_head_only s = by_said (partition_head s) (head_sayable s)
 
 pub is_partition_tail_only : (marker : Bool) → Determined (λ (r : Bool). r ≡ marker)
 is_partition_tail_only marker = by_value marker

@@ -2,7 +2,5 @@
 // payload's descriptor read.
 #![tactic(auto)]
 
-pub use vp8_read::{
-    Vp8Depacketized, Vp8Packet, Vp8PartitionHead, Vp8Read, is_partition_head, is_partition_tail,
-};
-pub use vp8_send::{Vp8Answer, Vp8Payloaded, Vp8Payloader};
+pub use vp8_read::{Vp8Depacketized, Vp8Packet, is_partition_head, is_partition_tail};
+pub use vp8_send::{Vp8Payloaded, Vp8Payloader, Vp8Sent};

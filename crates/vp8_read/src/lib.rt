@@ -2,15 +2,17 @@
 #![tactic(auto)]
 
 ghost use Rattle.std.specs.Prelude.{◌≡◌, ◌+◌, ◌<◌, ◌≤◌, length};
+ghost use Rattle.error.specs.Said.{said};
 ghost use Rattle.vp8_read.specs.Read.{set_required, set_flags, set_tid, set_key, with_flags, with_picture_id, with_tl0, with_layers, read_on, depacketized};
 ghost use Rattle.vp8_read.specs.ReadAnswer.{stage_of, reading, keeping};
-ghost use Rattle.vp8_read.specs.Partition.{partition_head, said_head};
+ghost use Rattle.vp8_read.specs.Partition.{partition_head};
 
 use error::Error;
 
 // The fields of the descriptors read so far: a field that a packet does not have keeps its value.
+// Stays: C sees this record, so its flags are bytes.
 #[repr(C)]
-#[derive(Clone, Copy)]
+#[derive(Clone, Copy, Default)]
 pub struct Vp8Packet {
     // X: 1 where the extension octet is there
     pub x: u8,
@@ -41,24 +43,21 @@ pub struct Vp8Packet {
 }
 
 #[derive(Clone, Copy)]
-pub enum Vp8Read {
-    // where the VP8 payload begins: it is all from there on, and not empty
-    Payload(usize),
-    Refused(Error),
-}
-
-#[derive(Clone, Copy)]
 pub struct Vp8Depacketized {
     // the fields as they are now
     pub packet: Vp8Packet,
-    pub read: Vp8Read,
+    // where the VP8 payload begins: it is all from there on, and not empty
+    pub read: Result<usize, Error>,
 }
 
 // A descriptor while it is read.
+// Stays: that `at` lies within the bytes is asked for by each method and no invariant, since a reader at the end of its bytes is what `short` is for.
 #[derive(Clone, Copy)]
-struct Reader {
+struct Reader<'a> {
     // the fields so far
     packet: Vp8Packet,
+    // the packet's bytes, all of them
+    bytes: &'a [u8],
     // the place of the next byte
     at: usize,
 }
@@ -78,6 +77,7 @@ struct Reader {
 //                                    T/K: |TID|Y| KEYIDX  | (OPTIONAL)
 //                                         +-+-+-+-+-+-+-+-+
 impl Vp8Packet {
+    #[tactic(auto, unfolding(crate::specs::Read::put_required))]
     fn required(mut self, b: u8) -> Vp8Packet
         ensures { result ≡ set_required b self }
     {
@@ -88,6 +88,7 @@ impl Vp8Packet {
         self
     }
 
+    #[tactic(auto, unfolding(crate::specs::Read::put_flags))]
     fn flags(mut self, b: u8) -> Vp8Packet
         ensures { result ≡ set_flags b self }
     {
@@ -98,6 +99,7 @@ impl Vp8Packet {
         self
     }
 
+    #[tactic(auto, unfolding(crate::specs::Read::set_tid, crate::specs::Read::put_tid))]
     fn temporal(mut self, b: u8) -> Vp8Packet
         ensures { result ≡ set_tid b self }
     {
@@ -109,6 +111,7 @@ impl Vp8Packet {
         self
     }
 
+    #[tactic(auto, unfolding(crate::specs::Read::set_key, crate::specs::Read::put_key))]
     fn key(mut self, b: u8) -> Vp8Packet
         ensures { result ≡ set_key b self }
     {
@@ -121,6 +124,7 @@ impl Vp8Packet {
 
     // Reads the descriptor in front of a packet. Where it is refused at last, the fields read so
     // far are kept.
+    #[tactic(auto, using(crate::proofs::Stages::long_packet, crate::proofs::Stages::large_id, crate::proofs::Stages::under_four, crate::proofs::Stages::four_or_more))]
     pub fn depacketize(self, packet: &[u8]) -> Vp8Depacketized
         ensures { reading result ≡ depacketized self packet.now }
     {
@@ -135,9 +139,10 @@ impl Vp8Packet {
         }
         let first = Reader {
             packet: self.required(packet[0]),
+            bytes: packet,
             at: 1,
         };
-        first.flags(packet).picture_id(packet).read_on(packet)
+        first.flags().picture_id().read_on()
     }
 
     fn refused(self, error: Error) -> Vp8Depacketized
@@ -145,72 +150,79 @@ impl Vp8Packet {
     {
         Vp8Depacketized {
             packet: self,
-            read: Vp8Read::Refused(error),
+            read: Err(error),
         }
     }
 }
 
-impl Reader {
-    fn flags(self, packet: &[u8]) -> Reader
-        requires { self.at < length packet.now }
-        ensures { (stage_of result packet.now ≡ with_flags (stage_of self packet.now)) × (result.at ≤ self.at + 1) }
+impl Reader<'_> {
+    #[tactic(auto, using(crate::proofs::Stages::flags_no, crate::proofs::Stages::flags_at))]
+    fn flags(self) -> Self
+        requires { self.at < length self.bytes.now }
+        ensures stage { stage_of result ≡ with_flags (stage_of self.entry) }
+        ensures same { result.bytes ≡ self.entry.bytes }
+        ensures place { result.at ≤ self.entry.at + 1 }
     {
-        let at = self.at;
-        let fields = self.packet;
-        if fields.x != 1 {
+        if self.packet.x != 1 {
             return self;
         }
         Reader {
-            packet: fields.flags(packet[at]),
-            at: at + 1,
+            packet: self.packet.flags(self.bytes[self.at]),
+            at: self.at + 1,
+            ..self
         }
     }
 
-    fn picture_id(self, packet: &[u8]) -> Reader
-        requires { self.at + 2 ≤ length packet.now }
-        ensures { stage_of result packet.now ≡ with_picture_id (stage_of self packet.now) }
+    #[tactic(auto, using(crate::proofs::Stages::id_no, crate::proofs::Stages::id_short_at, crate::proofs::Stages::id_long_at), unfolding(crate::specs::Read::put_picture_id))]
+    fn picture_id(self) -> Self
+        requires { self.at + 2 ≤ length self.bytes.now }
+        ensures { stage_of result ≡ with_picture_id (stage_of self.entry) }
     {
-        let at = self.at;
         let mut fields = self.packet;
         if fields.i != 1 {
             return self;
         }
-        if packet[at] < 128 {
-            fields.picture_id = wire::octet16(packet[at]);
+        if self.bytes[self.at] < 128 {
+            fields.picture_id = u16::from(self.bytes[self.at]);
             return Reader {
                 packet: fields,
-                at: at + 1,
+                at: self.at + 1,
+                ..self
             };
         }
-        fields.picture_id = wire::get_u16(packet, at) % 32768;
+        fields.picture_id = wire::get_u16(self.bytes, self.at) % 32768;
         Reader {
             packet: fields,
-            at: at + 2,
+            at: self.at + 2,
+            ..self
         }
     }
 
-    fn tl0_pic_idx(self, packet: &[u8]) -> Reader
-        requires { self.at < length packet.now }
-        ensures { stage_of result packet.now ≡ with_tl0 (stage_of self packet.now) }
+    #[tactic(auto, using(crate::proofs::Stages::tl0_no, crate::proofs::Stages::tl0_at), unfolding(crate::specs::Read::put_tl0))]
+    fn tl0_pic_idx(self) -> Self
+        requires { self.at < length self.bytes.now }
+        ensures { stage_of result ≡ with_tl0 (stage_of self.entry) }
     {
-        let at = self.at;
         let mut fields = self.packet;
         if fields.l != 1 {
             return self;
         }
-        fields.tl0_pic_idx = packet[at];
+        fields.tl0_pic_idx = self.bytes[self.at];
         Reader {
             packet: fields,
-            at: at + 1,
+            at: self.at + 1,
+            ..self
         }
     }
 
-    fn layers(self, packet: &[u8]) -> Reader
-        requires { self.at < length packet.now }
-        ensures { stage_of result packet.now ≡ with_layers (stage_of self packet.now) }
+    #[tactic(auto, using(crate::proofs::Stages::layers_no, crate::proofs::Stages::layers_t_at, crate::proofs::Stages::layers_k_at))]
+    fn layers(self) -> Self
+        requires { self.at < length self.bytes.now }
+        ensures { stage_of result ≡ with_layers (stage_of self.entry) }
     {
         let at = self.at;
         let fields = self.packet;
+        // Stays: with `&&`, or a name for the byte, the record is copied, and reading takes a third longer.
         if fields.t != 1 {
             if fields.k != 1 {
                 return self;
@@ -218,58 +230,50 @@ impl Reader {
         }
         // T and K read the same byte.
         Reader {
-            packet: fields.temporal(packet[at]).key(packet[at]),
+            packet: fields.temporal(self.bytes[at]).key(self.bytes[at]),
             at: at + 1,
+            ..self
         }
     }
 
     // Behind the picture id: a byte has to be there before each of the two fields, and behind them.
-    fn read_on(self, packet: &[u8]) -> Vp8Depacketized
-        ensures { reading result ≡ read_on (stage_of self packet.now) }
+    #[tactic(auto, using(crate::proofs::Stages::left_at, crate::proofs::Stages::none_at), unfolding(crate::specs::Read::third, crate::specs::Read::second, crate::specs::Read::read_on))]
+    fn read_on(self) -> Vp8Depacketized
+        ensures { reading result ≡ read_on (stage_of self.entry) }
     {
-        if packet.len() <= self.at {
+        if self.bytes.len() <= self.at {
             return self.short();
         }
-        let second = self.tl0_pic_idx(packet);
-        if packet.len() <= second.at {
+        let second = self.tl0_pic_idx();
+        if second.bytes.len() <= second.at {
             return second.short();
         }
-        let third = second.layers(packet);
-        if packet.len() <= third.at {
+        let third = second.layers();
+        if third.bytes.len() <= third.at {
             return third.short();
         }
-        let fields = third.packet;
         Vp8Depacketized {
-            packet: fields,
-            read: Vp8Read::Payload(third.at),
+            packet: third.packet,
+            read: Ok(third.at),
         }
     }
 
     fn short(self) -> Vp8Depacketized
-        ensures { reading result ≡ keeping self.packet Error.ErrShortPacket }
+        ensures { reading result ≡ keeping self.entry.packet Error.ErrShortPacket }
     {
-        let fields = self.packet;
-        fields.refused(Error::ErrShortPacket)
+        self.packet.refused(Error::ErrShortPacket)
     }
-}
-
-#[derive(Clone, Copy)]
-pub enum Vp8PartitionHead {
-    Head(bool),
-    Refused(Error),
 }
 
 // Whether the packet begins a VP8 partition: S of its first byte.
-pub fn is_partition_head(payload: &[u8]) -> Vp8PartitionHead
-    ensures { said_head result ≡ partition_head payload.now }
+#[tactic(auto, unfolding(crate::specs::Partition::partition_head))]
+pub fn is_partition_head(payload: &[u8]) -> Result<bool, Error>
+    ensures { said result ≡ partition_head payload.now }
 {
     if 65535 < payload.len() {
-        return Vp8PartitionHead::Refused(Error::OutsideDomain);
+        return Err(Error::OutsideDomain);
     }
-    if payload.len() == 0 {
-        return Vp8PartitionHead::Head(false);
-    }
-    Vp8PartitionHead::Head(payload[0] / 16 % 2 == 1)
+    Ok(payload.first().is_some_and(|b| *b / 16 % 2 == 1))
 }
 
 // Whether the packet ends a frame: the RTP marker.

@@ -1,13 +1,13 @@
 -- A frame cut into parts: the first part and the others, how many they are, and that they make up the frame. Assumes nothing.
 use mathlib.Core.Path.{◌≡◌, refl, sym, ap, ◌∙◌}
 use mathlib.Core.Bool.{Bool, true, false}
-use mathlib.Core.List.{List, [], ◌∷◌, ◌++◌}
+use mathlib.Core.List.{List, [], ◌∷◌, ◌++◌, append-nil}
 use Prim.Native.Nat.{ℕ, zero, suc, ◌+◌, ◌-◌, ◌*◌, ◌/◌, ◌≤◌, ◌<◌, min}
-use native.Mathlib.Nat.{not-suc-le-zero, min-eq_left, min-eq_right, div-eq_of_lt, div-eq-sub-div, suc-mul}
+use native.Mathlib.Nat.{not-suc-le-zero, min-eq_left, div-eq_of_lt, div-eq-sub-div, suc-mul}
 use native.Mathlib.Decide.{dec_le}
 use native.Mathlib.Omega.{arith}
 use lib.ListN.{length, take, drop, length-append, length-drop, take-append-drop, drop_of_length-le}
-use lib.Seq.{take_all, drop-drop}
+use lib.Seq.{take_all, take_at, drop_at}
 use Rattle.wire.specs.Packets.{joined}
 use Rattle.vp8_send.specs.declared.Vp8Payloader.{Vp8Payloader}
 use Rattle.vp8_send.specs.Send.{header_size, parts_by, parts_of, headed}
@@ -28,25 +28,24 @@ parts_more (suc fuel) size (b ∷ s) h g =
     let e : fuel ≡ suc fuel - 1 = omega arith in
     ap (λ (f : ℕ). take size (b ∷ s) ∷ parts_by f size (drop size (b ∷ s))) e
 
--- the part that ends where `end_of` says, and what is behind it
-take_min : (size : ℕ) (l : List ℕ) (k : ℕ) → k ≡ min size (length l) → take k l ≡ take size l
-take_min size l k e = elim (dec_le size (length l)) [
-  | yes h ↦ ap (λ (n : ℕ). take n l) (e ∙ min-eq_left h)
-  | no h ↦ let g : length l ≤ size = omega arith in
-      ap (λ (n : ℕ). take n l) (e ∙ min-eq_right g) ∙ take_all (length l) l (omega arith) ∙ sym (take_all size l g)
+-- the next chunk is the first part, and what is left behind it are the others
+chunk : (size : ℕ) (part behind : List ℕ) → length part ≡ min size (length (part ++ behind)) →
+    (take size (part ++ behind) ≡ part) × (drop size (part ++ behind) ≡ behind)
+chunk size part behind l = elim (dec_le size (length (part ++ behind))) [
+  | yes h ↦ let whole : length part ≡ size = l ∙ min-eq_left h in (take_at part behind size whole, drop_at part behind size whole)
+  | no h ↦ last behind (omega arith) (omega (arith, l, length-append part behind))
 ]
+  where
+    last : (b : List ℕ) → length (part ++ b) ≤ size → length b ≡ 0 → (take size (part ++ b) ≡ part) × (drop size (part ++ b) ≡ b)
+    last [] short none = (take_all size (part ++ []) short ∙ append-nil part, drop_of_length-le (part ++ []) short)
+    last (x ∷ b) short none = absurd (omega arith)
 
-module _ (size from : ℕ) (frame : List ℕ) (end : ℕ) (e : end ≡ min (from + size) (length frame)) where
-  pub part_here : from ≤ length frame → take (end - from) (drop from frame) ≡ take size (drop from frame)
-  part_here h = take_min size (drop from frame) (end - from) (rw (length-drop from frame) (omega arith))
+module _ (size : ℕ) (rest part behind : List ℕ) (e : rest ≡ part ++ behind) (l : length part ≡ min size (length rest)) where
+  pub part_here : take size rest ≡ part
+  part_here = ap (take size) e ∙ (chunk size part behind (l ∙ ap (λ (r : List ℕ). min size (length r)) e)).0
 
-  pub part_behind : drop size (drop from frame) ≡ drop end frame
-  part_behind = drop-drop size from frame ∙ elim (dec_le (from + size) (length frame)) [
-    | yes h ↦ ap (λ (n : ℕ). drop n frame) (sym (e ∙ min-eq_left h))
-    | no h ↦ let g : length frame ≤ from + size = omega arith in
-        let k : length frame ≤ end = omega arith in
-        drop_of_length-le frame g ∙ sym (drop_of_length-le frame k)
-  ]
+  pub part_behind : drop size rest ≡ behind
+  part_behind = ap (drop size) e ∙ (chunk size part behind (l ∙ ap (λ (r : List ℕ). min size (length r)) e)).1
 
 -- the parts make up the frame
 pub joined_parts : (fuel size : ℕ) (s : List ℕ) → 0 < size → length s ≤ fuel → joined (parts_by fuel size s) ≡ s

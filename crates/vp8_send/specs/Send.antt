@@ -4,6 +4,7 @@ use Rattle.error.specs.Said.{Said, says, refuse}
 use Rattle.wire.specs.Net.{be16}
 use Rattle.wire.specs.Packets.{joined, Sink, whole}
 use Rattle.vp8_send.specs.declared.Vp8Payloader.{Vp8Payloader}
+use Rattle.vp8_send.specs.declared.Vp8Sent.{Vp8Sent}
 
 -- "No picture id: 1 header byte. Ids under 128: 3, else 4"
 unfoldable pub header_size : Vp8Payloader → ℕ
@@ -50,15 +51,10 @@ abbrev pub after_packets : Vp8Payloader → List (List ℕ) → Vp8Payloader
 after_packets v [] = v
 after_packets v (p ∷ ps) = advanced v
 
--- how many packets, and how many bytes in all
-pub record Sent : Type 0 where
-  pub packets : ℕ
-  pub bytes : ℕ
-
 -- the payloader for the next frame, the answer, and both buffers as they are left
 pub record Sending : Type 0 where
   pub payloader : Vp8Payloader
-  pub said : Said Sent
+  pub said : Said Vp8Sent
   pub out : List ℕ
   pub ends : List ℕ
 

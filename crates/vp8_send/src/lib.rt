@@ -19,22 +19,25 @@ pub struct Vp8Payloader {
 }
 
 #[derive(Clone, Copy)]
-pub enum Vp8Answer {
-    // how many payloads were written, and their bytes in all
-    Sent { packets: usize, bytes: usize },
-    Refused(Error),
+pub struct Vp8Sent {
+    // how many payloads were written
+    pub packets: usize,
+    // their bytes in all
+    pub bytes: usize,
 }
 
 #[derive(Clone, Copy)]
 pub struct Vp8Payloaded {
     // the payloader for the next frame
     pub payloader: Vp8Payloader,
-    pub answer: Vp8Answer,
+    pub answer: Result<Vp8Sent, Error>,
 }
 
 impl Vp8Payloader {
     // Cuts the frame into payloads of at most mtu bytes, one behind the other in out; ends says
     // where each ends.
+    // Stays: frame, output and table of ends by themselves, as the caller lends them.
+    #[tactic(auto, using(crate::proofs::Deliver::long_frame, crate::proofs::Deliver::large_mtu, crate::proofs::Deliver::large_id, crate::proofs::Deliver::in_domain))]
     pub fn payload(
         self,
         mtu: usize,
@@ -44,13 +47,7 @@ impl Vp8Payloader {
     ) -> Vp8Payloaded
         ensures { sending result out.new ends.new ≡ payloaded self mtu frame.now out.old ends.old }
     {
-        if 16777216 < frame.len() {
-            return self.refused(Error::OutsideDomain);
-        }
-        if 65535 < mtu {
-            return self.refused(Error::OutsideDomain);
-        }
-        if 32767 < self.picture_id {
+        if 16777216 < frame.len() || 65535 < mtu || 32767 < self.picture_id {
             return self.refused(Error::OutsideDomain);
         }
         self.deliver(mtu, frame, out, ends)
@@ -62,18 +59,12 @@ impl Vp8Payloader {
         ensures { sending result out.new ends.new ≡ delivered self (packets_of self mtu frame.now) out.old ends.old }
     {
         let header = self.header_size();
-        if frame.len() == 0 {
-            return self.sent(0, 0);
-        }
-        if mtu <= header {
+        if frame.is_empty() || mtu <= header {
             return self.sent(0, 0);
         }
         let size = mtu - header;
         let packets = parts::count(frame.len(), size);
-        if out.len() < frame.len() + packets * header {
-            return self.refused(Error::ErrBufferTooSmall);
-        }
-        if ends.len() < packets {
+        if out.len() < frame.len() + packets * header || ends.len() < packets {
             return self.refused(Error::ErrBufferTooSmall);
         }
         self.write(size, frame, out, ends)
@@ -84,7 +75,7 @@ impl Vp8Payloader {
     {
         Vp8Payloaded {
             payloader: self,
-            answer: Vp8Answer::Refused(error),
+            answer: Err(error),
         }
     }
 
@@ -93,11 +84,12 @@ impl Vp8Payloader {
     {
         Vp8Payloaded {
             payloader: self,
-            answer: Vp8Answer::Sent { packets, bytes },
+            answer: Ok(Vp8Sent { packets, bytes }),
         }
     }
 
     // After 0x7FFF comes 0.
+    #[tactic(auto, unfolding(crate::specs::Send::advanced))]
     fn next(mut self) -> Vp8Payloader
         requires { self.picture_id ≤ 32767 }
         ensures { result ≡ advanced self }
@@ -119,21 +111,20 @@ impl Vp8Payloader {
     }
 
     // Writes all payloads, each size bytes of the frame, the last perhaps fewer.
+    // Stays: an id of 15 bits is asked for by each method, and no type of its own: the record is C's, and holds any number.
     fn write(self, size: usize, frame: &[u8], out: &mut [u8], ends: &mut [usize]) -> Vp8Payloaded
         requires { ToWrite self size frame.now out.old ends.old }
         ensures { sending result out.new ends.new ≡ sent_all self (headed self true (parts_of size frame.now)) out.old ends.old }
     {
-        let mut start = true;
-        let mut from = 0;
-        let mut at = 0;
+        // Stays: n is what the answer counts, and that it is what `deliver` counted before is another proof.
         let mut n = 0;
-        while from < frame.len() {
-            let end = end_of(from, size, frame.len());
-            at = self.put(start, &frame[from..end], out, at);
+        let mut start = true;
+        let mut at = 0;
+        for part in frame.chunks(size) {
+            at = self.put(start, part, out, at);
             ends[n] = at;
             n += 1;
             start = false;
-            from = end;
         }
         self.next().sent(n, at)
     }
@@ -182,19 +173,9 @@ impl Vp8Payloader {
     }
 }
 
+// Stays: whether a part is the first is told by where it lies, here and above, and no choice of the caller.
 fn start_octet(start: bool) -> u8
     ensures { (result ≡ start_octet start) × (result ≤ 16) }
 {
     if start { 16 } else { 0 }
-}
-
-// Where the part of size bytes from a place on ends.
-fn end_of(from: usize, size: usize, len: usize) -> usize
-    requires { from ≤ len }
-    ensures { result ≡ min (from + size) len }
-{
-    if size < len - from {
-        return from + size;
-    }
-    len
 }

@@ -4,12 +4,13 @@ use mathlib.Core.List.{List, []}
 use Prim.Native.Nat.{ℕ, ◌<◌}
 use native.Mathlib.Omega.{arith}
 use lib.ListN.{length}
+use borrow.Author.Rules.{rules}
 use Rattle.vp8_send.specs.declared.Vp8Payloaded.{Vp8Payloaded}
 use Rattle.vp8_send.specs.Send.{sent_all, delivered, packets_of}
 use Rattle.vp8_send.specs.SendAnswer.{sent_by, sending}
 use Rattle.vp8_send.proofs.Deliver.{empty_frame, small_mtu, deliver_none, no_room_out, no_room_ends, has_room, Measured, measured, room}
 use Rattle.vp8_send.proofs.Vp8Payloader.deliver.Goals as goal
-use Rattle.vp8_send.proofs.Vp8Payloader.deliver.Goals.{After-count-packets, Start}
+use Rattle.vp8_send.proofs.Vp8Payloader.deliver.Goals.{After-count-packets, Start, then-is_empty-via-then-is_empty, then-is_empty-via-else-is_empty+then-mtu-header, then-out-frame-via-then-out-frame, then-out-frame-via-else-out-frame+then-ends-packets}
 
 -- no packets: the answer of nothing
 none : (c : Start) (r : Vp8Payloaded) → packets_of c.args.self c.args.mtu c.args.frame.now ≡ [] →
@@ -21,47 +22,38 @@ none c r e q =
     ∙ sym (ap (λ (ps : List (List ℕ)). delivered c.args.self ps c.args.out.now c.args.ends.now) e
     ∙ deliver_none c.args.self c.args.out.now c.args.ends.now)
 
-pub returns-then-frame-eq0 : goal.returns-then-frame-eq0
-returns-then-frame-eq0 c =
-    none (goal.at.returns-then-frame-eq0 c).Start _ (empty_frame _ _ _ c.if-frame-eq0.true) c.sent.ensures
-
-pub returns-then-mtu-header : goal.returns-then-mtu-header
-returns-then-mtu-header c =
-    let h = c.header_size-header.ensures in
-    none (goal.at.returns-then-mtu-header c).Start _ (small_mtu _ _ _ (omega (arith, h, c.if-mtu-header.true))) c.sent-then-mtu-header.ensures
+pub returns-then-is_empty : goal.returns-then-is_empty
+returns-then-is_empty c =
+    let nothing : packets_of c.args.self c.args.mtu c.args.frame.now ≡ [] =
+    elim c.then-is_empty.branch [
+      | then-is_empty-via-then-is_empty w ↦ empty_frame _ _ _ (search rules)
+      | then-is_empty-via-else-is_empty+then-mtu-header w ↦ small_mtu _ _ _ (omega (arith, c.header_size-header.ensures, w.if-mtu-header.true))
+    ] in
+    none (goal.at.returns-then-is_empty c).Start _ nothing c.sent.ensures
 
 -- the packets, counted
 counted : (c : After-count-packets) → Measured c.args.self c.args.mtu c.args.frame.now c.header_size-header.result c.count-packets.result
 counted c =
-    let some : 0 < length c.args.frame.now = omega (arith, c.if-frame-eq0.false) in
+    let some : 0 < length c.args.frame.now = search rules in
     measured _ _ _ _ _ c.header_size-header.ensures c.count-packets.ensures.0 c.if-mtu-header.false some c.requires.frames
-
-pub overflow_mul-packets : goal.overflow_mul-packets
-overflow_mul-packets c = let m = counted (goal.at.overflow_mul-packets c).After-count-packets in omega (arith, m.small)
-
-pub overflow_add-frame : goal.overflow_add-frame
-overflow_add-frame c = let m = counted (goal.at.overflow_add-frame c).After-count-packets in omega (arith, m.small, c.requires.frames)
 
 pub returns-then-out-frame : goal.returns-then-out-frame
 returns-then-out-frame c =
     let m = counted (goal.at.returns-then-out-frame c).After-count-packets in
     let start = c.args in
     ap (λ (r : Vp8Payloaded). sending r start.out.now start.ends.now) c.refused.ensures
-    ∙ sym (no_room_out _ _ _ _ (omega (arith, m.bytes, c.if-out-frame.true)))
-
-pub returns-then-ends-packets : goal.returns-then-ends-packets
-returns-then-ends-packets c =
-    let m = counted (goal.at.returns-then-ends-packets c).After-count-packets in
-    let start = c.args in
-    ap (λ (r : Vp8Payloaded). sending r start.out.now start.ends.now) c.refused-then-ends-packets.ensures
-    ∙ sym (no_room_ends _ _ _ _ (omega (arith, m.bytes, c.if-out-frame.false)) (omega (arith, m.count, c.if-ends-packets.true)))
+    ∙ sym (elim c.then-out-frame.branch [
+      | then-out-frame-via-then-out-frame w ↦ no_room_out _ _ _ _ (omega (arith, m.bytes, w.if-out-frame.true))
+      | then-out-frame-via-else-out-frame+then-ends-packets w ↦
+          no_room_ends _ _ _ _ (omega (arith, m.bytes, w.if-out-frame.false)) (omega (arith, m.count, w.if-ends-packets.true))
+    ])
 
 pub write-requires : goal.write-requires
 write-requires c =
     record {
       id = c.requires.ids;
       positive = omega (arith, c.if-mtu-header.false);
-      some = omega (arith, c.if-frame-eq0.false);
+      some = search rules;
       room = room _ _ _ _ _ _ _ (counted (goal.at.write-requires c).After-count-packets) c.if-out-frame.false c.if-ends-packets.false;
     }
 

@@ -71,9 +71,6 @@ put_u16-requires c =
       length15 c.args.self c.args.start (not-false _ c.if-not-self.false) c.if-self-lt128.false,
     ))
 
-pub shape_of-out : goal.shape_of-out
-shape_of-out c = c.put_u16.auto.s ∙ simp length-set
-
 pub returns : goal.returns
 returns c =
     let v = c.args.self in
