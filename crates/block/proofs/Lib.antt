@@ -1,1 +1,1 @@
-pub mod Form
+pub mod Forms

@@ -1,9 +1,7 @@
 -- How a profile lays its elements out, and how long they are with their heads. Assumes nothing.
 use Rattle.std.specs.Prelude.{cond, ℕ, ◌+◌, ◌*◌, ◌/◌, leb, eqb}
-
--- how a profile lays its elements out
-pub data Form : Type 0 where
-  one_byte two_byte other : Form
+use Rattle.block.specs.declared.Form.{Form}
+use Rattle.block.specs.declared.Form.TheVariants.{OneByte as one_byte, TwoByte as two_byte, Other as other}
 
 -- "Profile 0xBEDE", "Profile 0x1000", "Other profiles"
 abbrev pub form_of : ℕ → Form

@@ -3,6 +3,7 @@ ghost use Rattle.std.specs.Prelude.{◌≡◌, ◌≤◌};
 ghost use Rattle.block.specs.Padding.{grown, resized};
 
 // The block grew by n.
+// Stays: the record that C sees holds any number, so each call asks for one in the domain; so in this file.
 pub fn grow(padding: usize, n: usize) -> usize
     requires { padding ≤ 262140 }
     ensures { result ≡ grown padding n }

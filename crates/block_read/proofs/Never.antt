@@ -18,7 +18,8 @@ use lib.Dec.{ltb}
 use lib.ListN.{length}
 use borrow.Author.Tests.{le-ltb}
 use Rattle.error.specs.Said.{Said, refuse}
-use Rattle.block.specs.Form.{Form, one_byte, two_byte, other}
+use Rattle.block.specs.declared.Form.{Form}
+use Rattle.block.specs.declared.Form.TheVariants.{OneByte as one_byte, TwoByte as two_byte, Other as other}
 use Rattle.block_read.specs.Read.{Block, whole_block, read_block, block_at}
 
 -- the Rust's reading of the block that begins at `at` and has `len` bytes: of another profile with the second test

@@ -284,19 +284,17 @@ whole_block_lem s start len fits =
 
 -- the answer at a place where the block ends
 pub seen_at : (s : List ℕ) (end at : ℕ) (es : List Element) (pads : ℕ) → at ≤ length s →
-    block_seen (length s) (says (block_now s end at es pads)) ≡ record { answer = says at; count = length es; pads = pads }
-seen_at s end at es pads h i =
-    record { answer = says (place i); count = length es; pads = pads }
-  where
-    place : length s - length (drop at s) ≡ at
-    place = rw (length-drop at s) (omega arith)
+    block_seen (length s) (says (block_now s end at es pads)) ≡ says (record { place = at; count = length es; padding = pads })
+seen_at s end at es pads h =
+    let place : length s - length (drop at s) ≡ at = rw (length-drop at s) (omega arith) in
+    ap (λ (k : ℕ). says (record { place = k; count = length es; padding = pads })) place
 
 -- the answer where the block ends at `at`, behind as many elements as were counted
 pub seen_here : (s : List ℕ) (two : Bool) (end : ℕ) (goal : Said Block) (at count used pads : ℕ) (i : Seeing s two end goal at count used pads)
     (k : ℕ) → goal ≡ says (block_now s end k i.es pads) → k ≤ length s →
-    record { answer = says k; count = count; pads = pads } ≡ block_seen (length s) goal
+    says (record { place = k; count = count; padding = pads }) ≡ block_seen (length s) goal
 seen_here s two end goal at count used pads i k e inside =
     sym
     (ap (block_seen (length s)) e
     ∙ seen_at s end k i.es pads inside
-    ∙ ap (λ (n : ℕ). record { answer = says k; count = n; pads = pads }) i.counts)
+    ∙ ap (λ (n : ℕ). says (record { place = k; count = n; padding = pads })) i.counts)

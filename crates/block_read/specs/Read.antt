@@ -3,7 +3,8 @@ use Rattle.std.specs.Prelude.{Bool, true, false, cond, List, [], ◌∷◌, ◌+
 use Rattle.error.specs.Said.{Said, says, refuse}
 use Rattle.wire.specs.Turns.{Turn, more, done, run}
 use Rattle.elements.specs.Elements.{Element, room_for}
-use Rattle.block.specs.Form.{Form, one_byte, two_byte, other}
+use Rattle.block.specs.declared.Form.{Form}
+use Rattle.block.specs.declared.Form.TheVariants.{OneByte as one_byte, TwoByte as two_byte, Other as other}
 
 -- ---- the elements of a block
 

@@ -1,12 +1,9 @@
 -- What the functions of src/lib.rt answer, in the paper's numbers and values. Assumes nothing.
 use Rattle.std.specs.Prelude.{◌≡◌, List, [], ℕ, ◌-◌, length}
-use Rattle.error.specs.Refusal.{refusal_of}
 use Rattle.error.specs.Said.{Said, says, refused}
 use Rattle.elements.specs.Elements.{Element, lay_elements}
 use Rattle.block_read.specs.declared.Next.{Next}
 use Rattle.block_read.specs.declared.Next.TheVariants as next
-use Rattle.block_read.specs.declared.Ending.{Ending}
-use Rattle.block_read.specs.declared.Ending.TheVariants as ending
 use Rattle.block_read.specs.declared.Seen.{Seen}
 use Rattle.block_read.specs.Read.{Item, pad, stop, past, element, Block}
 
@@ -16,24 +13,10 @@ item_of next.Stop = stop
 item_of next.Past = past
 item_of (next.Element head id len) = element head id len
 
--- "A refusal returns its number"
-abbrev pub said_ending : Ending → Said ℕ
-said_ending (ending.Payload place) = says place
-said_ending (ending.Refused e) = refused (refusal_of e)
-
--- the answer, and what stands beside it
-pub record BlockSeen : Type 0 where
-  pub answer : Said ℕ
-  pub count : ℕ
-  pub pads : ℕ
-
-abbrev pub heard_seen : Seen → BlockSeen
-heard_seen b = record { answer = said_ending b.ending; count = b.count; pads = b.padding }
-
--- the payload's place in a packet of `n` bytes
-abbrev pub block_seen : ℕ → Said Block → BlockSeen
-block_seen n (says b) = record { answer = says (n - length b.rest); count = length b.elements; pads = b.pads }
-block_seen n (refused r) = record { answer = refused r; count = 0; pads = 0 }
+-- what is seen of a block: the payload's place in a packet of `n` bytes, and how many elements and zeros there are
+abbrev pub block_seen : ℕ → Said Block → Said Seen
+block_seen n (says b) = says (record { place = n - length b.rest; count = length b.elements; padding = b.pads })
+block_seen n (refused r) = refused r
 
 -- ---- filling
 

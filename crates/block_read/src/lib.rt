@@ -3,30 +3,22 @@
 // Only proved code calls this crate, so its function may ask that the block lies in the packet.
 #![tactic(auto)]
 
-ghost use Rattle.std.specs.Prelude.{◌≡◌, [], ◌+◌, ◌<◌, ◌≤◌, length, drop};
-ghost use Rattle.error.specs.Refusal.{refusal_of};
-ghost use Rattle.error.specs.Said.{says, refused};
-ghost use Rattle.block.specs.Form.{form_of};
-ghost use Rattle.block_read.specs.Read.{one_byte_item, two_byte_item, items_by, items, read_block, block_at};
-ghost use Rattle.block_read.specs.Said.{item_of, heard_seen, block_seen, Answers, elements_read, Laid};
+ghost use Rattle.std.specs.Prelude.{◌≡◌, Bool, true, false, [], ◌+◌, ◌<◌, ◌≤◌, length, drop};
+ghost use Rattle.error.specs.Said.{said};
+ghost use Rattle.block_read.specs.Read.{items_by, items, read_block, block_at};
+ghost use Rattle.block_read.specs.Said.{item_of, block_seen, Answers, elements_read, Laid};
 
-use block::{EXTENSION_ID_RESERVED, EXTENSION_PROFILE_ONE_BYTE, EXTENSION_PROFILE_TWO_BYTE};
+use block::{EXTENSION_ID_RESERVED, Form};
 use error::Error;
-
-// Where the payload begins behind a block that was read.
-#[derive(Clone, Copy)]
-pub enum Ending {
-    Payload(usize),
-    Refused(Error),
-}
 
 // A block before anything of it is kept.
 #[derive(Clone, Copy)]
 pub struct Seen {
-    pub ending: Ending,
-    // how many elements there are; 0 beside a refusal
+    // where the payload begins behind it
+    pub place: usize,
+    // how many elements there are: 0 to 32
     pub count: usize,
-    // how many zeros there were; 0 beside a refusal
+    // how many zeros there were
     pub padding: usize,
 }
 
@@ -39,6 +31,21 @@ enum Next {
     Element { head: usize, id: u8, len: usize },
 }
 
+// How RFC 8285 lays out the elements of a profile.
+trait Layout {
+    // whether it is the two-byte one
+    ghost two: { Bool };
+
+    // What stands at a place of the packet.
+    fn next(packet: &[u8], at: usize) -> Next
+        requires { at < length packet.now }
+        ensures { item_of result ≡ items_by two (drop at packet.now) };
+}
+
+struct OneByte;
+
+struct TwoByte;
+
 // RFC 8285, section 4.2:
 //
 //  0
@@ -46,23 +53,24 @@ enum Next {
 // +-+-+-+-+-+-+-+-+
 // |  ID   |  len  |
 // +-+-+-+-+-+-+-+-+
-fn one_byte(packet: &[u8], at: usize) -> Next
-    requires { at < length packet.now }
-    ensures { item_of result ≡ one_byte_item (drop at packet.now) }
-{
-    let b = packet[at];
-    if b == 0 {
-        return Next::Pad;
+impl Layout for OneByte {
+    ghost two = { false };
+
+    fn next(packet: &[u8], at: usize) -> Next {
+        let b = packet[at];
+        if b == 0 {
+            return Next::Pad;
+        }
+        let id = b / 16;
+        if id == EXTENSION_ID_RESERVED {
+            return Next::Stop;
+        }
+        let len = usize::from(b % 16) + 1;
+        if packet.len() - (at + 1) < len {
+            return Next::Past;
+        }
+        Next::Element { head: 1, id, len }
     }
-    let id = b / 16;
-    if id == EXTENSION_ID_RESERVED {
-        return Next::Stop;
-    }
-    let len = wire::wide(b % 16) + 1;
-    if packet.len() - (at + 1) < len {
-        return Next::Past;
-    }
-    Next::Element { head: 1, id, len }
 }
 
 // RFC 8285, section 4.3:
@@ -72,60 +80,31 @@ fn one_byte(packet: &[u8], at: usize) -> Next
 // +-+-+-+-+-+-+-+-+-+-+-+-+-+-+-+-+
 // |       ID      |     length    |
 // +-+-+-+-+-+-+-+-+-+-+-+-+-+-+-+-+
-fn two_byte(packet: &[u8], at: usize) -> Next
-    requires { at < length packet.now }
-    ensures { item_of result ≡ two_byte_item (drop at packet.now) }
-{
-    let id = packet[at];
-    if id == 0 {
-        return Next::Pad;
-    }
-    if packet.len() <= at + 1 {
-        return Next::Past;
-    }
-    let len = wire::wide(packet[at + 1]);
-    if packet.len() - (at + 2) < len {
-        return Next::Past;
-    }
-    Next::Element { head: 2, id, len }
-}
+impl Layout for TwoByte {
+    ghost two = { true };
 
-fn next_at(packet: &[u8], at: usize, two: bool) -> Next
-    requires { at < length packet.now }
-    ensures { item_of result ≡ items_by two (drop at packet.now) }
-{
-    if two {
-        two_byte(packet, at)
-    } else {
-        one_byte(packet, at)
+    fn next(packet: &[u8], at: usize) -> Next {
+        let id = packet[at];
+        if id == 0 {
+            return Next::Pad;
+        }
+        if packet.len() <= at + 1 {
+            return Next::Past;
+        }
+        let len = usize::from(packet[at + 1]);
+        if packet.len() - (at + 2) < len {
+            return Next::Past;
+        }
+        Next::Element { head: 2, id, len }
     }
 }
 
-fn refused_block(e: Error) -> Seen
-    ensures { heard_seen result ≡ block_seen 0 (refused (refusal_of e)) }
-{
-    Seen {
-        ending: Ending::Refused(e),
-        count: 0,
-        padding: 0,
-    }
-}
-
-// The payload begins at `place`.
-fn ended(place: usize, count: usize, padding: usize) -> Seen
-    ensures { heard_seen result ≡ record { answer = says place; count = count; pads = padding } }
-{
-    Seen {
-        ending: Ending::Payload(place),
-        count,
-        padding,
-    }
-}
-
+// Stays: a block is said by where it lies in the packet, here and below, and not by its bytes: an element may run past its end.
 // The elements of a block of `len` bytes. An element may run past the block: `at` then lies behind its end.
-fn see_items(packet: &[u8], start: usize, len: usize, two: bool) -> Seen
+// Stays: a loop, since each element says where the next one begins, and one may lie past the block; what is counted is no index.
+fn see_items<L: Layout>(packet: &[u8], start: usize, len: usize) -> Result<Seen, Error>
     requires { start + len ≤ length packet.now }
-    ensures { heard_seen result ≡ block_seen (length packet.now) (items (items_by two) (block_at packet.now start len)) }
+    ensures { said result ≡ block_seen (length packet.now) (items (items_by L.two) (block_at packet.now start len)) }
 {
     let end = start + len;
     let mut at = start;
@@ -133,28 +112,26 @@ fn see_items(packet: &[u8], start: usize, len: usize, two: bool) -> Seen
     let mut used = 0;
     let mut padding = 0;
     while at < end {
-        let next = next_at(packet, at, two);
-        match next {
+        match L::next(packet, at) {
             Next::Pad => {
                 at += 1;
                 padding += 1;
             }
             Next::Stop => {
-                return ended(at + 1, count, padding);
+                return Ok(Seen {
+                    place: at + 1,
+                    count,
+                    padding,
+                });
             }
-            Next::Past => {
-                return refused_block(Error::ElementPastPacket);
-            }
+            Next::Past => return Err(Error::ElementPastPacket),
             Next::Element {
                 head,
                 id: _,
                 len: n,
             } => {
-                if 32 < count + 1 {
-                    return refused_block(Error::OverLimits);
-                }
-                if 1024 < used + n {
-                    return refused_block(Error::OverLimits);
+                if 32 < count + 1 || 1024 < used + n {
+                    return Err(Error::OverLimits);
                 }
                 count += 1;
                 used += n;
@@ -162,54 +139,57 @@ fn see_items(packet: &[u8], start: usize, len: usize, two: bool) -> Seen
             }
         }
     }
-    ended(at, count, padding)
+    Ok(Seen {
+        place: at,
+        count,
+        padding,
+    })
 }
 
 // What a block holds and where the payload begins behind it.
-pub fn see_block(packet: &[u8], start: usize, len: usize, profile: u16) -> Seen
+pub fn see_block(packet: &[u8], start: usize, len: usize, form: Form) -> Result<Seen, Error>
     requires { start + len ≤ length packet.now }
-    ensures { heard_seen result ≡ block_seen (length packet.now) (read_block (form_of profile) (block_at packet.now start len)) }
+    ensures { said result ≡ block_seen (length packet.now) (read_block form (block_at packet.now start len)) }
 {
-    if profile == EXTENSION_PROFILE_ONE_BYTE {
-        return see_items(packet, start, len, false);
+    match form {
+        Form::OneByte => see_items::<OneByte>(packet, start, len),
+        Form::TwoByte => see_items::<TwoByte>(packet, start, len),
+        Form::Other => {
+            if 1024 < len {
+                return Err(Error::OverLimits);
+            }
+            Ok(Seen {
+                place: start + len,
+                count: 1,
+                padding: 0,
+            })
+        }
     }
-    if profile == EXTENSION_PROFILE_TWO_BYTE {
-        return see_items(packet, start, len, true);
-    }
-    if 1024 < len {
-        return refused_block(Error::OverLimits);
-    }
-    ended(start + len, 1, 0)
 }
 
 // The elements of a block that was seen, into the arrays of a record, which are zeros before.
-fn fill_items(
+// Stays: a loop, as in `see_items`; and arrays that C lends each by itself, so in all that fills them.
+fn fill_items<L: Layout>(
     packet: &[u8],
     start: usize,
     len: usize,
-    two: bool,
     ids: &mut [u8; 32],
     lens: &mut [u16; 32],
     bytes: &mut [u8; 1024],
 )
     requires len_in_bounds { start + len ≤ length packet.now }
-    requires answers { Answers (items (items_by two) (block_at packet.now start len)) }
+    requires answers { Answers (items (items_by L.two) (block_at packet.now start len)) }
     requires laid { Laid [] ids.old lens.old bytes.old }
-    ensures { Laid (elements_read (items (items_by two) (block_at packet.now start len))) ids.new lens.new bytes.new }
+    ensures { Laid (elements_read (items (items_by L.two) (block_at packet.now start len))) ids.new lens.new bytes.new }
 {
     let end = start + len;
     let mut at = start;
     let mut count = 0;
     let mut used = 0;
     while at < end {
-        let next = next_at(packet, at, two);
-        match next {
-            Next::Pad => {
-                at += 1;
-            }
-            Next::Stop | Next::Past => {
-                return;
-            }
+        match L::next(packet, at) {
+            Next::Pad => at += 1,
+            Next::Stop | Next::Past => return,
             Next::Element { head, id, len: n } => {
                 let from = at + head;
                 ids[count] = id;
@@ -227,25 +207,23 @@ pub fn fill_block(
     packet: &[u8],
     start: usize,
     len: usize,
-    profile: u16,
+    form: Form,
     ids: &mut [u8; 32],
     lens: &mut [u16; 32],
     bytes: &mut [u8; 1024],
 )
     requires len_in_bounds { start + len ≤ length packet.now }
-    requires answers { Answers (read_block (form_of profile) (block_at packet.now start len)) }
+    requires answers { Answers (read_block form (block_at packet.now start len)) }
     requires laid { Laid [] ids.old lens.old bytes.old }
-    ensures { Laid (elements_read (read_block (form_of profile) (block_at packet.now start len))) ids.new lens.new bytes.new }
+    ensures { Laid (elements_read (read_block form (block_at packet.now start len))) ids.new lens.new bytes.new }
 {
-    if profile == EXTENSION_PROFILE_ONE_BYTE {
-        fill_items(packet, start, len, false, ids, lens, bytes);
-        return;
+    match form {
+        Form::OneByte => fill_items::<OneByte>(packet, start, len, ids, lens, bytes),
+        Form::TwoByte => fill_items::<TwoByte>(packet, start, len, ids, lens, bytes),
+        Form::Other => {
+            ids[0] = 0;
+            lens[0] = len as u16;
+            wire::copy_at(&packet[start..start + len], bytes, 0);
+        }
     }
-    if profile == EXTENSION_PROFILE_TWO_BYTE {
-        fill_items(packet, start, len, true, ids, lens, bytes);
-        return;
-    }
-    ids[0] = 0;
-    lens[0] = len as u16;
-    wire::copy_at(&packet[start..start + len], bytes, 0);
 }

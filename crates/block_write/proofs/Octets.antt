@@ -1,17 +1,20 @@
 -- How many octets a block has, and that the tests on a record's arrays are those on its elements. Assumes nothing.
-use mathlib.Core.Path.{◌≡◌, refl, ap, ap₂, ◌∙◌}
-use mathlib.Core.Bool.{Bool, true, false, cond, ◌&&◌, false≢true}
+use mathlib.Core.Path.{◌≡◌, refl, ap₂, ◌∙◌}
+use mathlib.Core.Bool.{Bool, true, false, ◌&&◌}
 use mathlib.Core.List.{List, [], ◌∷◌, ◌++◌}
 use Prim.Native.Nat.{ℕ, suc, ◌+◌, ◌-◌, ◌*◌, ◌≤◌}
 use native.Mathlib.Nat.{zero-mul, suc-mul}
 use native.Mathlib.Omega.{arith}
 use lib.ListN.{length, take, replicate, length-append, length-replicate, drop, length-drop}
 use lib.Seq.{length-take-le}
+use Rattle.std.specs.Prelude.{Some, None}
 use Rattle.wire.specs.Net.{be16}
 use Rattle.wire.proofs.Net.{length_be16}
 use Rattle.elements.specs.Elements.{Element, data_of, sum, Packed, elements_in, unpack}
 use Rattle.elements.proofs.Packed.{length_elements_in, length_data_in, as_many}
-use Rattle.block.specs.Form.{Form, one_byte, two_byte, other, form_of, per_element, length_for, words_for}
+use Rattle.block.specs.declared.Form.{Form}
+use Rattle.block.specs.declared.Form.TheVariants.{OneByte as one_byte, TwoByte as two_byte, Other as other}
+use Rattle.block.specs.Form.{form_of, per_element, length_for, words_for}
 use Rattle.block_write.specs.Write.{element_octets, block_octets, extension_for, fits, all_fit, all_writable, weight}
 
 pub length_element_octets : (form : Form) (e : Element) → length (element_octets form e) ≡ length e.bytes + per_element form
@@ -46,12 +49,6 @@ length_block_in profile count ids lens bytes p =
     length_block_octets (form_of profile) (elements_in count ids lens bytes)
     ∙ ap₂ (length_for profile) (length_elements_in count ids lens bytes p) (length_data_in count ids lens bytes p)
 
--- ---- the tests of the domain
-
-pub both : (a b : Bool) → (a && b) ≡ true → (a ≡ true) × (b ≡ true)
-both true b e = (refl, e)
-both false b e = absurd (false≢true e)
-
 -- ---- the domain
 
 fit_unpack : (form : Form) (ids lens bytes : List ℕ) → length ids ≡ length lens → sum lens ≤ length bytes →
@@ -69,16 +66,15 @@ all_writable_fit form count ids lens bytes p =
 
 -- ---- the weight of the elements
 
-pub weight_fit : (form : Form) (ids lens : List ℕ) → all_fit form ids lens ≡ true → weight form ids lens ≡ sum lens
+pub weighed : (form : Form) (ids lens : List ℕ) (n : ℕ) → Some n ≡ weight form ids lens → (all_fit form ids lens ≡ true) × (n ≡ sum lens)
 unfolding weight
-weight_fit form ids lens e = ap (λ (b : Bool). cond b (sum lens) 1025) e
-
--- what a record could hold is the sum, and all fit
-pub weight_within : (form : Form) (ids lens : List ℕ) → weight form ids lens ≤ 1024 →
-    (all_fit form ids lens ≡ true) × (weight form ids lens ≡ sum lens)
-unfolding weight
-weight_within form ids lens h = go (all_fit form ids lens) refl
+weighed form ids lens n e = go (all_fit form ids lens) refl
   where
-    go : (b : Bool) → all_fit form ids lens ≡ b → (all_fit form ids lens ≡ true) × (weight form ids lens ≡ sum lens)
-    go true e = (e, weight_fit form ids lens e)
-    go false e = absurd (omega (arith, ap (λ (b : Bool). cond b (sum lens) 1025) e))
+    go : (b : Bool) → all_fit form ids lens ≡ b → (all_fit form ids lens ≡ true) × (n ≡ sum lens)
+    go true q = let all : Some n ≡ Some (sum lens) = rw q at e in (q, cc)
+    go false q = let none : Some n ≡ None = rw q at e in absurd (cc)
+
+-- where there is none, not all can be written
+pub unweighed : (form : Form) (ids lens : List ℕ) → None ≡ weight form ids lens → all_fit form ids lens ≡ true → ⊥
+unfolding weight
+unweighed form ids lens e q = let some : None ≡ Some (sum lens) = rw q at e in absurd (cc)

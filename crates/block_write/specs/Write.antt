@@ -1,8 +1,10 @@
 -- The octets of a block of elements, and which elements can be written. Assumes nothing.
-use Rattle.std.specs.Prelude.{Bool, true, cond, ◌&&◌, List, [], ◌∷◌, ◌++◌, ℕ, ◌+◌, ◌-◌, ◌*◌, leb, length, replicate}
+use Rattle.std.specs.Prelude.{Bool, true, cond, Option, Some, None, ◌&&◌, List, [], ◌∷◌, ◌++◌, ℕ, ◌+◌, ◌-◌, ◌*◌, leb, length, replicate}
 use Rattle.wire.specs.Net.{be16}
 use Rattle.elements.specs.Elements.{Element, sum}
-use Rattle.block.specs.Form.{Form, one_byte, two_byte, other, form_of, words_for}
+use Rattle.block.specs.declared.Form.{Form}
+use Rattle.block.specs.declared.Form.TheVariants.{OneByte as one_byte, TwoByte as two_byte, Other as other}
+use Rattle.block.specs.Form.{form_of, words_for}
 
 -- ---- the octets
 
@@ -43,6 +45,6 @@ all_fit form [] lens = true
 all_fit form (i ∷ ids) [] = true
 all_fit form (i ∷ ids) (l ∷ lens) = fits form i l && all_fit form ids lens
 
--- the sum of the lengths where all can be written, else one more than the 1,024 data bytes of a record: both are 8
-unfoldable pub weight : Form → List ℕ → List ℕ → ℕ
-weight form ids lens = cond (all_fit form ids lens) (sum lens) 1025
+-- the sum of the lengths where all can be written
+unfoldable pub weight : Form → List ℕ → List ℕ → Option ℕ
+weight form ids lens = cond (all_fit form ids lens) (Some (sum lens)) None

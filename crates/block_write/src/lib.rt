@@ -9,39 +9,33 @@ ghost use Rattle.block.specs.Form.{form_of, length_for};
 ghost use Rattle.wire.specs.Part.{Put};
 ghost use Rattle.block_write.specs.Write.{element_octets, block_octets, extension_for, fits, weight, all_writable};
 
-use block::{EXTENSION_PROFILE_ONE_BYTE, EXTENSION_PROFILE_TWO_BYTE};
-use wire::wide16;
+use block::Form;
 
 // Whether an element of this id and length can be written.
-fn fits(profile: u16, id: u8, len: u16) -> bool
-    ensures { result ≡ fits (form_of profile) id len }
+fn fits(form: Form, id: u8, len: u16) -> bool
+    ensures { result ≡ fits form id len }
 {
-    match profile {
-        EXTENSION_PROFILE_ONE_BYTE => id <= 15 && 1 <= len && len <= 16,
-        EXTENSION_PROFILE_TWO_BYTE => len <= 255,
-        _ => true,
+    match form {
+        Form::OneByte => id <= 15 && 1 <= len && len <= 16,
+        Form::TwoByte => len <= 255,
+        Form::Other => true,
     }
 }
 
-// How many data bytes the first `count` elements have; one more than a record holds where one of them cannot be written.
-pub fn weigh<'a>(profile: u16, count: usize, ids: &'a [u8; 32], lens: &'a [u16; 32]) -> usize
+// How many data bytes the first `count` elements have, where all of them can be written.
+// Stays: ids and lengths are asked of the parts of a record, where they stand beside their count; so in all of this file.
+pub fn weigh(form: Form, count: usize, ids: &[u8; 32], lens: &[u16; 32]) -> Option<usize>
     requires { count ≤ 32 }
-    ensures { result ≡ weight (form_of profile) (take count ids.now) (take count lens.now) }
+    ensures { result ≡ weight form (take count ids.now) (take count lens.now) }
 {
-    // a slice tells its length
-    let ids: &[u8] = ids;
-    let lens: &[u16] = lens;
     let mut bytes = 0;
-    let mut i = 0;
-    while i < count {
-        let len = lens[i];
-        if !fits(profile, ids[i], len) {
-            return 1025;
+    for (id, len) in ids[..count].iter().zip(&lens[..count]) {
+        if !fits(form, *id, *len) {
+            return None;
         }
-        bytes += wide16(len);
-        i += 1;
+        bytes += usize::from(*len);
     }
-    bytes
+    Some(bytes)
 }
 
 // RFC 8285, 4.2 and 4.3: the head of a one-byte and of a two-byte element, before its data.
@@ -55,25 +49,25 @@ pub fn weigh<'a>(profile: u16, count: usize, ids: &'a [u8; 32], lens: &'a [u16; 
 // +-+-+-+-+-+-+-+-+-+-+-+-+-+-+-+-+
 // |       ID      |     length    |
 // +-+-+-+-+-+-+-+-+-+-+-+-+-+-+-+-+
-fn put_element(buf: &mut [u8], at: usize, profile: u16, id: u8, data: &[u8]) -> usize
-    requires data_value { fits (form_of profile) id (length «data».now) ≡ true }
-    requires data_in_bounds { at + length (element_octets (form_of profile) (record { id = id; bytes = «data».now })) ≤ length buf.old }
-    ensures { Put buf.old at (element_octets (form_of profile) (record { id = id; bytes = «data».now })) result buf.new }
+fn put_element(buf: &mut [u8], at: usize, form: Form, id: u8, data: &[u8]) -> usize
+    requires data_value { fits form id (length «data».now) ≡ true }
+    requires data_in_bounds { at + length (element_octets form (record { id = id; bytes = «data».now })) ≤ length buf.old }
+    ensures { Put buf.old at (element_octets form (record { id = id; bytes = «data».now })) result buf.new }
 {
     let len = data.len();
-    match profile {
-        EXTENSION_PROFILE_ONE_BYTE => {
+    match form {
+        Form::OneByte => {
             buf[at] = id * 16 + (len - 1) as u8;
             wire::copy_at(data, buf, at + 1);
             at + 1 + len
         }
-        EXTENSION_PROFILE_TWO_BYTE => {
+        Form::TwoByte => {
             buf[at] = id;
             buf[at + 1] = len as u8;
             wire::copy_at(data, buf, at + 2);
             at + 2 + len
         }
-        _ => {
+        Form::Other => {
             wire::copy_at(data, buf, at);
             at + len
         }
@@ -84,25 +78,23 @@ fn put_element(buf: &mut [u8], at: usize, profile: u16, id: u8, data: &[u8]) -> 
 fn put_elements<'a>(
     buf: &mut [u8],
     start: usize,
-    profile: u16,
+    form: Form,
     count: usize,
     ids: &'a [u8],
     lens: &'a [u16],
     bytes: &'a [u8],
 ) -> usize
     requires packed { Packed count ids.now lens.now bytes.now }
-    requires bytes_value { all_writable (form_of profile) (elements_in count ids.now lens.now bytes.now) ≡ true }
-    requires bytes_in_bounds { start + length (block_octets (form_of profile) (elements_in count ids.now lens.now bytes.now)) ≤ length buf.old }
-    ensures { Put buf.old start (block_octets (form_of profile) (elements_in count ids.now lens.now bytes.now)) result buf.new }
+    requires bytes_value { all_writable form (elements_in count ids.now lens.now bytes.now) ≡ true }
+    requires bytes_in_bounds { start + length (block_octets form (elements_in count ids.now lens.now bytes.now)) ≤ length buf.old }
+    ensures { Put buf.old start (block_octets form (elements_in count ids.now lens.now bytes.now)) result buf.new }
 {
     let mut at = start;
     let mut used = 0;
-    let mut i = 0;
-    while i < count {
-        let end = used + wide16(lens[i]);
-        at = put_element(buf, at, profile, ids[i], &bytes[used..end]);
+    for (id, len) in ids[..count].iter().zip(&lens[..count]) {
+        let end = used + usize::from(*len);
+        at = put_element(buf, at, form, *id, &bytes[used..end]);
         used = end;
-        i += 1;
     }
     at
 }
@@ -135,7 +127,8 @@ pub fn put_extension<'a>(
     wire::put_u16(buf, at, profile);
     let words = (len + 3) / 4;
     wire::put_u16(buf, at + 2, words as u16);
-    let end = put_elements(buf, at + 4, profile, count, ids, lens, bytes);
+    let form = Form::from(profile);
+    let end = put_elements(buf, at + 4, form, count, ids, lens, bytes);
     wire::fill_at(buf, end, words * 4 - len, 0);
     at + 4 + words * 4
 }

@@ -11,6 +11,7 @@ use lib.Dec.{eqb}
 use lib.ListN.{length, take, drop, length-append, length-drop, drop_of_length-le}
 use lib.Seq.{length-take-le, take_at, drop_at, take-length}
 use borrow.Author.Tests.{eqb-true, eqb-false, eq-eqb, ne_eqb}
+use Rattle.std.specs.Prelude.{Option, Some, None}
 use Rattle.elements.specs.declared.Extensions.{Extensions}
 use Rattle.elements.specs.declared.Run.{Run}
 use Rattle.elements.specs.Elements.{Element, data_of, size_of, sum, elements_of}
@@ -102,18 +103,26 @@ find_absent id place es n = ap (find id place) (sym (append-nil es)) ∙ find_pa
 
 -- ---- the run that `find` finds
 
--- what the run of an id's first element is to its list, where there is one and where there is none
-pub record Placed (id : ℕ) (es : List Element) (r : Run) : Type 0 where
-  pub stands : Stands r es
-  pub none : r.count ≡ 0 → find id 0 es ≡ absent
-  pub appended : r.count ≡ 0 → (bytes : List ℕ) → replaced_at r (element id bytes ∷ []) es ≡ append id bytes es
-  pub some : (r.count ≡ 0 → ⊥) → find id 0 es ≡ at r.at r.len
-  pub replaced : (r.count ≡ 0 → ⊥) → (bytes : List ℕ) → replaced_at r (element id bytes ∷ []) es ≡ replace id bytes es
-  pub removed : (r.count ≡ 0 → ⊥) → replaced_at r [] es ≡ remove id es
-
 -- the end of a list: a run of no element there
 abbrev pub end_of : List Element → Run
 end_of es = record { first = length es; count = 0; at = length (data_of es); len = 0 }
+
+-- no element of the list has the id: one is put at the list's end
+pub record Missing (id : ℕ) (es : List Element) : Type 0 where
+  pub none : find id 0 es ≡ absent
+  pub appended : (bytes : List ℕ) → replaced_at (end_of es) (element id bytes ∷ []) es ≡ append id bytes es
+
+-- the run is the first element of the id in the list
+pub record Located (id : ℕ) (es : List Element) (r : Run) : Type 0 where
+  pub stands : Stands r es
+  pub some : find id 0 es ≡ at r.at r.len
+  pub replaced : (bytes : List ℕ) → replaced_at r (element id bytes ∷ []) es ≡ replace id bytes es
+  pub removed : replaced_at r [] es ≡ remove id es
+
+-- what the run of an id's first element is to its list, where there is one and where there is none
+abbrev pub Placed : ℕ → List Element → Option Run → Type 0
+Placed id es None = Missing id es
+Placed id es (Some r) = Located id es r
 
 pub at_end_lem : (es new : List Element) → replaced_at (end_of es) new es ≡ es ++ new
 at_end_lem es new =
@@ -161,37 +170,24 @@ module _ (id : ℕ) (front : List Element) (e : Element) (back : List Element) w
 
 placed_absent : (id : ℕ) (es : List Element) → Absent id es → Placed id es (run_of id 0 0 es)
 placed_absent id es n =
-    let e : run_of id 0 0 es ≡ end_of es =
-    ap (run_of id 0 0) (sym (append-nil es))
-    ∙ run_past id [] 0 0 es n
-    ∙ ap₂ (λ (i k : ℕ). record { first = i; count = 0; at = k; len = 0 }) (zero-add (length es)) (zero-add (length (data_of es))) in
-    subst (λ (r : Run). Placed id es r) (sym e)
-    (record {
-      stands = stands_end es;
-      none = λ q. find_absent id 0 es n;
-      appended = λ q bytes. at_end_lem es (element id bytes ∷ []);
-      some = λ no. absurd (no refl);
-      replaced = λ no. absurd (no refl);
-      removed = λ no. absurd (no refl);
-    })
+    let e : run_of id 0 0 es ≡ None = ap (run_of id 0 0) (sym (append-nil es)) ∙ run_past id [] 0 0 es n in
+    subst (Placed id es) (sym e) (record { none = find_absent id 0 es n; appended = λ bytes. at_end_lem es (element id bytes ∷ []) })
 
 placed_first : (id : ℕ) (es : List Element) → First id es → Placed id es (run_of id 0 0 es)
 placed_first id es f =
     let r : Run = one id f.front f.held f.back in
-    let e : run_of id 0 0 es ≡ r =
+    let e : run_of id 0 0 es ≡ Some r =
     ap (run_of id 0 0) f.whole
     ∙ run_past id (f.held ∷ f.back) 0 0 f.front f.others
     ∙ rw (is id es f, zero-add (length f.front), zero-add (length (data_of f.front))) in
     let put : (new : List Element) → replaced_at r new es ≡ f.front ++ (new ++ f.back) =
     λ new. ap (replaced_at r new) f.whole ∙ at_one id f.front f.held f.back new in
-    subst (λ (r : Run). Placed id es r) (sym e)
+    subst (Placed id es) (sym e)
     (record {
       stands = subst (Stands r) (sym f.whole) (stands_one id f.front f.held f.back);
-      none = λ q. absurd (omega arith);
-      appended = λ q. absurd (omega arith);
-      some = λ no. find_first id es f;
-      replaced = λ no bytes. put (element id bytes ∷ []) ∙ sym (replace_first id es f bytes);
-      removed = λ no. put [] ∙ sym (remove_first id es f);
+      some = find_first id es f;
+      replaced = λ bytes. put (element id bytes ∷ []) ∙ sym (replace_first id es f bytes);
+      removed = put [] ∙ sym (remove_first id es f);
     })
 
 pub placed : (id : ℕ) (es : List Element) → Placed id es (run_of id 0 0 es)

@@ -1,52 +1,13 @@
--- What the arrays of a record say of its elements: how many there are, how long their data are, and how they follow each other.
--- Assumes nothing.
+-- What the arrays of a record say of its elements: how many there are, and how long their data are. Assumes nothing.
 use mathlib.Core.Path.{◌≡◌, sym, ap, ap₂, ◌∙◌, refl}
 use mathlib.Core.List.{List, [], ◌∷◌}
-use Prim.Native.Nat.{ℕ, ◌+◌, ◌<◌, ◌≤◌, suc}
+use Prim.Native.Nat.{ℕ, ◌+◌, ◌≤◌, suc}
 use native.Mathlib.Nat.{min-le_left}
-use native.Mathlib.Numerals.{add-one}
 use native.Mathlib.Omega.{arith}
-use lib.ListN.{length, take, drop, get_or, drop_of_length-le, length-append, length-take, length-drop}
-use lib.Seq.{length-take-le, drop-cons, drop-drop, get_or-take}
+use lib.ListN.{length, take, drop, length-append, length-take, length-drop}
+use lib.Seq.{length-take-le}
 use Rattle.elements.specs.declared.Extensions.{Extensions}
-use Rattle.elements.specs.Elements.{Element, unpack, sum, data_of, elements_of, Packed, elements_in}
-
--- ---- the first `count` places of an array, one after the other
-
-pub front_cons : (count : ℕ) (l : List ℕ) (i : ℕ) → i < count → count ≤ length l →
-    drop i (take count l) ≡ get_or l i 0 ∷ drop (i + 1) (take count l)
-front_cons count l i h p =
-    let within : i < length (take count l) = rw (length-take-le count l p) h in
-    drop-cons (take count l) i 0 within
-    ∙ ap₂ (λ (x k : ℕ). x ∷ drop k (take count l)) (get_or-take count l i 0 h) (sym (add-one i))
-
-pub front_done : (count : ℕ) (l : List ℕ) → count ≤ length l → drop count (take count l) ≡ []
-front_done count l p = drop_of_length-le (take count l) {i = count} (rw (length-take-le count l p) (omega arith))
-
--- ---- the elements of an array, one after the other
-
--- those from the i-th on, whose data begin at `used`
-abbrev pub elements_from : ℕ → ℕ → ℕ → List ℕ → List ℕ → List ℕ → List Element
-elements_from i used count ids lens bytes = unpack (drop i (take count ids)) (drop i (take count lens)) (drop used bytes)
-
-pub sum_next : (count : ℕ) (lens : List ℕ) (i : ℕ) → i < count → count ≤ length lens →
-    sum (drop i (take count lens)) ≡ get_or lens i 0 + sum (drop (i + 1) (take count lens))
-sum_next count lens i h p = ap sum (front_cons count lens i h p)
-
-pub elements_next : (count : ℕ) (ids lens bytes : List ℕ) (i used : ℕ) → i < count → count ≤ length ids → count ≤ length lens →
-    elements_from i used count ids lens bytes
-    ≡ record { id = get_or ids i 0; bytes = take (get_or lens i 0) (drop used bytes) }
-    ∷ elements_from (i + 1) (used + get_or lens i 0) count ids lens bytes
-elements_next count ids lens bytes i used h p q =
-    ap₂ (λ (is ls : List ℕ). unpack is ls (drop used bytes)) (front_cons count ids i h p) (front_cons count lens i h q)
-    ∙ ap
-    (λ (b : List ℕ). record { id = get_or ids i 0; bytes = take (get_or lens i 0) (drop used bytes) }
-    ∷ unpack (drop (i + 1) (take count ids)) (drop (i + 1) (take count lens)) b)
-    (drop-drop (get_or lens i 0) used bytes)
-
-pub elements_done : (count used : ℕ) (ids lens bytes : List ℕ) → count ≤ length ids → elements_from count used count ids lens bytes ≡ []
-elements_done count used ids lens bytes p =
-    ap (λ (is : List ℕ). unpack is (drop count (take count lens)) (drop used bytes)) (front_done count ids p)
+use Rattle.elements.specs.Elements.{unpack, sum, data_of, elements_of, Packed, elements_in}
 
 -- ---- elements read off the arrays
 

@@ -3,11 +3,12 @@
 use mathlib.Core.Path.{◌≡◌, refl, sym, ap, ap₂, ◌∙◌}
 use mathlib.Core.List.{List, [], ◌∷◌, ◌++◌, map, map-append, append-nil, append_assoc}
 use Prim.Native.Nat.{ℕ, zero, suc, ◌+◌, ◌-◌, ◌<◌, ◌≤◌}
-use native.Mathlib.Numerals.{add-one}
+use native.Mathlib.Nat.{zero-add}
 use native.Mathlib.Omega.{arith}
-use lib.ListN.{length, take, drop, get_or, length-append, length-map, length-drop, take-append-drop, drop_of_length-le, get_or-map}
-use lib.Seq.{length-take-le, drop-cons, get_or-take, take-add, take_at, drop_at, take-length, take_all, take-nil, drop-nil}
-use borrow.Author.Tests.{eq-eqb, ne_eqb}
+use lib.ListN.{length, take, drop, get_or, length-append, length-map, length-drop, take-append-drop}
+use lib.Seq.{length-take-le, get_or-take, take-add, take_at, drop_at, take-length, take_all, take-nil, drop-nil, take-take}
+use Rattle.std.specs.Prelude.{Bool, true, false, Some, None, eqb}
+use Rattle.std.specs.List.{position_from}
 use Rattle.wire.specs.Part.{splice, part, pad_to}
 use Rattle.wire.proofs.Part.{part_take, length_part, pad_to_on}
 use Rattle.elements.specs.declared.Extensions.{Extensions}
@@ -17,45 +18,74 @@ use Rattle.elements.specs.Runs.{Shown, Stands, Holds, before, behind, run_of, el
 use Rattle.elements.proofs.Elements.{data_of_append, pushed_lay_elements}
 use Rattle.elements.proofs.Packed.{PackedIn, as_many, length_elements_of, length_data_of}
 
--- ---- elements that an array holds something of
-
--- what stands past a list's end
-abbrev pub none : Element
-none = record { id = 0; bytes = [] }
-
-shown_at : (f : Element → ℕ) (es : List Element) (xs : List ℕ) (count i : ℕ) → map f es ≡ take count xs → i < count → f none ≡ 0 →
-    f (get_or es i none) ≡ get_or xs i 0
-shown_at f es xs count i e h z =
-    sym (get_or-map f es i none)
-    ∙ ap (λ (d : ℕ). get_or (map f es) i d) z
-    ∙ ap (λ (l : List ℕ). get_or l i 0) e
-    ∙ get_or-take count xs i 0 h
-
 -- ---- the first element of an id
 
--- one turn of looking through es, of which the arrays hold the ids and lengths
-module _ (id i at count : ℕ) (ids lens : List ℕ) (es : List Element) (s : Shown es count ids lens) where
-  next : i < count → drop i es ≡ get_or es i none ∷ drop (i + 1) es
-  next h = drop-cons es i none (rw s.many h) ∙ ap (λ (k : ℕ). get_or es i none ∷ drop k es) (sym (add-one i))
+-- the place k of the id, counted from i on, is that of a run: it stands behind `turns` elements
+pub record FoundAt (id i at : ℕ) (es : List Element) (k : ℕ) : Type 0 where
+  pub turns : ℕ
+  pub within : turns < length es
+  pub place : k ≡ i + turns
+  pub is : run_of id i at es
+      ≡ Some (record { first = i + turns; count = 1; at = at + sum (take turns (map size_of es)); len = get_or (map size_of es) turns 0 })
 
-  id_at : i < count → (get_or es i none).id ≡ get_or ids i 0
-  id_at h = shown_at (λ (d : Element). d.id) es ids count i s.names h refl
+pub found_at : (id i at : ℕ) (es : List Element) (k : ℕ) → position_from (λ (n : ℕ). eqb n id) i (map (λ (e : Element). e.id) es) ≡ Some k →
+    FoundAt id i at es k
+found_at id i at [] k p = absurd (cc)
+found_at id i at (e ∷ es) k p = go (eqb e.id id) refl (found_at id (i + 1) (at + size_of e) es k)
+  where
+    go : (b : Bool) → eqb e.id id ≡ b →
+        (position_from (λ (n : ℕ). eqb n id) (i + 1) (map (λ (d : Element). d.id) es) ≡ Some k → FoundAt id (i + 1) (at + size_of e) es k) →
+        FoundAt id i at (e ∷ es) k
+    go true q rest =
+        let here : Some i ≡ Some k = rw q at p in
+        let same : i ≡ k = cc in
+        record {
+          turns = 0;
+          within = omega arith;
+          place = omega arith;
+          is = rw q (ap₂ (λ (f a : ℕ). Some (record { first = f; count = 1; at = a; len = size_of e })) (omega arith) (omega arith));
+        }
+    go false q rest =
+        let f : FoundAt id (i + 1) (at + size_of e) es k = rest (rw q at p) in
+        record {
+          turns = suc f.turns;
+          within = omega (arith, f.within);
+          place = omega (arith, f.place);
+          is =
+              rw q
+              (f.is
+              ∙ ap₂ (λ (n a : ℕ). Some (record { first = n; count = 1; at = a; len = get_or (map size_of es) f.turns 0 })) (omega arith) (omega arith));
+        }
 
-  len_at : i < count → size_of (get_or es i none) ≡ get_or lens i 0
-  len_at h = shown_at size_of es lens count i s.sizes h refl
+pub found_none : (id i at : ℕ) (es : List Element) → position_from (λ (n : ℕ). eqb n id) i (map (λ (e : Element). e.id) es) ≡ None →
+    run_of id i at es ≡ None
+found_none id i at [] p = refl
+found_none id i at (e ∷ es) p = go (eqb e.id id) refl (found_none id (i + 1) (at + size_of e) es)
+  where
+    go : (b : Bool) → eqb e.id id ≡ b →
+        (position_from (λ (n : ℕ). eqb n id) (i + 1) (map (λ (d : Element). d.id) es) ≡ None → run_of id (i + 1) (at + size_of e) es ≡ None) →
+        run_of id i at (e ∷ es) ≡ None
+    go true q rest = let some : Some i ≡ None = rw q at p in absurd (cc)
+    go false q rest = rw q (rest (rw q at p))
 
-  pub run_here : i < count → get_or ids i 0 ≡ id →
-      run_of id i at (drop i es) ≡ record { first = i; count = 1; at = at; len = get_or lens i 0 }
-  run_here h is = rw (next h, eq-eqb (get_or es i none).id id (id_at h ∙ is), len_at h)
+-- .. in arrays that hold the elements' ids and lengths
+module _ (id count : ℕ) (ids lens : List ℕ) (es : List Element) (s : Shown es count ids lens) where
+  pub run_found : (k : ℕ) → position_from (λ (n : ℕ). eqb n id) 0 (take count ids) ≡ Some k →
+      run_of id 0 0 es ≡ Some (record { first = k; count = 1; at = sum (take k lens); len = get_or lens k 0 })
+  run_found k p =
+      let f : FoundAt id 0 0 es k = found_at id 0 0 es k (rw s.names p) in
+      let within : f.turns < count = omega (arith, s.many, f.within) in
+      let same : f.turns ≡ k = omega (arith, f.place) in
+      f.is
+      ∙ ap₂ (λ (m n : ℕ). Some (record { first = m; count = 1; at = n; len = get_or (map size_of es) f.turns 0 })) (zero-add f.turns)
+      (zero-add (sum (take f.turns (map size_of es))))
+      ∙ ap (λ (l : List ℕ). Some (record { first = f.turns; count = 1; at = sum (take f.turns l); len = get_or l f.turns 0 })) s.sizes
+      ∙ ap₂ (λ (l : List ℕ) (n : ℕ). Some (record { first = f.turns; count = 1; at = sum l; len = n }))
+      (take-take f.turns count lens (omega arith)) (get_or-take count lens f.turns 0 within)
+      ∙ ap (λ (n : ℕ). Some (record { first = n; count = 1; at = sum (take n lens); len = get_or lens n 0 })) same
 
-  pub run_on : i < count → (get_or ids i 0 ≡ id → ⊥) →
-      run_of id i at (drop i es) ≡ run_of id (i + 1) (at + get_or lens i 0) (drop (i + 1) es)
-  run_on h is-not = rw (next h, ne_eqb (get_or es i none).id id (λ q. is-not (sym (id_at h) ∙ q)), len_at h)
-
-  pub run_none : i ≡ count → run_of id i at (drop i es) ≡ record { first = i; count = 0; at = at; len = 0 }
-  run_none h =
-      let past : length es ≤ i = omega (arith, s.many) in
-      ap (run_of id i at) (drop_of_length-le es past)
+  pub run_none : position_from (λ (n : ℕ). eqb n id) 0 (take count ids) ≡ None → run_of id 0 0 es ≡ None
+  run_none p = found_none id 0 0 es (rw s.names p)
 
 -- ---- a run behind others
 

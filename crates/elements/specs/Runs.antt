@@ -1,6 +1,6 @@
 -- The words in which the inner functions of src/change.rt promise their parts: a run of elements, and a list with a run of it
 -- replaced. No public promise is put in them. Assumes nothing.
-use Rattle.std.specs.Prelude.{◌≡◌, cond, List, [], ◌∷◌, ◌++◌, map, ℕ, ◌+◌, ◌-◌, ◌≤◌, eqb, length, take, drop}
+use Rattle.std.specs.Prelude.{◌≡◌, cond, Option, Some, None, List, [], ◌∷◌, ◌++◌, map, ℕ, ◌+◌, ◌-◌, ◌≤◌, eqb, length, take, drop}
 use Rattle.wire.specs.Part.{splice, part}
 use Rattle.elements.specs.declared.Extensions.{Extensions}
 use Rattle.elements.specs.declared.Run.{Run}
@@ -37,11 +37,15 @@ behind r count total =
       len = total - (r.at + r.len);
     }
 
--- the first element of an id, of elements from the index `first` and the place `at` on; else no element, at their end
-abbrev pub run_of : ℕ → ℕ → ℕ → List Element → Run
-run_of id first at [] = record { first = first; count = 0; at = at; len = 0 }
+-- no element, at a record's end
+abbrev pub end : Extensions → Run
+end x = record { first = x.count; count = 0; at = sum (take x.count x.lens); len = 0 }
+
+-- the first element of an id, of elements from the index `first` and the place `at` on
+abbrev pub run_of : ℕ → ℕ → ℕ → List Element → Option Run
+run_of id first at [] = None
 run_of id first at (e ∷ es) =
-    cond (eqb e.id id) (record { first = first; count = 1; at = at; len = size_of e })
+    cond (eqb e.id id) (Some (record { first = first; count = 1; at = at; len = size_of e }))
     (run_of id (first + 1) (at + size_of e) es)
 
 abbrev pub element : ℕ → List ℕ → Element

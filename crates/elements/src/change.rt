@@ -1,7 +1,8 @@
 // A run of elements: the first one of an id, and a record with a run of it replaced.
-ghost use Rattle.std.specs.Prelude.{◌≡◌, List, [], ◌∷◌, ◌+◌, ◌-◌, ◌<◌, ◌≤◌, length, take};
+ghost use Rattle.std.specs.Prelude.{◌≡◌, ◌==◌, IfSome, List, [], ◌∷◌, ◌+◌, ◌-◌, ◌<◌, ◌≤◌, length, take};
+ghost use Rattle.std.specs.List.{position_from};
 ghost use Rattle.elements.specs.Elements.{Element, elements_of, lay_elements, sum};
-ghost use Rattle.elements.specs.Runs.{Shown, Holds, behind, kept, run_of, element, replaced_at};
+ghost use Rattle.elements.specs.Runs.{Shown, Holds, behind, kept, run_of, element, replaced_at, end};
 
 use crate::list::{push, total};
 use crate::{Extensions, Run};
@@ -26,67 +27,44 @@ impl Run {
     }
 }
 
-// The first element of an id; where there is none, no element at the list's end.
-pub fn find<'a>(id: u8, count: usize, ids: &'a [u8; 32], lens: &'a [u16; 32]) -> Run
+fn place_of(id: u8, ids: &[u8]) -> Option<usize>
+    ensures place { result ≡ position_from (λ n. n == id) 0 ids.now }
+    ensures within { IfSome result (λ i. i < length ids.now) }
+{
+    ids.iter().position(|name| *name == id)
+}
+
+// The first element of an id, of the first `count` in these arrays.
+// Stays: asked of a record and of the parts of one, so the arrays go by themselves.
+pub fn find(id: u8, count: usize, ids: &[u8; 32], lens: &[u16; 32]) -> Option<Run>
     requires { count ≤ 32 }
     ensures { (es : List Element) → Shown es count ids.now lens.now → result ≡ run_of id 0 0 es }
 {
-    let mut at = 0;
-    let mut i = 0;
-    while i < count {
-        let len = wire::wide16(lens[i]);
-        if ids[i] == id {
-            return Run {
-                first: i,
-                count: 1,
-                at,
-                len,
-            };
-        }
-        at += len;
-        i += 1;
-    }
-    Run {
-        first: i,
-        count: 0,
-        at,
-        len: 0,
-    }
+    let first = place_of(id, &ids[..count])?;
+    Some(Run {
+        first,
+        count: 1,
+        at: total(first, lens),
+        len: usize::from(lens[first]),
+    })
 }
 
 impl Extensions {
     // The run's elements of `old`, behind those of `self` with their `used` data bytes.
-    fn keep(self, used: usize, old: Extensions, run: Run) -> Self
+    fn keep(mut self, used: usize, old: Extensions, run: Run) -> Self
         requires count_bound { self.count + run.count ≤ 32 }
         requires len_bound { used + run.len ≤ 1024 }
         requires count_bound_2 { run.first + run.count ≤ 32 }
         requires len_bound_2 { run.at + run.len ≤ 1024 }
         ensures { result ≡ kept self used old run }
     {
-        let old_ids = old.ids;
-        let old_lens = old.lens;
-        let old_bytes = old.bytes;
-        let first = run.first;
-        let more = run.count;
-        let at = run.at;
-        let end = at + run.len;
         let count = self.count;
-        let mut ids = self.ids;
-        let mut lens = self.lens;
-        let mut bytes = self.bytes;
-        let mut i = 0;
-        while i < more {
-            ids[count + i] = old_ids[first + i];
-            lens[count + i] = old_lens[first + i];
-            i += 1;
-        }
-        wire::copy_at(&old_bytes[at..end], &mut bytes, used);
-        Extensions {
-            count: count + more,
-            ids,
-            lens,
-            bytes,
-        }
+        let end = count + run.count;
+        self.ids[count..end].copy_from_slice(&old.ids[run.first..run.first + run.count]);
+        self.lens[count..end].copy_from_slice(&old.lens[run.first..run.first + run.count]);
+        self.bytes[used..used + run.len].copy_from_slice(&old.bytes[run.at..run.at + run.len]);
+        self.count = end;
+        self
     }
 
     // The elements in front of the run alone.
@@ -101,6 +79,20 @@ impl Extensions {
             len: run.at,
         };
         Extensions::new().keep(0, self, before)
+    }
+}
+
+// No element, at the list's end.
+// Stays: functions and no methods, since `header` lends the record on, and no public call asks for room.
+pub fn end(list: Extensions) -> Run
+    requires count_bound { list.count ≤ 32 }
+    ensures { result ≡ end list }
+{
+    Run {
+        first: list.count,
+        count: 0,
+        at: total(list.count, &list.lens),
+        len: 0,
     }
 }
 

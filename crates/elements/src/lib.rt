@@ -1,15 +1,17 @@
 // The elements of a header's extension in their record: how they are laid out, found, put in and taken out.
 //
 // Only proved code calls this crate, so its functions may ask that the record has room.
+// Stays: the record that C sees holds any number of elements, so each function asks for 32 at most, and for the bytes that it needs.
 #![tactic(auto)]
 
 mod change;
 mod list;
 
-pub use change::{find, replaced, without};
+pub use change::{end, find, replaced, without};
 pub use list::{push, total};
 
 // The extension elements, in order.
+// Stays: C reads and fills this record, its count and its arrays.
 #[repr(C)]
 #[derive(Clone, Copy)]
 pub struct Extensions {

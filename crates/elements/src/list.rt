@@ -18,36 +18,27 @@ impl Extensions {
 }
 
 // One element more, behind the `used` data bytes of the others.
-pub fn push(list: Extensions, used: usize, id: u8, data: &[u8]) -> Extensions
+pub fn push(mut list: Extensions, used: usize, id: u8, data: &[u8]) -> Extensions
     requires count_bound { list.count < 32 }
     requires data_bound { used + length «data».now ≤ 1024 }
     ensures { result ≡ pushed list used id «data».now }
 {
-    let count = list.count;
-    let mut ids = list.ids;
-    let mut lens = list.lens;
-    let mut bytes = list.bytes;
-    ids[count] = id;
-    lens[count] = data.len() as u16;
-    wire::copy_at(data, &mut bytes, used);
-    Extensions {
-        count: count + 1,
-        ids,
-        lens,
-        bytes,
-    }
+    list.ids[list.count] = id;
+    list.lens[list.count] = data.len() as u16;
+    list.bytes[used..used + data.len()].copy_from_slice(data);
+    list.count += 1;
+    list
 }
 
 // How many data bytes the first `count` elements have.
+// Stays: asked of a record and of the parts of one, so the array goes by itself.
 pub fn total(count: usize, lens: &[u16; 32]) -> usize
     requires { count ≤ 32 }
     ensures { result ≡ sum (take count lens.now) }
 {
     let mut n = 0;
-    let mut i = 0;
-    while i < count {
-        n += wire::wide16(lens[i]);
-        i += 1;
+    for len in &lens[..count] {
+        n += usize::from(*len);
     }
     n
 }

@@ -5,7 +5,7 @@ use Rattle.block_read.proofs.Reading.{Seeing}
 use Rattle.block_read.proofs.see_items.Given as goal
 
 abbrev pub invariant-loop-at : goal.invariant-loop-at
-invariant-loop-at l = Seeing l.packet l.two l.end (items (items_by l.two) (block_at l.packet l.start l.len)) l.at l.count l.used l.padding
+invariant-loop-at g l = let two = g.L.Layout.two in Seeing l.packet two l.end (items (items_by two) (block_at l.packet l.start l.len)) l.at l.count l.used l.padding
 
 abbrev pub decreases-loop-at : goal.decreases-loop-at
-decreases-loop-at l = l.end - l.at
+decreases-loop-at g l = l.end - l.at

@@ -1,24 +1,17 @@
 -- What is left to write leads to the whole: before each turn the rest of the elements, put at the place reached, gives the same buffer.
-use mathlib.Core.Path.{◌≡◌}
-use mathlib.Core.Bool.{true}
-use Prim.Native.Nat.{◌+◌, ◌-◌, ◌≤◌}
-use lib.ListN.{length, take, drop}
+use Rattle.std.proofs.Common.{◌≡◌, true, ◌+◌, ◌≤◌, length, drop}
 use Rattle.wire.specs.Part.{splice}
-use Rattle.elements.specs.Elements.{sum, elements_in}
-use Rattle.elements.proofs.Packed.{elements_from}
-use Rattle.block.specs.Form.{form_of}
+use Rattle.elements.specs.Elements.{sum, unpack, elements_in}
 use Rattle.block_write.specs.Write.{all_writable, block_octets}
 use Rattle.block_write.proofs.put_elements.Given as goal
 
-abbrev pub invariant-loop-i : goal.invariant-loop-i
-invariant-loop-i l = (l.i ≤ l.count)
-    × (l.used + sum (drop l.i (take l.count l.lens)) ≤ length l.bytes)
-    × (all_writable (form_of l.profile) (elements_from l.i l.used l.count l.ids l.lens l.bytes) ≡ true)
-    × (l.at + length (block_octets (form_of l.profile) (elements_from l.i l.used l.count l.ids l.lens l.bytes))
-    ≡ l.start + length (block_octets (form_of l.profile) (elements_in l.count l.ids l.lens l.bytes)))
-    × (splice l.buf l.at (block_octets (form_of l.profile) (elements_from l.i l.used l.count l.ids l.lens l.bytes))
-    ≡ splice l.initial.buf l.start (block_octets (form_of l.profile) (elements_in l.count l.ids l.lens l.bytes)))
-    × (length l.buf ≡ length l.initial.buf)
-
-abbrev pub decreases-loop-i : goal.decreases-loop-i
-decreases-loop-i l = l.count - l.i
+abbrev pub invariant-loop-id : goal.invariant-loop-id
+invariant-loop-id l = let rest = unpack l.id-iterator.a.rest.now l.id-iterator.b.rest.now (drop l.used l.bytes) in record {
+  even : length l.id-iterator.a.rest.now ≡ length l.id-iterator.b.rest.now;
+  within : l.used + sum l.id-iterator.b.rest.now ≤ length l.bytes;
+  writable : all_writable l.form rest ≡ true;
+  place : l.at + length (block_octets l.form rest) ≡ l.start + length (block_octets l.form (elements_in l.count l.ids l.lens l.bytes));
+  buffer : splice l.buf l.at (block_octets l.form rest)
+      ≡ splice l.initial.buf l.start (block_octets l.form (elements_in l.count l.ids l.lens l.bytes));
+  long : length l.buf ≡ length l.initial.buf;
+}

@@ -55,13 +55,15 @@ pub put_elements-end-requires-clause-bytes_in_bounds : goal.put_elements-end-req
 put_elements-end-requires-clause-bytes_in_bounds c =
     let a = c.args in
     let s = sizes a.profile a.len a.count a.ids.now a.lens.now a.bytes.now c.requires.packed c.requires.len_value.0 in
-    omega (arith, s.block, s.words, c.requires.bytes_in_bounds)
+    rw c.from-form.ensures
+    (omega (arith, s.block, s.words, c.requires.bytes_in_bounds))
 
 pub fill_at-requires : goal.fill_at-requires
 fill_at-requires c =
     let a = c.args in
     let s = sizes a.profile a.len a.count a.ids.now a.lens.now a.bytes.now c.requires.packed c.requires.len_value.0 in
-    omega (arith, s.block, s.words, c.requires.bytes_in_bounds, c.put_elements-end.ensures.next)
+    let put = rw c.from-form.ensures at c.put_elements-end.ensures in
+    omega (arith, s.block, s.words, c.requires.bytes_in_bounds, put.next)
 
 pub returns : goal.returns
 returns c =
@@ -70,14 +72,15 @@ returns c =
     let elements = elements_in a.count a.ids.now a.lens.now a.bytes.now in
     let words : ℕ = words_for a.len in
     let zeros : ℕ = words * 4 - a.len in
+    let put = rw c.from-form.ensures at c.put_elements-end.ensures in
     record {
       next = omega (arith, s.words);
       buffer =
           c.fill_at.ensures
           ∙ ap (λ (l : List ℕ). splice l c.put_elements-end.result (replicate zeros 0))
-          (c.put_elements-end.ensures.buffer
+          (put.buffer
           ∙ ap (λ (l : List ℕ). splice l (a.at + 4) (block_octets (form_of a.profile) elements))
           (c.put_u16-2.ensures ∙ ap (λ (l : List ℕ). splice l (a.at + 2) (be16 words)) c.put_u16.ensures))
           ∙ figure a.buf.now a.at a.profile a.len elements (omega (arith, s.words, c.requires.bytes_in_bounds)) c.put_elements-end.result
-          zeros c.put_elements-end.ensures.next (omega arith);
+          zeros put.next (omega arith);
     }

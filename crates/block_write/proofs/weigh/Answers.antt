@@ -1,47 +1,43 @@
-use mathlib.Core.Path.{◌≡◌, sym, ap, ap₂, ◌∙◌}
-use mathlib.Core.Bool.{Bool, false, cond, ◌&&◌}
-use mathlib.Core.List.{List}
-use Prim.Native.Nat.{ℕ, ◌+◌, ◌<◌, ◌≤◌}
-use native.Mathlib.Omega.{arith}
-use lib.ListN.{length, take, drop, get_or}
-use borrow.Author.Rules.{rules}
+use Rattle.std.proofs.Common.{arith, ◌≡◌, ◌⊎◌, inl, inr, Bool, true, false, cond, ◌&&◌, List, [], ◌∷◌, ℕ, length, take, refl, sym, ap, ap₂, ◌∙◌}
+use Rattle.std.specs.Prelude.{Some, None}
+use Rattle.std.proofs.lemmas.Slice.Zip.{either_empty_from_Zip}
 use Rattle.elements.specs.Elements.{sum}
-use Rattle.elements.proofs.Packed.{front_cons, front_done}
-use Rattle.block.specs.Form.{Form, form_of}
+use Rattle.block.specs.declared.Form.{Form}
 use Rattle.block_write.specs.Write.{fits, all_fit, weight}
 use Rattle.block_write.proofs.weigh.Goals as goal
 
--- the elements from the i-th on
-abbrev fit_from : ℕ → Form → ℕ → List ℕ → List ℕ → Bool
-fit_from i form count ids lens = all_fit form (drop i (take count ids)) (drop i (take count lens))
+-- one pair of the rest decides, and its length is counted, before those behind it
+step : (form : Form) (ids lens : List ℕ) (id len : ℕ) (ids' lens' : List ℕ) → ids ≡ id ∷ ids' → lens ≡ len ∷ lens' →
+    all_fit form ids lens ≡ (fits form id len && all_fit form ids' lens')
+step form ids lens id len ids' lens' e f = ap₂ (all_fit form) e f
 
--- a turn looks at the first of the rest
-here : (form : Form) (count : ℕ) (ids lens : List ℕ) (i : ℕ) → i < count → count ≤ length ids → count ≤ length lens →
-    fit_from i form count ids lens ≡ (fits form (get_or ids i 0) (get_or lens i 0) && fit_from (i + 1) form count ids lens)
-here form count ids lens i h p q = ap₂ (all_fit form) (front_cons count ids i h p) (front_cons count lens i h q)
+-- nothing is left
+ended : (form : Form) (ids lens : List ℕ) → length ids ≡ length lens → (ids ≡ []) ⊎ (lens ≡ []) → (all_fit form ids lens ≡ true) × (sum lens ≡ 0)
+ended form [] [] e h = (refl, refl)
+ended form [] (l ∷ lens) e h = absurd (omega arith)
+ended form (i ∷ ids) [] e h = (refl, refl)
+ended form (i ∷ ids) (l ∷ lens) e (inl p) = absurd (cc)
+ended form (i ∷ ids) (l ∷ lens) e (inr p) = absurd (cc)
 
 pub returns-then-not-fits : goal.returns-then-not-fits
 unfolding weight
 returns-then-not-fits c =
     let a = c.args in
-    let i = c.loop-i.i in
-    let form = form_of a.profile in
-    let e : fits form (get_or a.ids.now i 0) (get_or a.lens.now i 0) ≡ false = sym c.fits.ensures ∙ c.if-not-fits.true in
+    let s = c.in-Some.ensures.steps in
+    let left = c.next.new.self in
+    let e : fits a.form c.in-Some.id.now c.in-Some.len.now ≡ false = sym c.fits.ensures ∙ c.if-not-fits.true in
     sym
-    (ap (λ (b : Bool). cond b (sum (take a.count a.lens.now)) 1025)
-    (c.loop-i.invariant.1
-    ∙ here form a.count a.ids.now a.lens.now i (search rules) (search rules) (search rules)
-    ∙ ap (λ (b : Bool). b && fit_from (i + 1) form a.count a.ids.now a.lens.now) e))
+    (ap (λ (b : Bool). cond b (Some (sum (take a.count a.lens.now))) None)
+    (c.loop-id.invariant.fits
+    ∙ step a.form _ _ _ _ _ _ s.0 s.1
+    ∙ ap (λ (b : Bool). b && all_fit a.form left.a.rest.now left.b.rest.now) e))
 
 pub returns : goal.returns
 unfolding weight
 returns c =
     let a = c.args in
-    let old = c.loop-i in
-    let form = form_of a.profile in
-    let all : old.i ≡ a.count = omega arith in
-    let none = ap (λ (k : ℕ). sum (drop k (take a.count a.lens.now))) all ∙ ap sum (front_done a.count a.lens.now (search rules)) in
-    let fit = old.invariant.1
-    ∙ ap (λ (k : ℕ). fit_from k form a.count a.ids.now a.lens.now) all
-    ∙ ap (λ (l : List ℕ). all_fit form l (drop a.count (take a.count a.lens.now))) (front_done a.count a.ids.now (search rules)) in
-    sym (ap (λ (b : Bool). cond b (sum (take a.count a.lens.now)) 1025) fit ∙ omega (arith, old.invariant.2))
+    let i = c.loop-id.invariant in
+    let done = ended a.form _ _ i.even (either_empty_from_Zip c.loop-id.id-iterator c.next.new.self c.next.result c.in-None.is c.next.ensures.steps) in
+    sym
+    (ap (λ (b : Bool). cond b (Some (sum (take a.count a.lens.now))) None) (i.fits ∙ done.0)
+    ∙ ap (λ (n : ℕ). Some n) (omega (arith, i.left, done.1)))

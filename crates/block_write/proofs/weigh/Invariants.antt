@@ -1,17 +1,13 @@
 -- What is left decides: before each turn `all_fit` of the rest is `all_fit` of all, and the bytes counted with those of the rest are all bytes.
-use mathlib.Core.Path.{◌≡◌}
-use Prim.Native.Nat.{◌+◌, ◌-◌, ◌*◌, ◌≤◌}
-use lib.ListN.{take, drop}
+use Rattle.std.proofs.Common.{◌≡◌, ◌+◌, ◌*◌, ◌≤◌, length, take}
 use Rattle.elements.specs.Elements.{sum}
-use Rattle.block.specs.Form.{form_of}
 use Rattle.block_write.specs.Write.{all_fit}
 use Rattle.block_write.proofs.weigh.Given as goal
 
-abbrev pub invariant-loop-i : goal.invariant-loop-i
-invariant-loop-i l = (l.i ≤ l.count)
-    × (all_fit (form_of l.profile) (take l.count l.ids-2) (take l.count l.lens-2) ≡ all_fit (form_of l.profile) (drop l.i (take l.count l.ids-2)) (drop l.i (take l.count l.lens-2)))
-    × (l.bytes + sum (drop l.i (take l.count l.lens-2)) ≡ sum (take l.count l.lens-2))
-    × (l.bytes ≤ 65536 * l.i)
-
-abbrev pub decreases-loop-i : goal.decreases-loop-i
-decreases-loop-i l = l.count - l.i
+abbrev pub invariant-loop-id : goal.invariant-loop-id
+invariant-loop-id l = record {
+  fits : all_fit l.form (take l.count l.ids) (take l.count l.lens) ≡ all_fit l.form l.id-iterator.a.rest.now l.id-iterator.b.rest.now;
+  left : l.bytes + sum l.id-iterator.b.rest.now ≡ sum (take l.count l.lens);
+  even : length l.id-iterator.a.rest.now ≡ length l.id-iterator.b.rest.now;
+  small : l.bytes + 65536 * length l.id-iterator.b.rest.now ≤ 65536 * 32;
+}

@@ -1,75 +1,27 @@
-use mathlib.Core.Path.{◌≡◌, sym, ap, ◌∙◌}
-use mathlib.Core.List.{List}
-use Prim.Native.Nat.{ℕ, ◌+◌, ◌-◌, ◌<◌, ◌≤◌}
-use native.Mathlib.Omega.{arith}
-use lib.ListN.{length, take, drop, get_or, set, length-set}
-use lib.Seq.{take-take}
-use borrow.Author.Rules.{rules}
+-- Each array is copied as one part of the old one in its place.
+use Rattle.std.proofs.Common.{rules, arith, List, ℕ, ◌≡◌, ◌+◌, ◌-◌, ◌≤◌, length, take, drop, ap, ◌∙◌}
+use borrow.Rule.Slice.PartMut.{put_mid}
 use Rattle.wire.specs.Part.{splice, part}
-use Rattle.wire.proofs.Part.{splice_nothing, splice_part, length_part}
+use Rattle.wire.proofs.Part.{length_part, put_whole}
 use Rattle.elements.specs.Runs.{kept}
 use Rattle.elements.proofs.Extensions.keep.Goals as goal
 
--- as many bytes as the run has
-same_length : (at len : ℕ) → at + len - at ≡ len
-same_length at len = omega arith
-
-module _ (xs zs : List ℕ) (at : ℕ) (ys : List ℕ) (from n i : ℕ) (so_far : zs ≡ splice xs at (take i (part ys from n))) where
-  one_more : at + n ≤ length xs → from + n ≤ length ys → i < n →
-      set zs (at + i) (get_or ys (from + i) 0) ≡ splice xs at (take (i + 1) (part ys from n))
-  one_more fits within h =
-      ap (λ (l : List ℕ). set l (at + i) (get_or ys (from + i) 0)) so_far ∙ splice_part xs at ys from n i 0 fits within h
-
-  all_copied : i ≡ n → zs ≡ splice xs at (part ys from n)
-  all_copied e =
-      so_far
-      ∙ ap (λ (k : ℕ). splice xs at (take k (part ys from n))) e
-      ∙ ap (splice xs at) (take-take n n (drop from ys) (omega arith))
-
-pub loop-i-init : goal.loop-i-init
-loop-i-init c = (search rules, sym (splice_nothing _ _), sym (splice_nothing _ _), search rules, search rules)
-
-pub loop-i-preserved : goal.loop-i-preserved
-loop-i-preserved c =
-    let a = c.args in
-    let head = c.loop-i in
-    let fits : (xs : List ℕ) → length xs ≡ 32 → a.self.count + a.run.count ≤ length xs = λ xs e. search rules in
-    let within : (xs : List ℕ) → length xs ≡ 32 → a.run.first + a.run.count ≤ length xs = λ xs e. search rules in (
-      search rules,
-      one_more _ _ a.self.count _ a.run.first a.run.count head.i head.invariant.1
-          (fits a.self.ids (search rules)) (within a.old.ids (search rules)) (search rules),
-      one_more _ _ a.self.count _ a.run.first a.run.count head.i head.invariant.2
-          (fits a.self.lens (search rules)) (within a.old.lens (search rules)) (search rules),
-      simp length-set (search rules),
-      simp length-set (search rules),
-    )
-
-pub slice_bounds-copy_at-end : goal.slice_bounds-copy_at-end
-slice_bounds-copy_at-end c =
-    let wide : length c.args.old.bytes ≡ 1024 = search rules in
-    omega (arith, c.requires)
-
-pub copy_at-requires : goal.copy_at-requires
-copy_at-requires c =
-    let run = c.args.run in
-    let wide : length c.args.self.bytes ≡ 1024 = search rules in
-    let old : length c.args.old.bytes ≡ 1024 = search rules in
-    let part_wide : length (part c.args.old.bytes run.at run.len) ≡ run.len =
-    length_part c.args.old.bytes run.at run.len (omega (arith, c.requires)) in
-    rw (same_length run.at run.len) (omega (arith, c.requires))
+copied : (xs old now : List ℕ) (at from n : ℕ) → now ≡ take (from + n - from) (drop from old) → from + n ≤ length old →
+    put_mid at (at + n - at) xs now ≡ splice xs at (part old from n)
+copied xs old now at from n e h =
+    let same : from + n - from ≡ n = omega arith in
+    put_whole at (at + n) xs now (part old from n) (e ∙ ap (λ (k : ℕ). take k (drop from old)) same) (omega (arith, length_part old from n h))
 
 pub returns : goal.returns
 unfolding kept
 returns c =
     let a = c.args in
-    let head = c.loop-i in
-    let all : head.i ≡ a.run.count = omega arith in
+    let within : (xs : List ℕ) → length xs ≡ 32 → a.run.first + a.run.count ≤ length xs = λ xs e. omega (arith, c.requires) in
+    let inside : a.run.at + a.run.len ≤ length a.old.bytes = search rules in
     λ i.
     record {
       count = a.self.count + a.run.count;
-      ids = all_copied _ _ a.self.count _ a.run.first a.run.count head.i head.invariant.1 all i;
-      lens = all_copied _ _ a.self.count _ a.run.first a.run.count head.i head.invariant.2 all i;
-      bytes = (c.copy_at.ensures
-          ∙ ap (λ (n : ℕ). splice a.self.bytes a.used (part a.old.bytes a.run.at n))
-          (same_length a.run.at a.run.len)) i;
+      ids = copied a.self.ids a.old.ids _ a.self.count a.run.first a.run.count c.copy_from_slice.ensures.after (within a.old.ids (search rules)) i;
+      lens = copied a.self.lens a.old.lens _ a.self.count a.run.first a.run.count c.copy_from_slice-2.ensures.after (within a.old.lens (search rules)) i;
+      bytes = copied a.self.bytes a.old.bytes _ a.used a.run.at a.run.len c.copy_from_slice-3.ensures.after inside i;
     }

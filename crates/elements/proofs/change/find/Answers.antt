@@ -1,40 +1,21 @@
-use mathlib.Core.Path.{◌≡◌, refl, sym, ap, ◌∙◌}
-use Prim.Native.Nat.{ℕ, ◌+◌}
-use lib.ListN.{drop, get_or}
-use borrow.Author.Rules.{rules}
-use Rattle.elements.specs.Runs.{run_of}
-use Rattle.elements.proofs.Runs.{run_here, run_on, run_none}
+-- The place of the id among the elements' is that of the first of it, whose data begin behind those of the elements in front.
+use Rattle.std.proofs.Common.{◌≡◌, ℕ, take, ap₂, sym, ◌∙◌}
+use Rattle.std.specs.Prelude.{Some, None, eqb}
+use Rattle.std.specs.List.{position_from}
+use Rattle.elements.proofs.Runs.{run_found, run_none}
 use Rattle.elements.proofs.change.find.Goals as goal
 
-pub loop-i-init : goal.loop-i-init
-loop-i-init c = (search rules, search rules, λ es s. refl)
-
-pub returns-then-ids-i : goal.returns-then-ids-i
-returns-then-ids-i c =
+pub returns-in_err-first : goal.returns-in_err-first
+returns-in_err-first c =
     λ es s.
     let a = c.args in
-    let head = c.loop-i in
-    let len : get_or a.lens.now head.i 0 ≡ c.wide16-len.result = search rules in
-    ap (λ (n : ℕ). record { first = head.i; count = 1; at = head.at; len = n }) (sym len)
-    ∙ sym (run_here a.id head.i head.at a.count a.ids.now a.lens.now es s (search rules) c.if-ids-i.true)
-    ∙ head.invariant.2 es s
-
-pub loop-i-preserved : goal.loop-i-preserved
-loop-i-preserved c = (
-  search rules,
-  search rules,
-  λ es s.
-      let a = c.args in
-      let head = c.loop-i in
-      let len : get_or a.lens.now head.i 0 ≡ c.wide16-len.result = search rules in
-      ap (λ (n : ℕ). run_of a.id (head.i + 1) (head.at + n) (drop (head.i + 1) es)) (sym len)
-      ∙ sym (run_on a.id head.i head.at a.count a.ids.now a.lens.now es s (search rules) c.if-ids-i.false)
-      ∙ head.invariant.2 es s,
-)
+    let p : position_from (λ (n : ℕ). eqb n a.id) 0 (take a.count a.ids.now) ≡ None = sym c.place_of.ensures.place ∙ c.in_err-first.was in
+    c.from_residual.ensures ∙ sym (run_none a.id a.count a.ids.now a.lens.now es s p)
 
 pub returns : goal.returns
 returns c =
     λ es s.
     let a = c.args in
-    let head = c.loop-i in
-    sym (run_none a.id head.i head.at a.count a.ids.now a.lens.now es s (search rules)) ∙ head.invariant.2 es s
+    let p : position_from (λ (n : ℕ). eqb n a.id) 0 (take a.count a.ids.now) ≡ Some c.in_ok-first.first = sym c.place_of.ensures.place ∙ c.in_ok-first.was in
+    ap₂ (λ (m n : ℕ). Some (record { first = c.in_ok-first.first; count = 1; at = m; len = n })) c.total.ensures c.from.ensures
+    ∙ sym (run_found a.id a.count a.ids.now a.lens.now es s c.in_ok-first.first p)

@@ -14,14 +14,14 @@ use Rattle.elements.proofs.Runs.{packed_by, bounded, front_many, put_laid, with_
 use Rattle.elements.proofs.change.replaced.Goals as goal
 use Rattle.elements.proofs.change.replaced.Goals.{Start}
 
-packed_list : (c : Start) → PackedIn c.args.list
-packed_list c = packed_by c.args.list c.args.run (search rules) (search rules) (search rules) c.requires.holds
+packed_self : (c : Start) → PackedIn c.args.list
+packed_self c = packed_by c.args.list c.args.run (search rules) (search rules) (search rules) c.requires.holds
 
 pub behind-behind-requires : goal.behind-behind-requires
 behind-behind-requires c =
     let x = c.args.list in
     let r = c.args.run in
-    omega (arith, bounded x (packed_list (goal.at.behind-behind-requires c).Start) r c.requires.holds, c.total.ensures)
+    omega (arith, bounded x (packed_self (goal.at.behind-behind-requires c).Start) r c.requires.holds, c.total.ensures)
 
 pub push-put-requires : goal.push-put-requires
 unfolding lay_elements
@@ -29,14 +29,14 @@ push-put-requires c =
     let x = c.args.list in
     let r = c.args.run in
     let count : c.front.result.count ≡ r.first =
-    ap (λ (y : Extensions). y.count) c.front.ensures ∙ front_many x (packed_list (goal.at.push-put-requires c).Start) r c.requires.holds in
-    omega (arith, count, bounded x (packed_list (goal.at.push-put-requires c).Start) r c.requires.holds, c.requires.count_bound)
+    ap (λ (y : Extensions). y.count) c.front.ensures ∙ front_many x (packed_self (goal.at.push-put-requires c).Start) r c.requires.holds in
+    omega (arith, count, bounded x (packed_self (goal.at.push-put-requires c).Start) r c.requires.holds, c.requires.count_bound)
 
 pub overflow_add-run : goal.overflow_add-run
 overflow_add-run c =
     let x = c.args.list in
     let r = c.args.run in
-    omega (arith, bounded x (packed_list (goal.at.overflow_add-run c).Start) r c.requires.holds, c.requires.count_bound)
+    omega (arith, bounded x (packed_self (goal.at.overflow_add-run c).Start) r c.requires.holds, c.requires.count_bound)
 
 pub keep-requires : goal.keep-requires
 unfolding lay_elements pushed
@@ -46,9 +46,9 @@ keep-requires c =
     let count : c.push-put.result.count ≡ r.first + 1 =
     ap (λ (y : Extensions). y.count) c.push-put.ensures
     ∙ ap (λ (y : Extensions). y.count + 1) c.front.ensures
-    ∙ ap (λ (n : ℕ). n + 1) (front_many x (packed_list (goal.at.keep-requires c).Start) r c.requires.holds) in
+    ∙ ap (λ (n : ℕ). n + 1) (front_many x (packed_self (goal.at.keep-requires c).Start) r c.requires.holds) in
     rw (c.behind-behind.ensures, c.total.ensures)
-    (omega (arith, count, bounded x (packed_list (goal.at.keep-requires c).Start) r c.requires.holds, c.requires.count_bound))
+    (omega (arith, count, bounded x (packed_self (goal.at.keep-requires c).Start) r c.requires.holds, c.requires.count_bound))
 
 pub returns : goal.returns
 returns c =
@@ -56,7 +56,7 @@ returns c =
     let r = c.args.run in
     let id = c.args.id in
     let bytes = c.args.«data».now in
-    let p = packed_list (goal.at.returns c).Start in
+    let p = packed_self (goal.at.returns c).Start in
     let last : c.behind-behind.result ≡ behind r x.count (sum (take x.count x.lens)) =
     c.behind-behind.ensures
     ∙ ap (behind r x.count) c.total.ensures in

@@ -12,14 +12,14 @@ use Rattle.elements.proofs.Runs.{packed_by, bounded, front_many, without_laid}
 use Rattle.elements.proofs.change.without.Goals as goal
 use Rattle.elements.proofs.change.without.Goals.{Start}
 
-packed_list : (c : Start) → PackedIn c.args.list
-packed_list c = packed_by c.args.list c.args.run (search rules) (search rules) (search rules) c.requires
+packed_self : (c : Start) → PackedIn c.args.list
+packed_self c = packed_by c.args.list c.args.run (search rules) (search rules) (search rules) c.requires
 
 pub behind-behind-requires : goal.behind-behind-requires
 behind-behind-requires c =
     let x = c.args.list in
     let r = c.args.run in
-    omega (arith, bounded x (packed_list (goal.at.behind-behind-requires c).Start) r c.requires, c.total.ensures)
+    omega (arith, bounded x (packed_self (goal.at.behind-behind-requires c).Start) r c.requires, c.total.ensures)
 
 pub keep-requires : goal.keep-requires
 unfolding lay_elements
@@ -27,9 +27,9 @@ keep-requires c =
     let x = c.args.list in
     let r = c.args.run in
     let count : c.front.result.count ≡ r.first =
-    ap (λ (y : Extensions). y.count) c.front.ensures ∙ front_many x (packed_list (goal.at.keep-requires c).Start) r c.requires in
+    ap (λ (y : Extensions). y.count) c.front.ensures ∙ front_many x (packed_self (goal.at.keep-requires c).Start) r c.requires in
     rw (c.behind-behind.ensures, c.total.ensures)
-    (omega (arith, bounded x (packed_list (goal.at.keep-requires c).Start) r c.requires))
+    (omega (arith, bounded x (packed_self (goal.at.keep-requires c).Start) r c.requires))
 
 pub returns : goal.returns
 returns c =
@@ -39,4 +39,4 @@ returns c =
     c.behind-behind.ensures ∙ ap (behind r x.count) c.total.ensures in
     c.keep.ensures
     ∙ ap₂ (λ (y : Extensions) (b : Run). kept y r.at x b) c.front.ensures last
-    ∙ without_laid x (packed_list (goal.at.returns c).Start) r c.requires
+    ∙ without_laid x (packed_self (goal.at.returns c).Start) r c.requires

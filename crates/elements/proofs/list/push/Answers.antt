@@ -1,16 +1,14 @@
--- Each array gets its store, and `copy_at` leaves the data as one part more.
-use mathlib.Core.Path.{◌≡◌}
-use native.Mathlib.Omega.{arith}
-use lib.ListN.{length}
-use borrow.Author.Rules.{rules}
+-- Each array gets its store, and the data are one part more.
+use Rattle.std.proofs.Common.{List, ℕ, refl, ◌+◌, length, set, ap}
+use Rattle.wire.proofs.Part.{put_whole}
 use Rattle.elements.specs.Elements.{pushed}
 use Rattle.elements.proofs.list.push.Goals as goal
 
-pub copy_at-requires : goal.copy_at-requires
-copy_at-requires c =
-    let wide : length c.args.list.bytes ≡ 1024 = search rules in
-    omega (arith, c.requires)
-
 pub returns : goal.returns
 unfolding pushed
-returns c = rw c.copy_at.ensures
+returns c =
+    let a = c.args in
+    let x = a.list in
+    let n = length a.«data».now in
+    ap (λ (b : List ℕ). record { count = x.count + 1; ids = set x.ids x.count a.id; lens = set x.lens x.count n; bytes = b })
+    (put_whole a.used (a.used + n) x.bytes c.copy_from_slice.new.self a.«data».now c.copy_from_slice.ensures.after refl)

@@ -1,12 +1,7 @@
 -- Each turn adds one length more, and 32 of them are far below what a usize holds.
-use mathlib.Core.Path.{◌≡◌}
-use Prim.Native.Nat.{◌-◌, ◌*◌, ◌≤◌}
-use lib.ListN.{take}
+use Rattle.std.proofs.Common.{◌≡◌, ◌≤◌, ◌*◌, take}
 use Rattle.elements.specs.Elements.{sum}
 use Rattle.elements.proofs.list.total.Given as goal
 
-abbrev pub invariant-loop-i : goal.invariant-loop-i
-invariant-loop-i l = (l.i ≤ l.count) × (l.n ≡ sum (take l.i l.lens)) × (l.n ≤ 65536 * l.i)
-
-abbrev pub decreases-loop-i : goal.decreases-loop-i
-decreases-loop-i l = l.count - l.i
+abbrev pub invariant-loop-len : goal.invariant-loop-len
+invariant-loop-len l = record { so_far : l.n ≡ sum (take l.len-index (take l.count l.lens)); small : l.n ≤ 65536 * l.len-index }

@@ -7,7 +7,7 @@ use borrow.Author.Rules.{rules}
 use borrow.Author.Tests.{ne_eqb}
 use Rattle.block_read.specs.Read.{element}
 use Rattle.block_read.proofs.Reading.{two_byte_pad, two_byte_last, two_byte_at, within_past, within_packet}
-use Rattle.block_read.proofs.two_byte.Goals as goal
+use Rattle.block_read.proofs.TwoByteLayout.next.Goals as goal
 
 pub returns-then-id-eq0 : goal.returns-then-id-eq0
 returns-then-id-eq0 c =
@@ -33,7 +33,7 @@ pub returns : goal.returns
 returns c =
     let a = c.args in
     let s = a.packet.now in
-    ap (λ (n : ℕ). element 2 (get_or s a.at 0) n) c.wide-len.ensures.0
+    ap (λ (n : ℕ). element 2 (get_or s a.at 0) n) c.from-len.ensures
     ∙ sym
     (two_byte_at s a.at (search rules)
     ∙ rw (ne_eqb (get_or s a.at 0) 0 c.if-id-eq0.false)

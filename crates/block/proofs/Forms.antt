@@ -4,7 +4,9 @@ use Prim.Native.Nat.{ℕ, ◌*◌, ◌≤◌}
 use native.Mathlib.Nat.{mul-le-mul}
 use native.Mathlib.Omega.{arith}
 use borrow.Author.Tests.{ne_eqb}
-use Rattle.block.specs.Form.{Form, one_byte, two_byte, other, form_of, per_element}
+use Rattle.block.specs.declared.Form.{Form}
+use Rattle.block.specs.declared.Form.TheVariants.{OneByte as one_byte, TwoByte as two_byte, Other as other}
+use Rattle.block.specs.Form.{form_of, per_element}
 
 -- ---- the forms of a profile
 
@@ -19,8 +21,8 @@ form_other {p} n m = rw (ne_eqb p 0xBEDE n, ne_eqb p 0x1000 m)
 
 -- ---- sizes counted from the record
 
-pub heads_few : (profile count : ℕ) → count ≤ 32 → count * per_element (form_of profile) ≤ 64
-heads_few profile count h = mul-le-mul h (few (form_of profile))
+pub heads_few : (form : Form) (count : ℕ) → count ≤ 32 → count * per_element form ≤ 64
+heads_few form count h = mul-le-mul h (few form)
   where
     few : (form : Form) → per_element form ≤ 2
     few one_byte = omega arith

@@ -7,7 +7,7 @@ use borrow.Author.Rules.{rules}
 use borrow.Author.Tests.{eq-eqb, ne_eqb}
 use Rattle.block_read.specs.Read.{element}
 use Rattle.block_read.proofs.Reading.{one_byte_at, within_past, within_packet}
-use Rattle.block_read.proofs.one_byte.Goals as goal
+use Rattle.block_read.proofs.OneByteLayout.next.Goals as goal
 
 pub returns-then-b-eq0 : goal.returns-then-b-eq0
 returns-then-b-eq0 c =
@@ -36,7 +36,7 @@ returns c =
     let a = c.args in
     let s = a.packet.now in
     let b = get_or s a.at 0 in
-    ap (λ (n : ℕ). element 1 (b / 16) (n + 1)) c.wide-len.ensures.0
+    ap (λ (n : ℕ). element 1 (b / 16) (n + 1)) c.from-len.ensures
     ∙ sym
     (one_byte_at s a.at (search rules)
     ∙ rw (ne_eqb b 0 c.if-b-eq0.false, ne_eqb (b / 16) 15 c.if-id-eq-EXTENSION_ID_RESERVED.false)
