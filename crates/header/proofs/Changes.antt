@@ -1,5 +1,6 @@
 -- "Later sets replace the first element of that id or append. Delete keeps the others' order." What the changes do to a list of
 -- elements, whatever stands in it, and what is seen of it. Assumes nothing.
+use Rattle.std.specs.Prelude.{Option, Some, None}
 use mathlib.Core.Path.{◌≡◌, sym, ap, ap₂, subst, ◌∙◌}
 use mathlib.Core.Bool.{Bool, true, false, not, cond}
 use mathlib.Core.List.{List, [], ◌∷◌, ◌++◌, map, append-nil}
@@ -13,16 +14,17 @@ use Rattle.error.specs.Said.{says, refuse}
 use Rattle.wire.specs.Part.{pad_to, splice}
 use Rattle.wire.proofs.Part.{pad_to_on}
 use Rattle.elements.specs.declared.Run.{Run}
-use Rattle.elements.specs.Elements.{Element, data_of, sum, elements_of}
+use Rattle.elements.specs.Elements.{Element, data_of, elements_of}
 use Rattle.elements.specs.Named.{absent, at, find, append, Absent}
-use Rattle.elements.specs.Runs.{Shown, Stands, Holds, run_of, element}
+use Rattle.elements.specs.Runs.{Shown, Stands, Holds, run_of, element, replaced_at, end}
 use Rattle.elements.proofs.Elements.{data_of_append}
 use Rattle.elements.proofs.Packed.{length_elements_of, length_data_of}
-use Rattle.elements.proofs.Runs.{shown}
-use Rattle.elements.proofs.Changes.{find_absent, Placed, end_of, placed}
-use Rattle.block.specs.Form.{Form, form_of, per_element}
+use Rattle.elements.proofs.Runs.{shown, bounded}
+use Rattle.elements.proofs.Changes.{find_absent, Placed, Missing, Located, end_of, placed, at_end_lem, stands_end}
+use Rattle.block.specs.declared.Form.{Form}
+use Rattle.block.specs.Form.{form_of, per_element}
 use Rattle.block.specs.Padding.{grown}
-use Rattle.block.proofs.Form.{form_one}
+use Rattle.block.proofs.Forms.{form_one}
 use Rattle.header.specs.declared.Header.{Header}
 use Rattle.header.specs.Fields.{fields_of, in_domain, Tested}
 use Rattle.header.specs.Extension.{changed, change, set_later, set_first, set_extension, del_found, del_extension, get_extension, get_extension_ids, id_refusal, set_found}
@@ -49,7 +51,7 @@ module _ (h : Header) (a : Arrays h) (d : in_domain h ≡ true) where
   holds_in r s = record { few = bounds.elements; fits = bounds.bytes; stands = s }
 
   -- what `find` answers is placed in the record's list
-  pub placed_in : (id : ℕ) (r : Run) →
+  pub placed_in : (id : ℕ) (r : Option Run) →
       ((es : List Element) → Shown es h.extensions.count h.extensions.ids h.extensions.lens → r ≡ run_of id 0 0 es) →
       Placed id (elements_of h.extensions) r
   placed_in id r f =
@@ -57,12 +59,30 @@ module _ (h : Header) (a : Arrays h) (d : in_domain h ≡ true) where
       (placed id (elements_of h.extensions))
 
   -- the list's end, as the record counts it
-  pub end_in : (total : ℕ) → total ≡ sum (take h.extensions.count h.extensions.lens) →
-      record { first = h.extensions.count; count = 0; at = total; len = 0 } ≡ end_of (elements_of h.extensions)
-  end_in total t =
+  pub end_in : end h.extensions ≡ end_of (elements_of h.extensions)
+  end_in =
       ap₂ (λ (n k : ℕ). record { first = n; count = 0; at = k; len = 0 })
       (sym (length_elements_of h.extensions (packed h a bounds)))
-      (t ∙ sym (length_data_of h.extensions (packed h a bounds)))
+      (sym (length_data_of h.extensions (packed h a bounds)))
+
+  pub end_holds : Holds h.extensions (end h.extensions)
+  end_holds =
+      let es = elements_of h.extensions in
+      subst (Holds h.extensions) (sym end_in) (holds_in (end_of es) (stands_end es))
+
+  -- an element put at the record's end is one appended
+  pub end_appended : (id : ℕ) (bytes : List ℕ) →
+      replaced_at (end h.extensions) (element id bytes ∷ []) (elements_of h.extensions) ≡ append id bytes (elements_of h.extensions)
+  end_appended id bytes =
+      let es = elements_of h.extensions in
+      let new = element id bytes ∷ [] in
+      ap (λ (r : Run). replaced_at r new es) end_in ∙ at_end_lem es new
+
+  -- what is found is an element of the record, and no longer than all data
+  pub found_holds : (r : Run) → Stands r (elements_of h.extensions) → Holds h.extensions r × (r.len ≤ 1024)
+  found_holds r s =
+      let holds = holds_in r s in
+      (holds, omega (arith, bounded h.extensions (packed h a bounds) r holds))
 
 -- ---- "The first set picks 0xBEDE for 0 to 16 bytes, 0x1000 for 17 to 255, else keeps the profile"
 
@@ -146,19 +166,23 @@ module _ (h : Header) where
 
 module _ {h : Header} {r : Bool} (t : Tested h r) (inside : not r ≡ false) (on : not h.extension ≡ false) where
   -- .. by the run that `find` answers
-  module _ (id : ℕ) (run : Run)
-      (f : (es : List Element) → Shown es h.extensions.count h.extensions.ids h.extensions.lens → run ≡ run_of id 0 0 es) where
-    found : Placed id (elements_of h.extensions) run
-    found = placed_in h t.arrays (passes t inside) id run f
+  module _ (id : ℕ) (found : Option Run)
+      (f : (es : List Element) → Shown es h.extensions.count h.extensions.ids h.extensions.lens → found ≡ run_of id 0 0 es) where
+    place : Placed id (elements_of h.extensions) found
+    place = placed_in h t.arrays (passes t inside) id found f
 
     got : get_extension h id ≡ says (find id 0 (elements_of h.extensions))
     got = get_on h id (passes t inside) (not-false h.extension on)
 
-    pub got_absent : run.count ≡ 0 → get_extension h id ≡ says absent
-    got_absent z = got ∙ ap says (found.none z)
+    pub got_absent : found ≡ None → get_extension h id ≡ says absent
+    got_absent z =
+        let here : Missing id (elements_of h.extensions) = subst (Placed id (elements_of h.extensions)) z place in
+        got ∙ ap says here.none
 
-    pub got_at : (run.count ≡ 0 → ⊥) → get_extension h id ≡ says (at run.at run.len)
-    got_at z = got ∙ ap says (found.some z)
+    pub got_at : (run : Run) → found ≡ Some run → get_extension h id ≡ says (at run.at run.len)
+    got_at run z =
+        let here : Located id (elements_of h.extensions) run = subst (Placed id (elements_of h.extensions)) z place in
+        got ∙ ap says here.some
 
   -- there are as many ids as the record counts
   pub ids_few : length (take (h.extensions.count - 0) h.extensions.ids) ≤ 32

@@ -1,4 +1,5 @@
 -- A record's front and its arrays: together they are the record, and what is said of each says what reading answers. Assumes nothing.
+use Rattle.std.specs.Prelude.{Ok, Err}
 use mathlib.Core.Path.{◌≡◌, refl, sym, ap, subst, ◌∙◌}
 use mathlib.Core.List.{List, [], ◌∷◌}
 use mathlib.Core.Logic.{◌⊎◌, inl, inr}
@@ -12,7 +13,6 @@ use Rattle.wire.specs.Part.{pad_to}
 use Rattle.elements.specs.Elements.{Element, lay_elements}
 use Rattle.block_read.specs.Said.{Answers, elements_read, Laid}
 use Rattle.header.specs.declared.Header.{Header}
-use Rattle.header.specs.declared.HeaderRead.TheVariants as read
 use Rattle.header.specs.declared.Front.{Front}
 use Rattle.header.specs.declared.FrontRead.{FrontRead}
 use Rattle.header.specs.Fields.{Fields, lay_out, blank}
@@ -41,7 +41,7 @@ pub record FrontAnswered (s : List ℕ) (f : Front) (place : ℕ) : Type 0 where
   pub laid : f ≡ front_of (lay_out fields)
 
 module _ (q : FrontRead) (s : List ℕ) (e : heard_front q ≡ front_heard (reading_heard (read_header s))) where
-  pub front_answered : (place : ℕ) → q.read ≡ read.Payload place → FrontAnswered s q.front place
+  pub front_answered : (place : ℕ) → q.read ≡ Ok place → FrontAnswered s q.front place
   front_answered place p =
       let a : Says (read_header s) place = says_place (read_header s) q.read place (ap (λ (k : FrontHeard). k.answer) e) p in
       record {
@@ -51,7 +51,7 @@ module _ (q : FrontRead) (s : List ℕ) (e : heard_front q ≡ front_heard (read
       }
 
   -- .. or a refusal
-  pub front_refusal : (r : Error) → q.read ≡ read.Refused r → read_header s ≡ refused (refusal_of r)
+  pub front_refusal : (r : Error) → q.read ≡ Err r → read_header s ≡ refused (refusal_of r)
   front_refusal r p = says_refusal (read_header s) q.read r (ap (λ (k : FrontHeard). k.answer) e) p
 
 -- ---- the arrays of a header that was read

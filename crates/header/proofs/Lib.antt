@@ -3,7 +3,7 @@ pub mod Fronts
 pub mod Sizes
 pub mod Octets
 pub mod Writing
-pub mod Parts
+pub mod Apart
 pub mod Never
 pub mod Changes
 pub mod ReadBack

@@ -13,7 +13,8 @@ use Rattle.error.specs.Said.{Said, says, refuse}
 use Rattle.wire.specs.Net.{u16_at, bit}
 use Rattle.elements.specs.Elements.{Element, size_of}
 use Rattle.elements.proofs.Elements.{sum_sizes}
-use Rattle.block.specs.Form.{Form, form_of, per_element}
+use Rattle.block.specs.declared.Form.{Form}
+use Rattle.block.specs.Form.{form_of, per_element}
 use Rattle.block_read.specs.Read.{read_block, block_at}
 use Rattle.block_read.proofs.Never.{rust_block, blocks_alike}
 use Rattle.header_write.specs.Judge.{judged}

@@ -1,16 +1,18 @@
 -- "that no second answer satisfies it is proved": each public call's contract is met by one answer, and by no other. For a call that is
 -- lent a buffer or arrays an answer is the result with these as they are left. Assumes nothing.
-use mathlib.Core.Path.{◌≡◌, refl, ap, ◌∙◌}
+use Rattle.std.specs.Prelude.{Result, Option, Ok, Err, Some, None}
+use mathlib.Core.Path.{◌≡◌, refl, sym, ap, ◌∙◌}
 use mathlib.Core.Bool.{Bool, true, false, cond, ◌&&◌}
 use mathlib.Core.List.{List, [], map}
 use Prim.Native.Nat.{ℕ, zero, suc, ◌+◌, ◌*◌, ◌/◌, ◌%◌}
 use lib.Dec.{ltb, leb, eqb}
 use lib.ListN.{length, take, drop, get_or}
+use Rattle.error.specs.declared.Error.{Error}
 use Rattle.error.specs.Refusal.{Refusal}
-use Rattle.error.specs.Said.{Said, says, refused, refuse}
+use Rattle.error.specs.Said.{Said, says, refused, refuse, said}
 use Rattle.error.specs.Only.{Determined}
-use Rattle.error.proofs.Inverse.{error_of, error_of_refusal_of}
-use Rattle.error.proofs.Only.{by_value, by_view, by_both, spoken, Sayable, either_sayable, known, passed}
+use Rattle.error.proofs.Inverse.{error_of, error_of_refusal_of, unsaid, unsaid_said}
+use Rattle.error.proofs.Only.{by_value, by_view, by_both, spoken, Sayable, either_sayable, known, passed, by_said}
 use Rattle.wire.specs.Net.{u16_at, bit}
 use Rattle.wire.specs.Part.{pad_to}
 use Rattle.wire.specs.Turns.{Turn, more, done, after, run}
@@ -19,87 +21,65 @@ use Rattle.elements.specs.Elements.{Element, data_of, room_for, lay_elements}
 use Rattle.elements.specs.Named.{Found, absent, find, replace, append}
 use Rattle.elements.specs.Named as named
 use Rattle.block_read.specs.Read.{Item, pad, stop, past, element, Block, skip, with_element, taken, turn, items_by, whole_block, read_block, block_at}
-use Rattle.block.specs.Form.{Form, one_byte, two_byte, other, form_of}
+use Rattle.block.specs.declared.Form.{Form}
+use Rattle.block.specs.declared.Form.TheVariants.{OneByte as one_byte, TwoByte as two_byte, Other as other}
+use Rattle.block.specs.Form.{form_of}
 use Rattle.header.specs.declared.Header.{Header}
-use Rattle.header.specs.declared.HeaderRead.{HeaderRead}
-use Rattle.header.specs.declared.HeaderRead.TheVariants as read
 use Rattle.header.specs.declared.Unmarshalled.{Unmarshalled}
 use Rattle.header.specs.declared.Front.{Front}
 use Rattle.header.specs.declared.FrontRead.{FrontRead}
 use Rattle.header_write.specs.declared.Fixed.{Fixed}
-use Rattle.header_write.specs.declared.Length.{Length}
-use Rattle.header_write.specs.declared.Length.TheVariants as len
-use Rattle.header.specs.declared.Change.{Change}
-use Rattle.header.specs.declared.Change.TheVariants as change
+use Rattle.header_write.specs.declared.Parts.{Parts}
 use Rattle.header.specs.declared.Changed.{Changed}
-use Rattle.header.specs.declared.Got.{Got}
-use Rattle.header.specs.declared.Got.TheVariants as got
-use Rattle.header.specs.declared.IdCount.{IdCount}
-use Rattle.header.specs.declared.IdCount.TheVariants as ids
+use Rattle.header.specs.declared.Data.{Data}
 use Rattle.header.specs.declared.Ids.{Ids}
 use Rattle.header.specs.Fields.{fields_of, blank, in_domain}
 use Rattle.header.specs.Read.{Reading, count_of, fixed_length, reading_of, read_extension, read_fixed, read_header}
-use Rattle.header.specs.Parts.{fixed_of, together, bare, front_of, FrontHeard, heard_front, front_heard, Lent, lent_read}
+use Rattle.header.specs.Parts.{fixed_of, together, record_of, bare, front_of, FrontHeard, heard_front, front_heard, Lent, lent_read}
 use Rattle.header.specs.Size.{payload_length, header_size, length_asked, size_asked}
 use Rattle.header_write.specs.Judge.{judged}
 use Rattle.header.specs.Write.{octets_of, in_writing_domain, write_header}
 use Rattle.header.specs.Extension.{limited, id_refusal, set_found, set_later, set_first, set_extension, del_found, del_extension, get_extension, get_extension_ids}
-use Rattle.header_write.specs.Said.{said_length}
-use Rattle.header.specs.Said.{said_read, Heard, heard, reading_heard, Written, heard_written, written, said_change, After, heard_change, change_heard, said_got, said_count, Listed, heard_ids, ids_heard}
+use Rattle.header.specs.Said.{Heard, heard, reading_heard, Written, heard_written, written, After, heard_change, change_heard, said_got, Listed, heard_ids, ids_heard}
 use Rattle.header.proofs.Fronts.{with_arrays}
 
 -- ---- lengths
 
-abbrev pub length_of : Said ℕ → Length
-length_of (says n) = len.Bytes n
-length_of (refused r) = len.Refused (error_of r)
-
-length_of_said : (a : Length) → length_of (said_length a) ≡ a
-length_of_said (len.Bytes n) = refl
-length_of_said (len.Refused e) = ap len.Refused (error_of_refusal_of e)
-
-said_length_of : (x : Said ℕ) → said_length (length_of x) ≡ spoken x
-said_length_of (says n) = refl
-said_length_of (refused r) = refl
-
-pub length_only : (x : Said ℕ) → Sayable x → Determined (λ (r : Length). said_length r ≡ x)
-length_only x s = by_view said_length length_of length_of_said (length_of x) x (said_length_of x ∙ s)
-
-pub get_extension_payload_len_only : (h : Header) → Determined (λ (r : Length). said_length r ≡ length_asked h)
+pub get_extension_payload_len_only : (h : Header) → Determined (λ (r : Result ℕ Error). said r ≡ length_asked h)
 unfolding length_asked
 get_extension_payload_len_only h =
-    length_only (length_asked h)
+    by_said (length_asked h)
     (either_sayable {x = says (payload_length (fields_of h))} {y = refuse 8} (in_domain h) refl refl)
 
-pub marshal_size_only : (h : Header) → Determined (λ (r : Length). said_length r ≡ size_asked h)
+pub marshal_size_only : (h : Header) → Determined (λ (r : Result ℕ Error). said r ≡ size_asked h)
 unfolding size_asked
 marshal_size_only h =
-    length_only (size_asked h)
+    by_said (size_asked h)
     (either_sayable {x = says (header_size (fields_of h))} {y = refuse 8} (in_domain h) refl refl)
 
 -- .. of the record put together
 pub get_extension_payload_len_parts_only : (f : Fixed) (count : ℕ) (csrc : List ℕ) (profile : ℕ) (x : Extensions) (pads : ℕ) →
-    Determined (λ (r : Length). said_length r ≡ length_asked (together f count csrc profile x pads))
+    Determined (λ (r : Result ℕ Error). said r ≡ length_asked (together f count csrc profile x pads))
 get_extension_payload_len_parts_only f count csrc profile x pads = get_extension_payload_len_only (together f count csrc profile x pads)
 
 pub marshal_size_parts_only : (f : Fixed) (count : ℕ) (csrc : List ℕ) (profile : ℕ) (x : Extensions) (pads : ℕ) →
-    Determined (λ (r : Length). said_length r ≡ size_asked (together f count csrc profile x pads))
+    Determined (λ (r : Result ℕ Error). said r ≡ size_asked (together f count csrc profile x pads))
 marshal_size_parts_only f count csrc profile x pads = marshal_size_only (together f count csrc profile x pads)
 
 -- ---- writing
 
 -- the result beside the buffer as it is left
 abbrev pub Left : Type 0
-Left = Length × List ℕ
+Left = Result ℕ Error × List ℕ
 
 abbrev pub heard_left : Left → Written
 heard_left a = heard_written a.0 a.1
 
 abbrev pub left_of : Written → Left
-left_of w = (length_of w.answer, w.buffer)
+left_of w = (unsaid w.answer, w.buffer)
 
 left_of_heard : (a : Left) → left_of (heard_left a) ≡ a
-left_of_heard a = ap (λ (r : Length). (r, a.1)) (length_of_said a.0)
+left_of_heard a = ap (λ (r : Result ℕ Error). (r, a.1)) (unsaid_said a.0)
 
 heard_left_of : (buf : List ℕ) (x : Said (List ℕ)) → Sayable x → heard_left (left_of (written buf x)) ≡ written buf x
 heard_left_of buf (says octets) s = refl
@@ -143,6 +123,34 @@ marshal_bare_only f profile pads buf = marshal_to_only (bare f profile pads) buf
 
 pub fixed_only : (h : Header) → Determined (λ (r : Fixed). r ≡ fixed_of h)
 fixed_only h = by_value (fixed_of h)
+
+-- the parts of a record: these numbers, and arrays that hold this
+pub record SameParts (r q : Parts) : Type 0 where
+  pub fixed : r.fixed ≡ q.fixed
+  pub csrc_count : r.csrc_count ≡ q.csrc_count
+  pub csrc : r.csrc.now ≡ q.csrc.now
+  pub profile : r.profile ≡ q.profile
+  pub count : r.count ≡ q.count
+  pub ids : r.ids.now ≡ q.ids.now
+  pub lens : r.lens.now ≡ q.lens.now
+  pub bytes : r.bytes.now ≡ q.bytes.now
+  pub padding : r.padding ≡ q.padding
+
+pub parts_only : (h : Header) (r q : Parts) → record_of r ≡ h → record_of q ≡ h → SameParts r q
+unfolding together
+parts_only h r q a b =
+    let e : record_of r ≡ record_of q = a ∙ sym b in
+    record {
+      fixed = ap fixed_of e;
+      csrc_count = ap (λ (x : Header). x.csrc_count) e;
+      csrc = ap (λ (x : Header). x.csrc) e;
+      profile = ap (λ (x : Header). x.extension_profile) e;
+      count = ap (λ (x : Header). x.extensions.count) e;
+      ids = ap (λ (x : Header). x.extensions.ids) e;
+      lens = ap (λ (x : Header). x.extensions.lens) e;
+      bytes = ap (λ (x : Header). x.extensions.bytes) e;
+      padding = ap (λ (x : Header). x.extensions_padding) e;
+    }
 
 pub is_writable_only : (h : Header) → Determined (λ (r : Bool). r ≡ in_writing_domain h)
 is_writable_only h = by_value (in_writing_domain h)
@@ -218,19 +226,11 @@ read_sayable s =
     either_sayable {x = refuse 8} {y = cond (ltb (length s) 4) (refuse 1) fixed} (ltb 65535 (length s)) refl
     (either_sayable {x = refuse 1} {y = fixed} (ltb (length s) 4) refl (fixed_sayable s (count_of s)))
 
-abbrev read_of : Said ℕ → HeaderRead
-read_of (says place) = read.Payload place
-read_of (refused r) = read.Refused (error_of r)
-
-read_of_said : (a : HeaderRead) → read_of (said_read a) ≡ a
-read_of_said (read.Payload place) = refl
-read_of_said (read.Refused e) = ap read.Refused (error_of_refusal_of e)
-
 abbrev unmarshalled_of : Heard → Unmarshalled
-unmarshalled_of h = record { read = read_of h.answer; header = h.header }
+unmarshalled_of h = record { read = unsaid h.answer; header = h.header }
 
 unmarshalled_of_heard : (a : Unmarshalled) → unmarshalled_of (heard a) ≡ a
-unmarshalled_of_heard a = ap (λ (r : HeaderRead). record { read = r; header = a.header }) (read_of_said a.read)
+unmarshalled_of_heard a = ap (λ (r : Result ℕ Error). record { read = r; header = a.header }) (unsaid_said a.read)
 
 heard_unmarshalled_of : (x : Said Reading) → Sayable x → heard (unmarshalled_of (reading_heard x)) ≡ reading_heard x
 heard_unmarshalled_of (says r) s = refl
@@ -243,10 +243,10 @@ unmarshal_only s =
 
 -- .. without the arrays
 abbrev front_read_of : FrontHeard → FrontRead
-front_read_of h = record { read = read_of h.answer; front = h.front }
+front_read_of h = record { read = unsaid h.answer; front = h.front }
 
 front_read_of_heard : (a : FrontRead) → front_read_of (heard_front a) ≡ a
-front_read_of_heard a = ap (λ (r : HeaderRead). record { read = r; front = a.front }) (read_of_said a.read)
+front_read_of_heard a = ap (λ (r : Result ℕ Error). record { read = r; front = a.front }) (unsaid_said a.read)
 
 heard_front_read_of : (x : Said Reading) → Sayable x → heard_front (front_read_of (front_heard (reading_heard x))) ≡ front_heard (reading_heard x)
 heard_front_read_of (says r) s = refl
@@ -279,19 +279,11 @@ new_only = by_value (lay_elements [])
 
 -- ---- setting and deleting
 
-abbrev change_of : Said Unit → Change
-change_of (says u) = change.Made
-change_of (refused r) = change.Refused (error_of r)
-
-change_of_said : (a : Change) → change_of (said_change a) ≡ a
-change_of_said change.Made = refl
-change_of_said (change.Refused e) = ap change.Refused (error_of_refusal_of e)
-
 abbrev changed_of : After → Changed
-changed_of a = record { change = change_of a.answer; header = a.header }
+changed_of a = record { change = unsaid a.answer; header = a.header }
 
 changed_of_heard : (a : Changed) → changed_of (heard_change a) ≡ a
-changed_of_heard a = ap (λ (c : Change). record { change = c; header = a.header }) (change_of_said a.change)
+changed_of_heard a = ap (λ (c : Result Unit Error). record { change = c; header = a.header }) (unsaid_said a.change)
 
 heard_changed_of : (h : Header) (x : Said Header) → Sayable x → heard_change (changed_of (change_heard h x)) ≡ change_heard h x
 heard_changed_of h (says h') s = refl
@@ -348,22 +340,22 @@ del_extension_only h id = change_only h (del_extension h id) (del_sayable h id)
 
 -- ---- looking
 
-abbrev got_of : Said Found → Got
-got_of (says absent) = got.Absent
-got_of (says (named.at place len)) = got.Data place len
-got_of (refused r) = got.Refused (error_of r)
+abbrev got_of : Said Found → Result (Option Data) Error
+got_of (says absent) = Ok None
+got_of (says (named.at place len)) = Ok (Some (record { at = place; len = len }))
+got_of (refused r) = Err (error_of r)
 
-got_of_said : (a : Got) → got_of (said_got a) ≡ a
-got_of_said (got.Data place len) = refl
-got_of_said got.Absent = refl
-got_of_said (got.Refused e) = ap got.Refused (error_of_refusal_of e)
+got_of_said : (a : Result (Option Data) Error) → got_of (said_got a) ≡ a
+got_of_said (Ok (Some d)) = refl
+got_of_said (Ok None) = refl
+got_of_said (Err e) = ap Err (error_of_refusal_of e)
 
 said_got_of : (x : Said Found) → said_got (got_of x) ≡ spoken x
 said_got_of (says absent) = refl
 said_got_of (says (named.at place len)) = refl
 said_got_of (refused r) = refl
 
-pub get_extension_only : (h : Header) (id : ℕ) → Determined (λ (r : Got). said_got r ≡ get_extension h id)
+pub get_extension_only : (h : Header) (id : ℕ) → Determined (λ (r : Result (Option Data) Error). said_got r ≡ get_extension h id)
 unfolding get_extension
 get_extension_only h id =
     let answer : Said Found = says (cond h.extension (find id 0 (fields_of h).elements) absent) in
@@ -371,22 +363,14 @@ get_extension_only h id =
     (said_got_of (get_extension h id) ∙ either_sayable {x = answer} {y = refuse 8} (in_domain h) refl refl)
 
 pub get_extension_parts_only : (f : Fixed) (count : ℕ) (csrc : List ℕ) (profile : ℕ) (x : Extensions) (pads : ℕ) (id : ℕ) →
-    Determined (λ (r : Got). said_got r ≡ get_extension (together f count csrc profile x pads) id)
+    Determined (λ (r : Result (Option Data) Error). said_got r ≡ get_extension (together f count csrc profile x pads) id)
 get_extension_parts_only f count csrc profile x pads id = get_extension_only (together f count csrc profile x pads) id
 
-abbrev counted_of : Said ℕ → IdCount
-counted_of (says n) = ids.Ids n
-counted_of (refused r) = ids.Refused (error_of r)
-
-counted_of_said : (a : IdCount) → counted_of (said_count a) ≡ a
-counted_of_said (ids.Ids n) = refl
-counted_of_said (ids.Refused e) = ap ids.Refused (error_of_refusal_of e)
-
 abbrev ids_of : Listed → Ids
-ids_of l = record { count = counted_of l.answer; ids = l.ids }
+ids_of l = record { count = unsaid l.answer; ids = l.ids }
 
 ids_of_heard : (a : Ids) → ids_of (heard_ids a) ≡ a
-ids_of_heard a = ap (λ (c : IdCount). record { count = c; ids = a.ids }) (counted_of_said a.count)
+ids_of_heard a = ap (λ (c : Result ℕ Error). record { count = c; ids = a.ids }) (unsaid_said a.count)
 
 heard_ids_of : (x : Said (List ℕ)) → Sayable x → heard_ids (ids_of (ids_heard x)) ≡ ids_heard x
 heard_ids_of (says l) s = refl

@@ -10,6 +10,7 @@ use lib.Dec.{ltb, leb, eqb}
 use lib.ListN.{length, take, length-append, length-map}
 use lib.Seq.{drop_at}
 use borrow.Author.Tests.{leb-true, le-leb, ltb-true, eq-eqb, ne_eqb}
+use Rattle.std.proofs.lemmas.Bool.{and_parts}
 use Rattle.error.specs.Said.{Said, says, refuse}
 use Rattle.wire.specs.Part.{part, pad_to}
 use Rattle.wire.proofs.Part.{length_pad_to}
@@ -20,9 +21,10 @@ use Rattle.elements.proofs.Elements.{sum_sizes, data_of_append, take_laid, eleme
 use Rattle.elements.proofs.Packed.{PackedIn, length_elements_of, length_data_of}
 use Rattle.elements.proofs.Runs.{run_data}
 use Rattle.elements.proofs.Changes.{absent_or_first, one, stands_one, find_first, find_absent, replace_first, remove_first}
-use Rattle.block.specs.Form.{Form, one_byte, two_byte, other, form_of, per_element}
+use Rattle.block.specs.declared.Form.{Form}
+use Rattle.block.specs.declared.Form.TheVariants.{OneByte as one_byte, TwoByte as two_byte, Other as other}
+use Rattle.block.specs.Form.{form_of, per_element}
 use Rattle.block.specs.Padding.{grown, shrunk, resized}
-use Rattle.block_write.proofs.Octets.{both}
 use Rattle.header.specs.declared.Header.{Header}
 use Rattle.header.specs.Fields.{fields_of, in_domain}
 use Rattle.header.specs.Extension.{changed, change, id_refusal, set_found, set_later, set_first, set_extension, del_found, del_extension, get_extension, Held, nothing, holds, lookup, shows}
@@ -183,7 +185,7 @@ change_makes : (h : Header) (profile : ℕ) (es : List Element) (pads : ℕ) (h'
     change h profile es pads ≡ says h' → Made h h' es
 change_makes h profile es pads h' d z e =
     let t = tested (leb (length es) 32 && leb (length (data_of es)) 1024) (says (changed h profile es pads)) 7 h' e in
-    let b = both (leb (length es) 32) (leb (length (data_of es)) 1024) t.0 in
+    let b = and_parts (leb (length es) 32) (leb (length (data_of es)) 1024) t.0 in
     record {
       domain = d;
       profile = profile;

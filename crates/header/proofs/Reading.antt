@@ -1,4 +1,5 @@
 -- How the reader's definitions go on, from the facts that the code tests. Assumes nothing.
+use Rattle.std.specs.Prelude.{Result, Ok, Err}
 use mathlib.Core.Path.{◌≡◌, refl, sym, ap, subst, ◌∙◌}
 use mathlib.Core.Bool.{Bool, true, false, cond}
 use mathlib.Core.List.{List, [], ◌∷◌, ◌++◌}
@@ -11,23 +12,20 @@ use lib.ListN.{length, drop, get_or, length-drop}
 use borrow.Author.Tests.{eq-eqb, ne_eqb, lt-ltb, le-ltb, ltb-false}
 use Rattle.error.specs.declared.Error.{Error}
 use Rattle.error.specs.Refusal.{refusal_of}
-use Rattle.error.specs.Said.{Said, says, refused, refuse}
+use Rattle.error.specs.Said.{Said, says, refused, refuse, said}
 use Rattle.error.proofs.Refusing.{not_says}
 use Rattle.wire.specs.Net.{u16_at, u32_at, bit}
 use Rattle.elements.specs.Elements.{Element, lay_elements}
-use Rattle.block_read.specs.declared.Ending.{Ending}
-use Rattle.block_read.specs.declared.Ending.TheVariants as ending
+use Rattle.block_read.specs.declared.Seen.{Seen}
 use Rattle.block_read.specs.Read.{Block, block_at}
-use Rattle.block_read.specs.Said.{said_ending, block_seen}
+use Rattle.block_read.specs.Said.{block_seen}
 use Rattle.header.specs.declared.Header.{Header}
-use Rattle.header.specs.declared.HeaderRead.{HeaderRead}
-use Rattle.header.specs.declared.HeaderRead.TheVariants as read
 use Rattle.header.specs.declared.Unmarshalled.{Unmarshalled}
 use Rattle.header.specs.declared.Front.{Front}
 use Rattle.header.specs.Fields.{Fields, lay_out, blank}
 use Rattle.header.specs.Parts.{fixed_at, front_at, front_of, FrontHeard, front_heard}
 use Rattle.header.specs.Read.{csrcs_at, fields_at, reading_of, block_of, read_extension, fixed_length, count_of, read_fixed, Reading, read_header}
-use Rattle.header.specs.Said.{said_read, Heard, heard, reading_heard}
+use Rattle.header.specs.Said.{Heard, heard, reading_heard}
 
 -- ---- the CSRCs
 
@@ -60,13 +58,13 @@ abbrev pub said_front : Said Reading → FrontHeard
 said_front x = front_heard (reading_heard x)
 
 -- what the header's reader makes of the block's answer
-abbrev pub around : List ℕ → ℕ → ℕ → ℕ → ℕ → Said ℕ → FrontHeard
-around s cc profile count pads (says place) = record { answer = says place; front = front_at s cc profile count pads }
-around s cc profile count pads (refused r) = record { answer = refused r; front = front_of blank }
+abbrev pub around : List ℕ → ℕ → ℕ → Said Seen → FrontHeard
+around s cc profile (says b) = record { answer = says b.place; front = front_at s cc profile b.count b.padding }
+around s cc profile (refused r) = record { answer = refused r; front = front_of blank }
 
 pub heard_around : (s : List ℕ) (cc profile : ℕ) (b : Said Block) →
     said_front (reading_of s cc profile b)
-    ≡ around s cc profile (block_seen (length s) b).count (block_seen (length s) b).pads (block_seen (length s) b).answer
+    ≡ around s cc profile (block_seen (length s) b)
 heard_around s cc profile (says b) =
     ap (λ (f : Front). record { answer = says (length s - length b.rest); front = f }) (front_fields_at s cc profile b)
 heard_around s cc profile (refused r) = refl
@@ -87,14 +85,13 @@ module _ (s : List ℕ) (cc at : ℕ) where
   block_whole h g = rw (le-ltb (length s) (at + 4) h, le-ltb (length s) (at + 4 + 4 * u16_at s (at + 2)) g)
 
 -- the header's answer, by the block's
-module _ (s : List ℕ) (cc profile count pads : ℕ) (q : Ending) where
-  pub heard_payload : (place : ℕ) → q ≡ ending.Payload place →
-      record { answer = says place; front = front_at s cc profile count pads } ≡ around s cc profile count pads (said_ending q)
-  heard_payload place eq = sym (ap (λ (x : Ending). around s cc profile count pads (said_ending x)) eq)
+module _ (s : List ℕ) (cc profile : ℕ) (q : Result Seen Error) where
+  pub heard_payload : (b : Seen) → q ≡ Ok b →
+      record { answer = says b.place; front = front_at s cc profile b.count b.padding } ≡ around s cc profile (said q)
+  heard_payload b eq = sym (ap (λ (x : Result Seen Error). around s cc profile (said x)) eq)
 
-  pub heard_refused : (e : Error) → q ≡ ending.Refused e →
-      said_front (refused (refusal_of e)) ≡ around s cc profile count pads (said_ending q)
-  heard_refused e eq = sym (ap (λ (x : Ending). around s cc profile count pads (said_ending x)) eq)
+  pub heard_refused : (e : Error) → q ≡ Err e → said_front (refused (refusal_of e)) ≡ around s cc profile (said q)
+  heard_refused e eq = sym (ap (λ (x : Result Seen Error). around s cc profile (said x)) eq)
 
 -- ---- the whole header
 
@@ -145,18 +142,18 @@ pub record Says (x : Said Reading) (place : ℕ) : Type 0 where
   pub fields : Fields
   pub reads : x ≡ says (record { fields = fields; place = place })
 
-pub says_place : (x : Said Reading) (a : HeaderRead) (place : ℕ) → said_read a ≡ (reading_heard x).answer → a ≡ read.Payload place → Says x place
+pub says_place : (x : Said Reading) (a : Result ℕ Error) (place : ℕ) → said a ≡ (reading_heard x).answer → a ≡ Ok place → Says x place
 says_place (says r) a place e p =
-    let at : says place ≡ says r.place = ap said_read (sym p) ∙ e in
+    let at : says place ≡ says r.place = ap said (sym p) ∙ e in
     let same : r.place ≡ place = cc in
     record { fields = r.fields; reads = ap (λ (n : ℕ). says (record { fields = r.fields; place = n })) same }
-says_place (refused r) a place e p = absurd (not_says (sym (ap said_read (sym p) ∙ e)))
+says_place (refused r) a place e p = absurd (not_says (sym (ap said (sym p) ∙ e)))
 
 -- .. and a refusal is its refusal
-pub says_refusal : (x : Said Reading) (a : HeaderRead) (r : Error) → said_read a ≡ (reading_heard x).answer → a ≡ read.Refused r → x ≡ refused (refusal_of r)
-says_refusal (says q) a r e p = absurd (not_says (ap said_read (sym p) ∙ e))
+pub says_refusal : (x : Said Reading) (a : Result ℕ Error) (r : Error) → said a ≡ (reading_heard x).answer → a ≡ Err r → x ≡ refused (refusal_of r)
+says_refusal (says q) a r e p = absurd (not_says (ap said (sym p) ∙ e))
 says_refusal (refused q) a r e p =
-    let at : refused (refusal_of r) ≡ refused q = ap said_read (sym p) ∙ e in
+    let at : refused (refusal_of r) ≡ refused q = ap said (sym p) ∙ e in
     let same : q ≡ refusal_of r = cc in
     ap refused same
 
@@ -166,7 +163,7 @@ pub record Answered (s : List ℕ) (h : Header) (place : ℕ) : Type 0 where
   pub reads : read_header s ≡ says (record { fields = fields; place = place })
   pub laid : h ≡ lay_out fields
 
-pub answered : (u : Unmarshalled) (s : List ℕ) (place : ℕ) → heard u ≡ reading_heard (read_header s) → u.read ≡ read.Payload place →
+pub answered : (u : Unmarshalled) (s : List ℕ) (place : ℕ) → heard u ≡ reading_heard (read_header s) → u.read ≡ Ok place →
     Answered s u.header place
 answered u s place e p =
     let a : Says (read_header s) place = says_place (read_header s) u.read place (ap (λ (k : Heard). k.answer) e) p in
@@ -177,7 +174,7 @@ answered u s place e p =
     }
 
 -- .. or a refusal
-pub answered_refusal : (u : Unmarshalled) (s : List ℕ) (r : Error) → heard u ≡ reading_heard (read_header s) → u.read ≡ read.Refused r →
+pub answered_refusal : (u : Unmarshalled) (s : List ℕ) (r : Error) → heard u ≡ reading_heard (read_header s) → u.read ≡ Err r →
     (read_header s ≡ refused (refusal_of r)) × (u.header ≡ blank)
 answered_refusal u s r e p =
     let is : read_header s ≡ refused (refusal_of r) = says_refusal (read_header s) u.read r (ap (λ (k : Heard). k.answer) e) p in

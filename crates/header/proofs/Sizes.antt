@@ -1,5 +1,6 @@
 -- What the arrays of a record in the domain say of its elements: how many there are, how long their data are, and so what a
 -- header's size is, counted from the record. Assumes nothing.
+use Rattle.std.specs.Prelude.{Result, Ok, Err}
 use mathlib.Core.Path.{◌≡◌, refl, sym, ap, ap₂, ◌∙◌}
 use mathlib.Core.Bool.{Bool, true, false, not, cond}
 use Prim.Native.Nat.{ℕ, ◌≤◌}
@@ -9,18 +10,15 @@ use lib.ListN.{length, take, length-take}
 use lib.Seq.{length-take-le}
 use borrow.Author.Tests.{not-true, not-false}
 use Rattle.error.specs.declared.Error.{Error}
-use Rattle.error.specs.Said.{says, refuse}
+use Rattle.error.specs.Said.{says, refuse, said}
 use Rattle.elements.specs.Elements.{unpack, sum, elements_of}
 use Rattle.elements.proofs.Packed.{PackedIn, length_elements_of, length_data_of, length_unpack_few, length_data_few}
-use Rattle.block.specs.Form.{length_for}
-use Rattle.block.proofs.Form.{heads_few}
+use Rattle.block.specs.Form.{form_of, length_for}
+use Rattle.block.proofs.Forms.{heads_few}
 use Rattle.header.specs.declared.Header.{Header}
-use Rattle.header_write.specs.declared.Length.{Length}
-use Rattle.header_write.specs.declared.Length.TheVariants as len
 use Rattle.header.specs.Fields.{fields_of, in_domain, Tested}
 use Rattle.header_write.specs.Size.{size_for}
 use Rattle.header.specs.Size.{payload_length, header_size, length_asked, size_asked}
-use Rattle.header_write.specs.Said.{said_length}
 use Rattle.header_write.proofs.Domain.{Limits, limits, taken_few}
 pub use Rattle.header_write.proofs.Domain.{never}
 pub use Rattle.header.specs.Fields.{Arrays}
@@ -75,21 +73,21 @@ size_asked_lem h e = ap (λ (b : Bool). cond b (says (header_size (fields_of h))
 -- ---- for callers
 
 -- what a size's answer says of the record
-module _ (h : Header) (r : Length) (e : said_length r ≡ size_asked h) where
-  pub size_said : (n : ℕ) → r ≡ len.Bytes n → (in_domain h ≡ true) × (header_size (fields_of h) ≡ n)
+module _ (h : Header) (r : Result ℕ Error) (e : said r ≡ size_asked h) where
+  pub size_said : (n : ℕ) → r ≡ Ok n → (in_domain h ≡ true) × (header_size (fields_of h) ≡ n)
   size_said n p = go (in_domain h) refl
     where
       go : (b : Bool) → in_domain h ≡ b → (in_domain h ≡ true) × (header_size (fields_of h) ≡ n)
       go true is =
-          let a : says (header_size (fields_of h)) ≡ says n = sym (size_asked_lem h is) ∙ sym e ∙ ap said_length p in
+          let a : says (header_size (fields_of h)) ≡ says n = sym (size_asked_lem h is) ∙ sym e ∙ ap said p in
           (is, cc)
-      go false is = absurd (never (sym (sym (size_asked_lem h is) ∙ sym e ∙ ap said_length p)))
+      go false is = absurd (never (sym (sym (size_asked_lem h is) ∙ sym e ∙ ap said p)))
 
-  pub size_refused : (k : Error) → r ≡ len.Refused k → in_domain h ≡ false
+  pub size_refused : (k : Error) → r ≡ Err k → in_domain h ≡ false
   size_refused k p = go (in_domain h) refl
     where
       go : (b : Bool) → in_domain h ≡ b → in_domain h ≡ false
-      go true is = absurd (never (sym (size_asked_lem h is) ∙ sym e ∙ ap said_length p))
+      go true is = absurd (never (sym (size_asked_lem h is) ∙ sym e ∙ ap said p))
       go false is = is
 
 pub size_most : (on : Bool) (n len pads : ℕ) → n ≤ 15 → len ≤ 1088 → pads ≤ 262140 → size_for n on len pads ≤ 263308
@@ -113,5 +111,5 @@ size_small h e =
     ) in
     size_most h.extension _ _ h.extensions_padding
     (omega (arith, l.sources, length-take h.csrc_count h.csrc, min-le_left h.csrc_count (length h.csrc)))
-    (omega (arith, l.bytes, length_data_few names sizes x.bytes, heads_few h.extension_profile n few))
+    (omega (arith, l.bytes, length_data_few names sizes x.bytes, heads_few (form_of h.extension_profile) n few))
     l.zeros

@@ -1,4 +1,5 @@
 -- `write_header` counted from the record: its tests one after the other, and its octets by its parts. Assumes nothing.
+use Rattle.std.specs.Prelude.{Result, Ok, Err}
 use mathlib.Core.Path.{◌≡◌, refl, sym, ap, ap₂, ◌∙◌}
 use mathlib.Core.Bool.{Bool, true, false, cond, ◌&&◌}
 use mathlib.Core.List.{List}
@@ -7,23 +8,23 @@ use native.Mathlib.Omega.{arith}
 use lib.Dec.{leb, eqb}
 use lib.ListN.{length, take}
 use borrow.Author.Tests.{lt-ltb, le-ltb, leb-true, le-leb}
+use Rattle.std.proofs.lemmas.Bool.{and_parts}
 use Rattle.error.specs.declared.Error.{Error}
 use Rattle.error.specs.Refusal.{Refusal, refusal_of}
-use Rattle.error.specs.Said.{Said, says, refused, refuse}
+use Rattle.error.specs.Said.{Said, says, refused, refuse, said}
 use Rattle.wire.specs.Part.{splice, Put}
 use Rattle.elements.specs.Elements.{elements_of, elements_in}
 use Rattle.elements.proofs.Packed.{PackedIn, length_elements_of}
-use Rattle.block.specs.Form.{Form, one_byte, two_byte, other, form_of}
+use Rattle.block.specs.declared.Form.{Form}
+use Rattle.block.specs.declared.Form.TheVariants.{OneByte as one_byte, TwoByte as two_byte, Other as other}
+use Rattle.block.specs.Form.{form_of}
 use Rattle.block_write.specs.Write.{all_fit, all_writable}
-use Rattle.block_write.proofs.Octets.{both, all_writable_fit}
+use Rattle.block_write.proofs.Octets.{all_writable_fit}
 use Rattle.header.specs.declared.Header.{Header}
-use Rattle.header_write.specs.declared.Length.{Length}
-use Rattle.header_write.specs.declared.Length.TheVariants as len
 use Rattle.header.specs.Fields.{fields_of, in_domain}
 use Rattle.header.specs.Size.{payload_length, header_size}
 use Rattle.header_write.specs.Size.{size_for}
 use Rattle.header_write.specs.Parts.{octets_for}
-use Rattle.header_write.specs.Said.{said_length}
 use Rattle.header_write.proofs.Domain.{Fine, in_limits_lem}
 use Rattle.header_write.specs.Judge.{judged}
 use Rattle.header.specs.Write.{octets_of, in_writing_domain, write_header}
@@ -60,9 +61,9 @@ pub record Writable (h : Header) : Type 0 where
 pub writable : (h : Header) → Arrays h → in_writing_domain h ≡ true → Writable h
 unfolding in_writing_domain
 writable h a e =
-    let some = both (in_domain h) _ e in
-    let more = both (leb h.version 3) _ some.1 in
-    let last = both (leb h.payload_type 127) _ more.1 in
+    let some = and_parts (in_domain h) _ e in
+    let more = and_parts (leb h.version 3) _ some.1 in
+    let last = and_parts (leb h.payload_type 127) _ more.1 in
     let l = limits_of h some.0 in
     let p = packed h a l in
     record {
@@ -192,8 +193,8 @@ module _ (h : Header) (n : ℕ) (m : Measured h n) where
       ∙ m.can.fit
 
   -- what was judged of the elements as they were measured is judged whatever is asked for
-  module _ {A : Type 0} (x : A) (r : Length)
-      (e : said_length r ≡ block_asked h.extension (form_of h.extension_profile) n h.extensions.count n) where
+  module _ {A : Type 0} (x : A) (r : Result ℕ Error)
+      (e : said r ≡ block_asked h.extension (form_of h.extension_profile) n h.extensions.count n) where
     abbrev asked : Said A
     asked = block_asked h.extension (form_of h.extension_profile) (payload_length (fields_of h)) (length (fields_of h).elements) x
 
@@ -203,15 +204,15 @@ module _ (h : Header) (n : ℕ) (m : Measured h n) where
         ap₂ (λ (k l : ℕ). block_asked h.extension (form_of h.extension_profile) k l x)
         (payload_length_lem h m.can.packing ∙ sym m.taken) (length_elements_of h.extensions m.can.packing)
 
-    pub judge_refuses : (k : Error) → r ≡ len.Refused k → asked ≡ refused (refusal_of k)
+    pub judge_refuses : (k : Error) → r ≡ Err k → asked ≡ refused (refusal_of k)
     judge_refuses k p =
         as_measured
-        ∙ block_asked_refused n x h.extension (form_of h.extension_profile) n h.extensions.count (sym e ∙ ap said_length p)
+        ∙ block_asked_refused n x h.extension (form_of h.extension_profile) n h.extensions.count (sym e ∙ ap said p)
 
-    pub judge_says : (k : ℕ) → r ≡ len.Bytes k → asked ≡ says x
+    pub judge_says : (k : ℕ) → r ≡ Ok k → asked ≡ says x
     judge_says k p =
         as_measured
-        ∙ block_asked_says n x h.extension (form_of h.extension_profile) n h.extensions.count (sym e ∙ ap said_length p)
+        ∙ block_asked_says n x h.extension (form_of h.extension_profile) n h.extensions.count (sym e ∙ ap said p)
 
   -- the answer and the buffer, where there is no room, where 9 or 10 was judged, and where the octets were put
   module _ (buf : List ℕ) where
@@ -219,14 +220,13 @@ module _ (h : Header) (n : ℕ) (m : Measured h n) where
         record { answer = refuse 5; buffer = buf } ≡ written buf (write_header h (length buf))
     short_written l = sym (ap (written buf) (write_short h (length buf) m.domain (omega (arith, sized))))
 
-    module _ (fits : header_size (fields_of h) ≤ length buf) (r : Length)
-        (e : said_length r ≡ block_asked h.extension (form_of h.extension_profile) n h.extensions.count n) where
-      pub judge_written : (k : Error) → r ≡ len.Refused k → heard_written r buf ≡ written buf (write_header h (length buf))
+    module _ (fits : header_size (fields_of h) ≤ length buf) (r : Result ℕ Error)
+        (e : said r ≡ block_asked h.extension (form_of h.extension_profile) n h.extensions.count n) where
+      pub judge_written : (k : Error) → r ≡ Err k → heard_written (Err k) buf ≡ written buf (write_header h (length buf))
       judge_written k p =
-          ap (λ (q : Length). heard_written q buf) p
-          ∙ sym (ap (written buf) (write_asked h (length buf) m.domain fits ∙ judge_refuses (octets_of (fields_of h)) r e k p))
+          sym (ap (written buf) (write_asked h (length buf) m.domain fits ∙ judge_refuses (octets_of (fields_of h)) r e k p))
 
-      pub put_written : (k : ℕ) → r ≡ len.Bytes k → (exit : List ℕ) (at : ℕ) → Put buf 0 (octets_by h n) at exit →
+      pub put_written : (k : ℕ) → r ≡ Ok k → (exit : List ℕ) (at : ℕ) → Put buf 0 (octets_by h n) at exit →
           record { answer = says at; buffer = exit } ≡ written buf (write_header h (length buf))
       put_written k p exit at q =
           ap₂ (λ (l : ℕ) (b : List ℕ). record { answer = says l; buffer = b }) (omega (arith, q.next, ap length octets_by_lem))
@@ -242,24 +242,24 @@ pub record WrittenOut (buf : List ℕ) (asked : Said (List ℕ)) (n : ℕ) (exit
   pub count : n ≡ length octets
   pub buffer : exit ≡ splice buf 0 octets
 
-module _ (r : Length) (buf exit : List ℕ) where
-  told : (q : Length) (x : Said (List ℕ)) → heard_written r exit ≡ written buf x → r ≡ q → heard_written q exit ≡ written buf x
-  told q x e p = ap (λ (l : Length). heard_written l exit) (sym p) ∙ e
+module _ (r : Result ℕ Error) (buf exit : List ℕ) where
+  told : (q : Result ℕ Error) (x : Said (List ℕ)) → heard_written r exit ≡ written buf x → r ≡ q → heard_written q exit ≡ written buf x
+  told q x e p = ap (λ (l : Result ℕ Error). heard_written l exit) (sym p) ∙ e
 
-  pub written_out : (x : Said (List ℕ)) (n : ℕ) → heard_written r exit ≡ written buf x → r ≡ len.Bytes n → WrittenOut buf x n exit
+  pub written_out : (x : Said (List ℕ)) (n : ℕ) → heard_written r exit ≡ written buf x → r ≡ Ok n → WrittenOut buf x n exit
   written_out (says octets) n e p =
-      let h = told (len.Bytes n) (says octets) e p in
+      let h = told (Ok n) (says octets) e p in
       let a : says n ≡ says (length octets) = ap (λ (w : Written). w.answer) h in
       record { octets = octets; asks = refl; count = cc; buffer = ap (λ (w : Written). w.buffer) h }
-  written_out (refused k) n e p = absurd (never (ap (λ (w : Written). w.answer) (told (len.Bytes n) (refused k) e p)))
+  written_out (refused k) n e p = absurd (never (ap (λ (w : Written). w.answer) (told (Ok n) (refused k) e p)))
 
   -- .. or a refusal
-  pub written_refused : (x : Said (List ℕ)) (k : Error) → heard_written r exit ≡ written buf x → r ≡ len.Refused k →
+  pub written_refused : (x : Said (List ℕ)) (k : Error) → heard_written r exit ≡ written buf x → r ≡ Err k →
       (x ≡ refused (refusal_of k)) × (exit ≡ buf)
   written_refused (says octets) k e p =
-      absurd (never (sym (ap (λ (w : Written). w.answer) (told (len.Refused k) (says octets) e p))))
+      absurd (never (sym (ap (λ (w : Written). w.answer) (told (Err k) (says octets) e p))))
   written_refused (refused q) k e p =
-      let h = told (len.Refused k) (refused q) e p in
+      let h = told (Err k) (refused q) e p in
       let a : refused (refusal_of k) ≡ refused q = ap (λ (w : Written). w.answer) h in
       let same : q ≡ refusal_of k = cc in
       (ap refused same, ap (λ (w : Written). w.buffer) h)

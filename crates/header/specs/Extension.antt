@@ -6,7 +6,9 @@ use Rattle.wire.specs.Part.{part}
 use Rattle.elements.specs.declared.Extensions.{Extensions}
 use Rattle.elements.specs.Elements.{Element, data_of, lay_elements}
 use Rattle.elements.specs.Named.{Found, absent, at, find, replace, remove, append}
-use Rattle.block.specs.Form.{Form, one_byte, two_byte, other, form_of, per_element, first_profile, first_head}
+use Rattle.block.specs.declared.Form.{Form}
+use Rattle.block.specs.declared.Form.TheVariants.{OneByte as one_byte, TwoByte as two_byte, Other as other}
+use Rattle.block.specs.Form.{form_of, per_element, first_profile, first_head}
 use Rattle.block.specs.Padding.{grown, shrunk, resized}
 use Rattle.header.specs.declared.Header.{Header}
 use Rattle.header.specs.Fields.{fields_of, in_domain}

@@ -1,17 +1,18 @@
 -- A header in its parts: the fixed fields, the numbers, the arrays. Assumes nothing.
 use Rattle.std.specs.Prelude.{List, [], ℕ, ◌/◌, ◌%◌, get_or}
-use Rattle.error.specs.Said.{Said, says, refused}
+use Rattle.error.specs.Said.{Said, says, refused, said}
 use Rattle.wire.specs.Net.{u16_at, u32_at, bit}
 use Rattle.wire.specs.Part.{pad_to}
 use Rattle.elements.specs.declared.Extensions.{Extensions}
 use Rattle.elements.specs.Elements.{lay_elements}
 use Rattle.header_write.specs.declared.Fixed.{Fixed}
+use Rattle.header_write.specs.declared.Parts.{Parts}
 use Rattle.header.specs.declared.Header.{Header}
 use Rattle.header.specs.declared.Front.{Front}
 use Rattle.header.specs.declared.FrontRead.{FrontRead}
 use Rattle.header.specs.Fields.{lay_out}
 use Rattle.header.specs.Read.{Reading}
-use Rattle.header.specs.Said.{Heard, said_read}
+use Rattle.header.specs.Said.{Heard}
 
 abbrev pub fixed_of : Header → Fixed
 fixed_of h =
@@ -44,6 +45,13 @@ together f count csrc profile x pads =
       extensions = x;
       extensions_padding = pads;
     }
+
+-- the record whose parts these are
+abbrev pub record_of : Parts → Header
+record_of p =
+    together p.fixed p.csrc_count p.csrc.now p.profile
+    (record { count = p.count; ids = p.ids.now; lens = p.lens.now; bytes = p.bytes.now })
+    p.padding
 
 -- the record without CSRCs and elements
 unfoldable pub bare : Fixed → ℕ → ℕ → Header
@@ -93,7 +101,7 @@ pub record FrontHeard : Type 0 where
   pub front : Front
 
 abbrev pub heard_front : FrontRead → FrontHeard
-heard_front r = record { answer = said_read r.read; front = r.front }
+heard_front r = record { answer = said r.read; front = r.front }
 
 -- what reading answers, without the arrays
 abbrev pub front_heard : Heard → FrontHeard

@@ -2,7 +2,8 @@
 -- buffer stays." Assumes nothing.
 use Rattle.std.specs.Prelude.{Bool, cond, ◌&&◌, List, [], ◌++◌, ℕ, ltb, leb, length}
 use Rattle.error.specs.Said.{Said, says, refuse}
-use Rattle.block.specs.Form.{Form, form_of}
+use Rattle.block.specs.declared.Form.{Form}
+use Rattle.block.specs.Form.{form_of}
 use Rattle.block_write.specs.Write.{extension_for, all_writable}
 use Rattle.header_write.specs.Fixed.{first_for, second_for, fixed_for}
 use Rattle.header_write.specs.Judge.{judged}

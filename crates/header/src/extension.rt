@@ -1,56 +1,31 @@
 // Setting and deleting an extension element.
 ghost use Rattle.std.specs.Prelude.{◌≡◌, true, [], ◌∷◌, length};
 ghost use Rattle.error.specs.Refusal.{refusal_of};
-ghost use Rattle.error.specs.Said.{Said, refused};
+ghost use Rattle.error.specs.Said.{Said, refused, said};
 ghost use Rattle.elements.specs.Elements.{elements_of};
 ghost use Rattle.elements.specs.Runs.{Holds, element, replaced_at};
-ghost use Rattle.block.specs.Form.{form_of};
 ghost use Rattle.header.specs.declared.Header.{Header};
 ghost use Rattle.header.specs.Fields.{in_domain};
 ghost use Rattle.header.specs.Extension.{extended, change, id_refusal, set_later, set_first, set_extension, del_extension};
-ghost use Rattle.header.specs.Said.{said_change, heard_change, change_heard, unless};
+ghost use Rattle.header.specs.Said.{heard_change, change_heard, unless};
 
-use crate::{Change, Changed, Header};
-use block::{
-    EXTENSION_PROFILE_ONE_BYTE, EXTENSION_PROFILE_TWO_BYTE, first_head, first_profile, grow,
-    per_element, resize,
-};
-use elements::{Extensions, Run, find, replaced, total, without};
+use crate::{Changed, Header};
+use block::{Form, first_head, first_profile, grow, resize};
+use elements::{Extensions, Run, end, find, replaced, total, without};
 use error::Error;
 use header_write::in_limits;
 
 // Whether a later set takes the id and the length.
-fn allowed(profile: u16, id: u8, len: usize) -> Change
-    ensures { (next : Said Header) → id_refusal (form_of profile) id len next ≡ unless (said_change result) next }
+fn allowed(form: Form, id: u8, len: usize) -> Result<(), Error>
+    ensures { (next : Said Header) → id_refusal form id len next ≡ unless (said result) next }
 {
-    match profile {
-        EXTENSION_PROFILE_ONE_BYTE => {
-            if id < 1 {
-                return Change::Refused(Error::ErrRfc8285oneByteHeaderIdrange);
-            }
-            if 14 < id {
-                return Change::Refused(Error::ErrRfc8285oneByteHeaderIdrange);
-            }
-            if 16 < len {
-                return Change::Refused(Error::ErrRfc8285oneByteHeaderSize);
-            }
-            Change::Made
-        }
-        EXTENSION_PROFILE_TWO_BYTE => {
-            if id < 1 {
-                return Change::Refused(Error::ErrRfc8285twoByteHeaderIdrange);
-            }
-            if 255 < len {
-                return Change::Refused(Error::ErrRfc8285twoByteHeaderSize);
-            }
-            Change::Made
-        }
-        _ => {
-            if id != 0 {
-                return Change::Refused(Error::ErrRfc3550headerIdrange);
-            }
-            Change::Made
-        }
+    match form {
+        Form::OneByte if id < 1 || 14 < id => Err(Error::ErrRfc8285oneByteHeaderIdrange),
+        Form::OneByte if 16 < len => Err(Error::ErrRfc8285oneByteHeaderSize),
+        Form::TwoByte if id < 1 => Err(Error::ErrRfc8285twoByteHeaderIdrange),
+        Form::TwoByte if 255 < len => Err(Error::ErrRfc8285twoByteHeaderSize),
+        Form::Other if id != 0 => Err(Error::ErrRfc3550headerIdrange),
+        _ => Ok(()),
     }
 }
 
@@ -70,7 +45,7 @@ impl Header {
         ensures { heard_change result ≡ change_heard self (refused (refusal_of error)) }
     {
         Changed {
-            change: Change::Refused(error),
+            change: Err(error),
             header: self,
         }
     }
@@ -88,7 +63,7 @@ impl Header {
             return self.refused(Error::OverLimits);
         }
         Changed {
-            change: Change::Made,
+            change: Ok(()),
             header: self.extended(
                 profile,
                 replaced(self.extensions, run, id, payload),
@@ -103,25 +78,27 @@ impl Header {
         ensures { heard_change result ≡ change_heard self (set_later self (elements_of self.extensions) id payload.now) }
     {
         let profile = self.extension_profile;
-        let answer = allowed(profile, id, payload.len());
-        if let Change::Refused(error) = answer {
+        let form = Form::from(profile);
+        if let Err(error) = allowed(form, id, payload.len()) {
             return self.refused(error);
         }
-        let run = find(
+        let found = find(
             id,
             self.extensions.count,
             &self.extensions.ids,
             &self.extensions.lens,
         );
-        if run.count == 0 {
-            let padding = grow(
-                self.extensions_padding,
-                payload.len() + per_element(profile),
-            );
-            return self.put(run, profile, padding, id, payload);
+        match found {
+            Some(run) => {
+                let padding = resize(self.extensions_padding, run.len, payload.len());
+                self.put(run, profile, padding, id, payload)
+            }
+            None => {
+                let size = payload.len() + form.per_element();
+                let padding = grow(self.extensions_padding, size);
+                self.put(end(self.extensions), profile, padding, id, payload)
+            }
         }
-        let padding = resize(self.extensions_padding, run.len, payload.len());
-        self.put(run, profile, padding, id, payload)
     }
 
     // A first set appends; "it does not check the id."
@@ -129,16 +106,10 @@ impl Header {
         requires { in_domain self ≡ true }
         ensures { heard_change result ≡ change_heard self (set_first self (elements_of self.extensions) id payload.now) }
     {
-        let end = Run {
-            first: self.extensions.count,
-            count: 0,
-            at: total(self.extensions.count, &self.extensions.lens),
-            len: 0,
-        };
         let len = payload.len();
         let profile = first_profile(self.extension_profile, len);
         let padding = grow(self.extensions_padding, len + first_head(len));
-        self.put(end, profile, padding, id, payload)
+        self.put(end(self.extensions), profile, padding, id, payload)
     }
 
     pub fn set_extension(self, id: u8, payload: &[u8]) -> Changed
@@ -158,6 +129,7 @@ impl Header {
         self.set_first(id, payload)
     }
 
+    // Stays: the test of `set_extension`, before another refusal.
     pub fn del_extension(self, id: u8) -> Changed
         ensures { heard_change result ≡ change_heard self (del_extension self id) }
     {
@@ -172,20 +144,20 @@ impl Header {
         if !self.extension {
             return self.refused(Error::ErrHeaderExtensionsNotEnabled);
         }
-        let run = find(
+        let found = find(
             id,
             self.extensions.count,
             &self.extensions.ids,
             &self.extensions.lens,
         );
-        if run.count == 0 {
+        let Some(run) = found else {
             return self.refused(Error::ErrHeaderExtensionNotFound);
-        }
+        };
         let profile = self.extension_profile;
-        let gone = (run.len + per_element(profile)) % 4;
+        let gone = (run.len + Form::from(profile).per_element()) % 4;
         let padding = (self.extensions_padding + gone) % 4;
         Changed {
-            change: Change::Made,
+            change: Ok(()),
             header: self.extended(profile, without(self.extensions, run), padding),
         }
     }

@@ -24,12 +24,13 @@ mod write;
 
 pub use block::{EXTENSION_ID_RESERVED, EXTENSION_PROFILE_ONE_BYTE, EXTENSION_PROFILE_TWO_BYTE};
 pub use elements::Extensions;
-pub use header_write::{Fixed, Length};
+pub use header_write::{Fixed, Parts};
 pub use look::{get_extension_ids_parts, get_extension_parts};
 pub use read::{unmarshal_front, unmarshal_parts};
 pub use size::{get_extension_payload_len_parts, marshal_size_parts};
 pub use write::{marshal_bare, marshal_parts};
 
+// Stays: C sees the record: arrays beside counts.
 #[repr(C)]
 #[derive(Clone, Copy)]
 pub struct Header {
@@ -61,16 +62,11 @@ pub struct Header {
     pub extensions_padding: usize,
 }
 
-// What reading answers beside the record: the payload's place in the packet.
-#[derive(Clone, Copy)]
-pub enum HeaderRead {
-    Payload(usize),
-    Refused(Error),
-}
-
+// Stays: the paper has the record stand beside the answer, here the record and there its front; one struct would rename either for every caller.
 #[derive(Clone, Copy)]
 pub struct Unmarshalled {
-    pub read: HeaderRead,
+    // the payload's place in the packet
+    pub read: Result<usize, Error>,
     // all zeros beside a refusal
     pub header: Header,
 }
@@ -90,45 +86,32 @@ pub struct Front {
     pub extension_profile: u16,
 }
 
-// What reading answers beside the front.
 #[derive(Clone, Copy)]
 pub struct FrontRead {
-    pub read: HeaderRead,
+    // the payload's place in the packet
+    pub read: Result<usize, Error>,
     // all zeros beside a refusal
     pub front: Front,
 }
 
-// What setting and deleting answer beside the record.
-#[derive(Clone, Copy)]
-pub enum Change {
-    Made,
-    Refused(Error),
-}
-
 #[derive(Clone, Copy)]
 pub struct Changed {
-    pub change: Change,
+    pub change: Result<(), Error>,
     // as it came beside a refusal
     pub header: Header,
 }
 
 // An element's data: `len` bytes from `at` on, of the record's `extensions.bytes`.
 #[derive(Clone, Copy)]
-pub enum Got {
-    Data { at: usize, len: usize },
-    Absent,
-    Refused(Error),
-}
-
-#[derive(Clone, Copy)]
-pub enum IdCount {
-    Ids(usize),
-    Refused(Error),
+pub struct Data {
+    pub at: usize,
+    pub len: usize,
 }
 
 #[derive(Clone, Copy)]
 pub struct Ids {
-    pub count: IdCount,
+    // how many ids there are
+    pub count: Result<usize, Error>,
     // the ids in order, then zeros
     pub ids: [u8; 32],
 }

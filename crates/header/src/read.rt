@@ -10,8 +10,9 @@ ghost use Rattle.header.specs.Parts.{together, fixed_at, front_at, front_of, hea
 ghost use Rattle.header.specs.Read.{csrcs_at, block_of, read_extension, fixed_length, read_header};
 ghost use Rattle.header.specs.Said.{heard, reading_heard};
 
-use crate::{Fixed, Front, FrontRead, Header, HeaderRead, Unmarshalled};
-use block_read::{Ending, fill_block, see_block};
+use crate::{Fixed, Front, FrontRead, Header, Unmarshalled};
+use block::Form;
+use block_read::{Seen, fill_block, see_block};
 use elements::Extensions;
 use error::Error;
 
@@ -33,25 +34,18 @@ fn fixed_at(packet: &[u8]) -> Fixed
     }
 }
 
-// The payload begins at `place`, behind `cc` CSRCs and `count` elements of a block.
-fn front_at(
-    packet: &[u8],
-    place: usize,
-    cc: usize,
-    profile: u16,
-    count: usize,
-    zeros: usize,
-) -> FrontRead
+// The payload begins behind `cc` CSRCs and the block that was seen.
+fn front_at(packet: &[u8], cc: usize, profile: u16, seen: Seen) -> FrontRead
     requires { 12 ≤ length packet.now }
-    ensures { heard_front result ≡ record { answer = says place; front = front_at packet.now cc profile count zeros } }
+    ensures { heard_front result ≡ record { answer = says seen.place; front = front_at packet.now cc profile seen.count seen.padding } }
 {
     FrontRead {
-        read: HeaderRead::Payload(place),
+        read: Ok(seen.place),
         front: Front {
             fixed: fixed_at(packet),
             csrc_count: cc,
-            count,
-            extensions_padding: zeros,
+            count: seen.count,
+            extensions_padding: seen.padding,
             extension_profile: profile,
         },
     }
@@ -61,7 +55,7 @@ fn refused_front(e: Error) -> FrontRead
     ensures { heard_front result ≡ front_heard (reading_heard (refused (refusal_of e))) }
 {
     FrontRead {
-        read: HeaderRead::Refused(e),
+        read: Err(e),
         front: Front::default(),
     }
 }
@@ -85,18 +79,14 @@ fn front_extended(packet: &[u8], cc: usize, at: usize) -> FrontRead
         return refused_front(Error::ErrHeaderSizeInsufficientForExtension);
     }
     let profile = wire::get_u16(packet, at);
-    let len = 4 * wire::wide16(wire::get_u16(packet, at + 2));
+    let len = 4 * usize::from(wire::get_u16(packet, at + 2));
     let start = at + 4;
     if packet.len() < start + len {
         return refused_front(Error::ErrHeaderSizeInsufficientForExtension);
     }
-    let seen = see_block(packet, start, len, profile);
-    let count = seen.count;
-    let padding = seen.padding;
-    let ending = seen.ending;
-    match ending {
-        Ending::Payload(place) => front_at(packet, place, cc, profile, count, padding),
-        Ending::Refused(e) => refused_front(e),
+    match see_block(packet, start, len, Form::from(profile)) {
+        Ok(seen) => front_at(packet, cc, profile, seen),
+        Err(e) => refused_front(e),
     }
 }
 
@@ -111,7 +101,7 @@ pub fn unmarshal_front(packet: &[u8]) -> FrontRead
         return refused_front(Error::ErrHeaderSizeInsufficient);
     }
     let b0 = packet[0];
-    let cc = wire::wide(b0 % 16);
+    let cc = usize::from(b0 % 16);
     let at = 12 + 4 * cc;
     if packet.len() < at {
         return refused_front(Error::ErrHeaderSizeInsufficient);
@@ -119,7 +109,12 @@ pub fn unmarshal_front(packet: &[u8]) -> FrontRead
     if b0 / 16 % 2 == 1 {
         return front_extended(packet, cc, at);
     }
-    front_at(packet, at, cc, 0, 0, 0)
+    let no_block = Seen {
+        place: at,
+        count: 0,
+        padding: 0,
+    };
+    front_at(packet, cc, 0, no_block)
 }
 
 fn fill_csrcs(packet: &[u8], cc: usize, csrc: &mut [u32; 15])
@@ -127,10 +122,8 @@ fn fill_csrcs(packet: &[u8], cc: usize, csrc: &mut [u32; 15])
     ensures { csrc.new ≡ pad_to 15 (csrcs_at packet.now 12 cc) }
 {
     *csrc = [0; 15];
-    let mut i = 0;
-    while i < cc {
+    for i in 0..cc {
         csrc[i] = wire::get_u32(packet, 12 + 4 * i);
-        i += 1;
     }
 }
 
@@ -148,11 +141,12 @@ fn fill_extended(
     ensures { Laid (elements_read (block_of packet.now at)) ids.new lens.new bytes.new }
 {
     let profile = wire::get_u16(packet, at);
-    let len = 4 * wire::wide16(wire::get_u16(packet, at + 2));
-    fill_block(packet, at + 4, len, profile, ids, lens, bytes);
+    let len = 4 * usize::from(wire::get_u16(packet, at + 2));
+    fill_block(packet, at + 4, len, Form::from(profile), ids, lens, bytes);
 }
 
 // The front, and the record's arrays, which are lent.
+// Stays: C lends each array by itself, so in all that fills them.
 pub fn unmarshal_parts(
     packet: &[u8],
     csrc: &mut [u32; 15],
@@ -166,7 +160,7 @@ pub fn unmarshal_parts(
 {
     let seen = unmarshal_front(packet);
     let read = seen.read;
-    let HeaderRead::Payload(_) = read else {
+    let Ok(_) = read else {
         return seen;
     };
     let cc = seen.front.csrc_count;
@@ -180,11 +174,12 @@ pub fn unmarshal_parts(
     seen
 }
 
-impl Front {
-    // All zeros.
-    pub fn default() -> Self
-        ensures { result ≡ front_of blank }
-    {
+// All zeros.
+// Stays: by hand, since its clause says that the zeros are the front of `blank`.
+impl Default for Front {
+    ghost is_default = { λ front. front ≡ front_of blank };
+
+    fn default() -> Self {
         Front {
             fixed: Fixed {
                 version: 0,
@@ -202,7 +197,9 @@ impl Front {
             extension_profile: 0,
         }
     }
+}
 
+impl Front {
     // The record with these arrays.
     pub fn with(self, csrc: [u32; 15], ids: [u8; 32], lens: [u16; 32], bytes: [u8; 1024]) -> Header
         ensures { result ≡ together self.fixed self.csrc_count csrc self.extension_profile (record { count = self.count; ids = ids; lens = lens; bytes = bytes }) self.extensions_padding }
@@ -231,11 +228,12 @@ impl Front {
     }
 }
 
-impl Header {
-    // All zeros.
-    pub fn default() -> Self
-        ensures { result ≡ blank }
-    {
+// All zeros.
+// Stays: by hand, since an array of 1,024 bytes has no Default, and the zeros are those of `blank`.
+impl Default for Header {
+    ghost is_default = { λ header. header ≡ blank };
+
+    fn default() -> Self {
         Header {
             version: 0,
             padding: false,
@@ -252,7 +250,9 @@ impl Header {
             extensions_padding: 0,
         }
     }
+}
 
+impl Header {
     pub fn unmarshal(packet: &[u8]) -> Unmarshalled
         ensures { heard result ≡ reading_heard (read_header packet.now) }
     {

@@ -1,88 +1,44 @@
 // The size of a header, of its record and of the parts of one.
 ghost use Rattle.std.specs.Prelude.{◌≡◌};
-ghost use Rattle.header.specs.Parts.{together};
+ghost use Rattle.error.specs.Said.{said};
+ghost use Rattle.header.specs.Parts.{record_of};
 ghost use Rattle.header.specs.Size.{length_asked, size_asked};
-ghost use Rattle.header_write.specs.Said.{said_length};
 
 use crate::look::in_domain;
-use crate::{Fixed, Header, Length};
-use block::payload_len;
+use crate::{Header, Parts};
+use block::Form;
 use error::Error;
 use header_write::size_of;
 
-pub fn get_extension_payload_len_parts<'a>(
-    fixed: Fixed,
-    csrc_count: usize,
-    csrc: &'a [u32; 15],
-    profile: u16,
-    count: usize,
-    ids: &'a [u8; 32],
-    lens: &'a [u16; 32],
-    bytes: &'a [u8; 1024],
-    padding: usize,
-) -> Length
-    ensures { said_length result ≡ length_asked (together fixed csrc_count csrc.now profile (record { count = count; ids = ids.now; lens = lens.now; bytes = bytes.now }) padding) }
+pub fn get_extension_payload_len_parts(parts: Parts<'_>) -> Result<usize, Error>
+    ensures { said result ≡ length_asked (record_of parts.entry) }
 {
-    if !in_domain(
-        fixed, csrc_count, csrc, profile, count, ids, lens, bytes, padding,
-    ) {
-        return Length::Refused(Error::OutsideDomain);
+    if !in_domain(parts) {
+        return Err(Error::OutsideDomain);
     }
-    Length::Bytes(payload_len(profile, count, lens))
+    Ok(Form::from(parts.profile).payload_len(parts.count, parts.lens))
 }
 
-pub fn marshal_size_parts<'a>(
-    fixed: Fixed,
-    csrc_count: usize,
-    csrc: &'a [u32; 15],
-    profile: u16,
-    count: usize,
-    ids: &'a [u8; 32],
-    lens: &'a [u16; 32],
-    bytes: &'a [u8; 1024],
-    padding: usize,
-) -> Length
-    ensures { said_length result ≡ size_asked (together fixed csrc_count csrc.now profile (record { count = count; ids = ids.now; lens = lens.now; bytes = bytes.now }) padding) }
+pub fn marshal_size_parts(parts: Parts<'_>) -> Result<usize, Error>
+    ensures { said result ≡ size_asked (record_of parts.entry) }
 {
-    if !in_domain(
-        fixed, csrc_count, csrc, profile, count, ids, lens, bytes, padding,
-    ) {
-        return Length::Refused(Error::OutsideDomain);
+    if !in_domain(parts) {
+        return Err(Error::OutsideDomain);
     }
-    let len = payload_len(profile, count, lens);
-    Length::Bytes(size_of(csrc_count, fixed.extension, len, padding))
+    let len = Form::from(parts.profile).payload_len(parts.count, parts.lens);
+    Ok(size_of(parts.csrc_count, parts.fixed.extension, len, parts.padding))
 }
 
 impl Header {
-    pub fn get_extension_payload_len(self) -> Length
-        ensures { said_length result ≡ length_asked self }
+    pub fn get_extension_payload_len(self) -> Result<usize, Error>
+        ensures { said result ≡ length_asked self }
     {
-        get_extension_payload_len_parts(
-            self.fixed(),
-            self.csrc_count,
-            &self.csrc,
-            self.extension_profile,
-            self.extensions.count,
-            &self.extensions.ids,
-            &self.extensions.lens,
-            &self.extensions.bytes,
-            self.extensions_padding,
-        )
+        get_extension_payload_len_parts(self.parts())
     }
 
-    pub fn marshal_size(self) -> Length
-        ensures { said_length result ≡ size_asked self }
+    pub fn marshal_size(self) -> Result<usize, Error>
+        ensures { said result ≡ size_asked self }
     {
-        marshal_size_parts(
-            self.fixed(),
-            self.csrc_count,
-            &self.csrc,
-            self.extension_profile,
-            self.extensions.count,
-            &self.extensions.ids,
-            &self.extensions.lens,
-            &self.extensions.bytes,
-            self.extensions_padding,
-        )
+        marshal_size_parts(self.parts())
     }
 }

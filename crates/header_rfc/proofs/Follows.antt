@@ -14,10 +14,11 @@ use Rattle.error.specs.Said.{Said, says, refuse}
 use Rattle.wire.specs.Net.{be16}
 use Rattle.elements.proofs.Elements.{room, no_room}
 use Rattle.block.specs.Form.{form_of}
-use Rattle.block.specs.Form as forms
+use Rattle.block.specs.declared.Form.{Form as BlockForm}
+use Rattle.block.specs.declared.Form.TheVariants as forms
 use Rattle.block_read.specs.Read.{Block, items_by, whole_block, read_block}
 use Rattle.block_read.specs.Read as paper
-use Rattle.block.proofs.Form.{form_other}
+use Rattle.block.proofs.Forms.{form_other}
 use Rattle.block_read.proofs.Reading.{block_path}
 use Rattle.header.specs.Read.{Reading, read_header}
 use Rattle.rfc3550.specs.Rfc3550.{Fixed, fixed_octets, extension_octets}
@@ -172,7 +173,7 @@ module _ (s : List ℕ) (x : WordsIn s) (fits : Fits s) where
   of_words b e =
       sym (ap read_header x.same)
       ∙ read_content x.fixed x.lawful.fixed (extension_with x.profile x.words) x.lawful.extension x.payload (subst Fits (sym x.same) fits) b
-      (ap (λ (g : forms.Form). read_block g (now (x.words ++ x.payload) (length x.words) [] 0)) (form_other x.not_one_byte x.not_two_byte) ∙ e)
+      (ap (λ (g : BlockForm). read_block g (now (x.words ++ x.payload) (length x.words) [] 0)) (form_other x.not_one_byte x.not_two_byte) ∙ e)
 
   words_read : Within (elements_in (words x)) → read_header s ≡ says (reading_words x)
   words_read w =

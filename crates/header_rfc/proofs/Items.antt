@@ -21,8 +21,8 @@ use Rattle.elements.proofs.Elements.{data_of_append, room, no_room}
 use Rattle.block_read.specs.Read.{Block, within, one_byte_item, two_byte_item, items_by, taken, turn, with_element, skip}
 use Rattle.block_read.specs.Read as paper
 use Rattle.block.specs.Form.{form_of}
-use Rattle.block.specs.Form as forms
-use Rattle.block.proofs.Form.{form_other}
+use Rattle.block.specs.declared.Form.TheVariants as forms
+use Rattle.block.proofs.Forms.{form_other}
 use Rattle.block_read.proofs.Reading.{block_path, zero_first}
 use Rattle.rfc3550.specs.Rfc8285.{Form, one_byte, two_byte, Item, padding, element, head_octets, block_octets, LawfulElement, LawfulItem, AllLawful}
 use Rattle.rfc3550.proofs.Blocks.{Telling, TellingItem}
@@ -43,7 +43,7 @@ is_two (two_byte appbits) = true
 pub data Known (profile : ℕ) : Type 0 where
   is_one_byte : profile ≡ 0xBEDE → Known profile
   is_two_byte : profile ≡ 0x1000 → Known profile
-  is_other : form_of profile ≡ forms.other → (profile ≡ 0xBEDE → ⊥) → (profile ≡ 0x1000 → ⊥) → Known profile
+  is_other : form_of profile ≡ forms.Other → (profile ≡ 0xBEDE → ⊥) → (profile ≡ 0x1000 → ⊥) → Known profile
 
 pub known : (profile : ℕ) → Known profile
 known profile =

@@ -10,22 +10,21 @@
 -- The paper's limits are `Fits` (65,535 bytes) and `Within` (32 elements, 1,024 data bytes). The crate's deviations are told in `Deviations`,
 -- `Rewritten` and `Yields`, one theorem for each row of docs/DIFFERENCES.md; the one that COMPLETE has to leave out is `Plain`: of the two-byte
 -- form's profiles 0x1000 to 0x100F only 0x1000 is read as such.
+use Rattle.std.specs.Prelude.{Result, Ok}
 use mathlib.Core.Path.{◌≡◌, ap, ◌∙◌}
 use mathlib.Core.Bool.{true, false}
 use mathlib.Core.List.{List, ◌++◌}
 use mathlib.Core.Logic.{◌⊎◌}
 use Prim.Native.Nat.{ℕ, ◌+◌, ◌%◌, ◌≤◌}
 use lib.ListN.{length, drop}
+use Rattle.error.specs.declared.Error.{Error}
 use Rattle.error.specs.Refusal.{Refusal}
 use Rattle.error.specs.Said.{Said, says, refused, refuse}
 use Rattle.wire.specs.Part.{splice}
 use Rattle.elements.specs.Elements.{data_of}
 use Rattle.block.specs.Form.{form_of, length_for, first_profile}
-use Rattle.block.specs.Form as forms
+use Rattle.block.specs.declared.Form.TheVariants as forms
 use Rattle.header.specs.declared.Header.{Header}
-use Rattle.header.specs.declared.HeaderRead.TheVariants as read
-use Rattle.header_write.specs.declared.Length.{Length}
-use Rattle.header_write.specs.declared.Length.TheVariants as len
 use Rattle.header.specs.declared.Unmarshalled.{Unmarshalled}
 use Rattle.header.specs.Fields.{Fields, fields_of, lay_out, in_domain}
 use Rattle.header.specs.Read.{Reading, read_header}
@@ -116,7 +115,7 @@ pub SOUND : Sound read_header
 SOUND = sound.sound
 
 -- .. and so is whatever `unmarshal` accepts under its contract ..
-pub CODE_SOUND : (u : Unmarshalled) (s : List ℕ) → Octets s → heard u ≡ reading_heard (read_header s) → (place : ℕ) → u.read ≡ read.Payload place → CodeTold s u place
+pub CODE_SOUND : (u : Unmarshalled) (s : List ℕ) → Octets s → heard u ≡ reading_heard (read_header s) → (place : ℕ) → u.read ≡ Ok place → CodeTold s u place
 CODE_SOUND = sound.code_sound
 
 -- .. one of the three alone ..
@@ -221,13 +220,13 @@ pub ROUND_TRIP : (h : Header) → AsTyped h → in_writing_domain h ≡ true →
 ROUND_TRIP = writers.round_trip
 
 -- The same of the code: under these conditions `marshal_to` answers how many bytes it wrote, whatever the buffer held ..
-pub CODE_WRITES : (h : Header) (buf exit : List ℕ) (a : Length) → heard_written a exit ≡ written buf (write_header h (length buf)) →
+pub CODE_WRITES : (h : Header) (buf exit : List ℕ) (a : Result ℕ Error) → heard_written a exit ≡ written buf (write_header h (length buf)) →
     in_writing_domain h ≡ true → ReadsBack (fields_of h) → header_size (fields_of h) ≤ length buf →
-    (a ≡ len.Bytes (length (octets_of (fields_of h)))) × (exit ≡ splice buf 0 (octets_of (fields_of h)))
+    (a ≡ Ok (length (octets_of (fields_of h)))) × (exit ≡ splice buf 0 (octets_of (fields_of h)))
 CODE_WRITES = writers.code_writes
 
 -- .. and whatever `unmarshal` answers of these bytes, with any payload behind them, is what reads back.
-pub CODE_ROUND_TRIP : (h : Header) → AsTyped h → (buf exit : List ℕ) (a : Length) → heard_written a exit ≡ written buf (write_header h (length buf)) →
+pub CODE_ROUND_TRIP : (h : Header) → AsTyped h → (buf exit : List ℕ) (a : Result ℕ Error) → heard_written a exit ≡ written buf (write_header h (length buf)) →
     in_writing_domain h ≡ true → ReadsBack (fields_of h) → header_size (fields_of h) ≤ length buf → CodeWrittenAndRead h exit a
 CODE_ROUND_TRIP = writers.code_round_trip
 
@@ -255,7 +254,7 @@ DELETE_KEEPS_WORDS = padding.delete_keeps
 -- .. and so does a first set, with the elements that stood there counted in the profile that it picks: none on an empty header. (Over 255 bytes it keeps
 -- the profile and counts no head, so that this is so of other profiles alone.)
 pub FIRST_SET_KEEPS_WORDS : (h : Header) (id : ℕ) (bytes : List ℕ) (h' : Header) → h.extension ≡ false →
-    (length bytes ≤ 255) ⊎ (form_of h.extension_profile ≡ forms.other) → set_extension h id bytes ≡ says h' →
+    (length bytes ≤ 255) ⊎ (form_of h.extension_profile ≡ forms.Other) → set_extension h id bytes ≡ says h' →
     beyond (fields_of h')
     ≡ (length_for (first_profile h.extension_profile (length bytes)) (length (fields_of h).elements) (length (data_of (fields_of h).elements))
     + h.extensions_padding) % 4

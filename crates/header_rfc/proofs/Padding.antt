@@ -16,7 +16,8 @@ use Rattle.elements.specs.Elements.{Element, data_of}
 use Rattle.elements.specs.Named.{find, Absent, First, replace, remove, append}
 use Rattle.elements.proofs.Elements.{data_of_append, elements_of_lay_elements}
 use Rattle.elements.proofs.Changes.{absent_or_first, find_first, find_absent, replace_first, remove_first}
-use Rattle.block.specs.Form.{other, form_of, per_element, length_for, first_profile, first_head}
+use Rattle.block.specs.declared.Form.TheVariants.{Other as other}
+use Rattle.block.specs.Form.{form_of, per_element, length_for, first_profile, first_head}
 use Rattle.block.specs.Padding.{grown, shrunk, resized}
 use Rattle.header.specs.declared.Header.{Header}
 use Rattle.header.specs.Fields.{fields_of, in_domain}

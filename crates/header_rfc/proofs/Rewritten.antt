@@ -10,10 +10,11 @@ use lib.ListN.{length, get_or, replicate, length-append, length-replicate}
 use Rattle.error.specs.Said.{says}
 use Rattle.elements.specs.Elements.{Element}
 use Rattle.block.specs.Form.{form_of, words_for}
-use Rattle.block.specs.Form as forms
+use Rattle.block.specs.declared.Form.{Form as BlockForm}
+use Rattle.block.specs.declared.Form.TheVariants as forms
 use Rattle.block_write.specs.Write as blocks
 use Rattle.block_write.proofs.Octets.{length_block_octets}
-use Rattle.block.proofs.Form.{form_other}
+use Rattle.block.proofs.Forms.{form_other}
 use Rattle.header.specs.declared.Header.{Header}
 use Rattle.header.specs.Fields.{Fields, fields_of}
 use Rattle.header.specs.Read.{read_header}
@@ -68,13 +69,13 @@ written_again p l plain t = go p.content l.content l.header.extension plain t
         ∙ ap (λ (n : ℕ). blocks.block_octets (in_paper form) es ++ replicate n 0) (sym fill)
         ∙ sym block)
     go (some (other profile words)) m k q u =
-        octets_extended (fields_said (record { fixed = f; content = some (other profile words) })) forms.other refl
+        octets_extended (fields_said (record { fixed = f; content = some (other profile words) })) forms.Other refl
         (form_other m.0 (λ e. m.1 (omega arith)))
         ∙ ap (λ (s : List ℕ). rtp.octets (extended f (extension_with profile s))) (filled_words words (omega (arith, k.content)))
 
 -- ---- id 15, written
 
-block_append : (g : forms.Form) (es fs : List Element) → blocks.block_octets g (es ++ fs) ≡ blocks.block_octets g es ++ blocks.block_octets g fs
+block_append : (g : BlockForm) (es fs : List Element) → blocks.block_octets g (es ++ fs) ≡ blocks.block_octets g es ++ blocks.block_octets g fs
 block_append g [] fs = refl
 block_append g (e ∷ es) fs =
     ap (λ (s : List ℕ). blocks.element_octets g e ++ s) (block_append g es fs)
@@ -93,14 +94,14 @@ fifteen_cuts : (f : Fields) → InRange f → f.extension ≡ true → f.profile
     f.elements ≡ es ++ (record { id = 15; bytes = bytes } ∷ fs) → AllKept 14 1 16 es → length bytes ≤ 16 →
     (payload : List ℕ) → Fits (octets_of f ++ payload) →
     ReadAs (octets_of f ++ payload) (fixed_for f) 0xBEDE es 0
-    (bytes ++ (blocks.block_octets forms.one_byte fs ++ replicate (zeros_for forms.one_byte f.elements) 0) ++ payload)
+    (bytes ++ (blocks.block_octets forms.OneByte fs ++ replicate (zeros_for forms.OneByte f.elements) 0) ++ payload)
 fifteen_cuts f w on p es fs bytes at k most payload fits =
     subst (λ (s : List ℕ). ReadAs (s ++ payload) (fixed_for f) 0xBEDE es 0 (rest ++ payload)) (sym same)
     (subst (λ (l : List Element). ReadAs (cut_octets ++ payload) (fixed_for f) 0xBEDE l 0 (rest ++ payload)) elements
     (subst (λ (n : ℕ). ReadAs (cut_octets ++ payload) (fixed_for f) 0xBEDE (elements_among (items_for es)) n (rest ++ payload)) pads
     (reserved_read cut_there
     (record {
-      header = record { fixed = fixed_lawful f w; extension = subst LawfulExtension lay (filled_lawful forms.one_byte f.profile f.elements w.profile w.within) };
+      header = record { fixed = fixed_lawful f w; extension = subst LawfulExtension lay (filled_lawful forms.OneByte f.profile f.elements w.profile w.within) };
       plain = tt;
       items = all_taken one_byte (items_for es) (kept_lawful one_byte es k);
       ending = omega arith;
@@ -111,10 +112,10 @@ fifteen_cuts f w on p es fs bytes at k most payload fits =
     (subst Within (sym elements) (within_front es (record { id = 15; bytes = bytes } ∷ fs) (subst Within at w.within))))))
   where
     zeros : List ℕ
-    zeros = replicate (zeros_for forms.one_byte f.elements) 0
+    zeros = replicate (zeros_for forms.OneByte f.elements) 0
 
     rest : List ℕ
-    rest = bytes ++ (blocks.block_octets forms.one_byte fs ++ zeros)
+    rest = bytes ++ (blocks.block_octets forms.OneByte fs ++ zeros)
 
     cut_there : Taken
     cut_there = record { fixed = fixed_for f; form = one_byte; items = items_for es; ending = fifteen (length bytes - 1) rest }
@@ -128,34 +129,34 @@ fifteen_cuts f w on p es fs bytes at k most payload fits =
     pads : pads_among (items_for es) ≡ 0
     pads = ap pads_among (sym (items_alone es)) ∙ pads_with es 0
 
-    content : filled forms.one_byte f.elements ≡ block_octets one_byte (items_for es) ++ ((15 * 16 + (length bytes - 1)) ∷ rest)
+    content : filled forms.OneByte f.elements ≡ block_octets one_byte (items_for es) ++ ((15 * 16 + (length bytes - 1)) ∷ rest)
     content =
         ap (λ (s : List ℕ). s ++ zeros)
-        (ap (blocks.block_octets forms.one_byte) at
-        ∙ block_append forms.one_byte es (record { id = 15; bytes = bytes } ∷ fs)
-        ∙ ap (λ (s : List ℕ). s ++ (((15 * 16 + (length bytes - 1)) ∷ bytes) ++ blocks.block_octets forms.one_byte fs)) (octets_alone one_byte es))
+        (ap (blocks.block_octets forms.OneByte) at
+        ∙ block_append forms.OneByte es (record { id = 15; bytes = bytes } ∷ fs)
+        ∙ ap (λ (s : List ℕ). s ++ (((15 * 16 + (length bytes - 1)) ∷ bytes) ++ blocks.block_octets forms.OneByte fs)) (octets_alone one_byte es))
         ∙ regroup
       where
-        regroup : block_octets one_byte (items_for es) ++ ((15 * 16 + (length bytes - 1)) ∷ (bytes ++ blocks.block_octets forms.one_byte fs)) ++ zeros
+        regroup : block_octets one_byte (items_for es) ++ ((15 * 16 + (length bytes - 1)) ∷ (bytes ++ blocks.block_octets forms.OneByte fs)) ++ zeros
             ≡ block_octets one_byte (items_for es) ++ ((15 * 16 + (length bytes - 1)) ∷ rest)
         regroup = simp append_assoc
 
-    lay : extension_with f.profile (filled forms.one_byte f.elements)
+    lay : extension_with f.profile (filled forms.OneByte f.elements)
         ≡ extension_with 0xBEDE (block_octets one_byte (items_for es) ++ ((15 * 16 + (length bytes - 1)) ∷ rest))
     lay = ap₂ extension_with p content
 
     same : octets_of f ≡ cut_octets
-    same = octets_extended f forms.one_byte on (ap form_of p) ∙ ap (λ (x : Extension). rtp.octets (extended (fixed_for f) x)) lay
+    same = octets_extended f forms.OneByte on (ap form_of p) ∙ ap (λ (x : Extension). rtp.octets (extended (fixed_for f) x)) lay
 
 -- ---- id 0, written
 
 -- in the one-byte form an element of id 0 with one byte is written as the octets of padding and that byte ..
-pub zero_octets : (b : ℕ) → blocks.element_octets forms.one_byte (record { id = 0; bytes = b ∷ [] }) ≡ item_octets one_byte padding ++ (b ∷ [])
+pub zero_octets : (b : ℕ) → blocks.element_octets forms.OneByte (record { id = 0; bytes = b ∷ [] }) ≡ item_octets one_byte padding ++ (b ∷ [])
 zero_octets b = refl
 
 -- .. and in the two-byte form an element of id 0 as those of padding, a length and the data
 pub two_byte_zero_octets : (bytes : List ℕ) →
-    blocks.element_octets forms.two_byte (record { id = 0; bytes = bytes }) ≡ item_octets (two_byte 0) padding ++ (length bytes ∷ bytes)
+    blocks.element_octets forms.TwoByte (record { id = 0; bytes = bytes }) ≡ item_octets (two_byte 0) padding ++ (length bytes ∷ bytes)
 two_byte_zero_octets bytes = refl
 
 -- ---- a record of the writing domain
@@ -169,7 +170,7 @@ module _ (h : Header) (t : AsTyped h) (d : in_writing_domain h ≡ true) where
       f.elements ≡ es ++ (record { id = 15; bytes = bytes } ∷ fs) → AllKept 14 1 16 es → length bytes ≤ 16 →
       (payload : List ℕ) → Fits (octets_of f ++ payload) →
       ReadAs (octets_of f ++ payload) (fixed_for f) 0xBEDE es 0
-      (bytes ++ (blocks.block_octets forms.one_byte fs ++ replicate (zeros_for forms.one_byte f.elements) 0) ++ payload)
+      (bytes ++ (blocks.block_octets forms.OneByte fs ++ replicate (zeros_for forms.OneByte f.elements) 0) ++ payload)
   fifteen_written on p es fs bytes at k most payload fits = fifteen_cuts f (only_in_range h t d) on p es fs bytes at k most payload fits
 
   -- in the one-byte form elements of id 0 with 2 to 16 bytes are written and read back as such

@@ -11,7 +11,8 @@ use Rattle.error.specs.Said.{Said, says}
 use Rattle.wire.proofs.Each.{each_append}
 use Rattle.elements.specs.Elements.{Element, data_of}
 use Rattle.block.specs.Form.{form_of, words_for}
-use Rattle.block.specs.Form as forms
+use Rattle.block.specs.declared.Form.{Form as BlockForm}
+use Rattle.block.specs.declared.Form.TheVariants as forms
 use Rattle.header.specs.Fields.{Fields}
 use Rattle.header.specs.Read.{Reading, read_header}
 use Rattle.header.specs.Size.{payload_length}
@@ -57,12 +58,12 @@ no_zeros : (f : Fields) → f.extension ≡ false → 0 ≡ zeros_written f
 unfolding zeros_written
 no_zeros f off = sym (ap (λ (b : Bool). cond b (4 * words_for (payload_length f) - payload_length f) 0) off)
 
-zeros_filled : (f : Fields) (g : forms.Form) → f.extension ≡ true → form_of f.profile ≡ g → zeros_for g f.elements ≡ zeros_written f
+zeros_filled : (f : Fields) (g : BlockForm) → f.extension ≡ true → form_of f.profile ≡ g → zeros_for g f.elements ≡ zeros_written f
 unfolding zeros_written payload_length
 zeros_filled f g on e =
     sym
     (ap (λ (b : Bool). cond b (4 * words_for (payload_length f) - payload_length f) 0) on
-    ∙ ap (λ (h : forms.Form). zeros_for h f.elements) e)
+    ∙ ap (λ (h : BlockForm). zeros_for h f.elements) e)
 
 -- ---- the plan of a record
 
@@ -90,26 +91,26 @@ module _ (f : Fields) (w : InRange f) (form : Form) (on : f.extension ≡ true) 
       (pads_with f.elements (zeros_for (in_paper form) f.elements) ∙ zeros_filled f (in_paper form) on g)
 
 -- one element of whole words
-module _ (f : Fields) (w : InRange f) (words : List ℕ) (on : f.extension ≡ true) (g : form_of f.profile ≡ forms.other)
+module _ (f : Fields) (w : InRange f) (words : List ℕ) (on : f.extension ≡ true) (g : form_of f.profile ≡ forms.Other)
     (e : f.elements ≡ whole_element words ∷ []) (m : length words % 4 ≡ 0) where
-  all : filled forms.other f.elements ≡ words
-  all = ap (filled forms.other) e ∙ filled_words words m
+  all : filled forms.Other f.elements ≡ words
+  all = ap (filled forms.Other) e ∙ filled_words words m
 
   pub other_same : octets_of f ≡ rtp.octets (extended (fixed_for f) (extension_with f.profile words))
   other_same =
-      octets_extended f forms.other on g
+      octets_extended f forms.Other on g
       ∙ ap (λ (s : List ℕ). rtp.octets (extended (fixed_for f) (extension_with f.profile s))) all
 
   pub other_lawful : LawfulExtension (extension_with f.profile words)
   other_lawful =
       subst (λ (s : List ℕ). LawfulExtension (extension_with f.profile s)) all
-      (filled_lawful forms.other f.profile f.elements w.profile w.within)
+      (filled_lawful forms.Other f.profile f.elements w.profile w.within)
 
   pub other_said : (n : ℕ) → reading_at (fixed_for f) true f.profile (whole_element words ∷ []) 0 n ≡ record { fields = read_back f; place = n }
   other_said n =
       let long : length (data_of f.elements) ≡ length words = ap (λ (es : List Element). length (data_of es)) e ∙ ap length (append-nil words) in
-      let none_left : 0 ≡ zeros_for forms.other f.elements = omega arith in
-      reading_back f true f.profile (whole_element words ∷ []) 0 n (sym on) refl (sym e) (none_left ∙ zeros_filled f forms.other on g)
+      let none_left : 0 ≡ zeros_for forms.Other f.elements = omega arith in
+      reading_back f true f.profile (whole_element words ∷ []) 0 n (sym on) refl (sym e) (none_left ∙ zeros_filled f forms.Other on g)
 
 -- no extension
 pub plain_said : (f : Fields) → f.extension ≡ false → f.profile ≡ 0 → f.elements ≡ [] → (n : ℕ) →
@@ -123,7 +124,7 @@ pub data Ways (P : Form → List Element → Type 0) (f : Fields) : Type 0 where
   without : f.extension ≡ false → f.profile ≡ 0 → f.elements ≡ [] → Ways P f
   in_form : (form : Form) → PlainForm form → f.extension ≡ true → f.profile ≡ profile_of form → form_of f.profile ≡ in_paper form →
       P form f.elements → Ways P f
-  whole : (words : List ℕ) → f.extension ≡ true → form_of f.profile ≡ forms.other → f.elements ≡ whole_element words ∷ [] →
+  whole : (words : List ℕ) → f.extension ≡ true → form_of f.profile ≡ forms.Other → f.elements ≡ whole_element words ∷ [] →
       length words % 4 ≡ 0 → (f.profile ≡ 0xBEDE → ⊥) → (f.profile ≡ 0x1000 → ⊥) → Ways P f
 
 pub ways_by : (P Q : Form → List Element → Type 0) → ((form : Form) (es : List Element) → P form es → Q form es) → (f : Fields) → Ways P f → Ways Q f
@@ -200,7 +201,7 @@ ways_kept f r = go f.extension refl r
     on_known (is_two_byte p) on k = in_form (two_byte 0) refl on p (ap form_of p) (kept_lawful (two_byte 0) f.elements (rw p at k))
     on_known (is_other g a b) on k = words (rw g at k)
       where
-        words : KeptIn forms.other f.elements → Ways LawfulElements f
+        words : KeptIn forms.Other f.elements → Ways LawfulElements f
         words k = whole k.0 on g k.1 k.2 a b
 
     go : (x : Bool) → f.extension ≡ x → KeptBy x f.profile f.elements → Ways LawfulElements f

@@ -1,5 +1,6 @@
 -- Whatever is accepted is well-formed or strays, and is told in one way alone: the octets go one of the four ways, the reader says what that way says,
 -- and each way but one that is refused is a lawful plan or leaves RFC 8285. Assumes nothing.
+use Rattle.std.specs.Prelude.{Ok}
 use mathlib.Core.Path.{◌≡◌, refl, sym, ap, ◌∙◌, subst}
 use mathlib.Core.List.{List, ◌++◌}
 use mathlib.Core.Logic.{◌⊎◌, inl, inr}
@@ -10,11 +11,10 @@ use native.Mathlib.Decide.{dec_le, ℕ_discrete}
 use native.Mathlib.Omega.{arith}
 use lib.ListN.{length, drop}
 use Rattle.error.proofs.Refusing.{same_answer}
-use Rattle.error.specs.Said.{Said, says, refused, refuse}
-use Rattle.header.specs.declared.HeaderRead.TheVariants as read
+use Rattle.error.specs.Said.{Said, says, refused, refuse, said}
 use Rattle.header.specs.declared.Unmarshalled.{Unmarshalled}
 use Rattle.header.specs.Read.{Reading, read_header}
-use Rattle.header.specs.Said.{said_read, Heard, heard, reading_heard}
+use Rattle.header.specs.Said.{Heard, heard, reading_heard}
 use Rattle.header.proofs.Reading.{header_long, header_short, header_cut, header_extended, extension_cut, block_cut}
 use Rattle.rfc3550.specs.Rfc3550.{Octets, Fixed, Extension, IsRtp, CutShort, fixed_cut, csrcs_cut, head_cut, content_cut}
 use Rattle.rfc3550.specs.Rfc3550 as rtp
@@ -158,15 +158,15 @@ sound s r o e = go (gone s r o e).course (gone s r o e).said
 -- ---- the code
 
 -- whatever `unmarshal` accepts under its contract
-pub code_sound : (u : Unmarshalled) (s : List ℕ) → Octets s → heard u ≡ reading_heard (read_header s) → (place : ℕ) → u.read ≡ read.Payload place → CodeTold s u place
+pub code_sound : (u : Unmarshalled) (s : List ℕ) → Octets s → heard u ≡ reading_heard (read_header s) → (place : ℕ) → u.read ≡ Ok place → CodeTold s u place
 code_sound u s o contract place answer = go (read_header s) refl
   where
-    said : (a : Said Reading) → read_header s ≡ a → says place ≡ (reading_heard a).answer
-    said a e = sym (ap said_read answer) ∙ ap (λ (x : Heard). x.answer) (contract ∙ ap reading_heard e)
+    heard_as : (a : Said Reading) → read_header s ≡ a → says place ≡ (reading_heard a).answer
+    heard_as a e = sym (ap said answer) ∙ ap (λ (x : Heard). x.answer) (contract ∙ ap reading_heard e)
 
     go : (a : Said Reading) → read_header s ≡ a → CodeTold s u place
     go (says r) e =
-        let p : says place ≡ says r.place = said (says r) e in
+        let p : says place ≡ says r.place = heard_as (says r) e in
         let same : r.place ≡ place = cc in
         record {
           reading = r;
@@ -175,7 +175,7 @@ code_sound u s o contract place answer = go (read_header s) refl
           header = ap (λ (x : Heard). x.header) (contract ∙ ap reading_heard e);
         }
     go (refused w) e =
-        let p : says place ≡ refused w = said (refused w) e in
+        let p : says place ≡ refused w = heard_as (refused w) e in
         absurd (let z : ◌≡◌ {A = ℕ} 0 1 = cc in omega arith)
 
 -- ---- what is told is what one of the four ways says

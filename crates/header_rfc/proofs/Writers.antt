@@ -1,5 +1,6 @@
 -- The call writes: a record whose extension stands in one of the three ways is in the writing domain, and neither 9 nor 10 is given; so what
 -- is shown of its octets is shown of the call. Assumes nothing.
+use Rattle.std.specs.Prelude.{Result, Ok, Err}
 use mathlib.Core.Path.{◌≡◌, refl, sym, ap, ap₂, ◌∙◌, subst}
 use mathlib.Core.Bool.{Bool, true, false, ◌&&◌}
 use mathlib.Core.List.{List, [], ◌∷◌, ◌++◌, append-nil}
@@ -9,24 +10,23 @@ use native.Mathlib.Omega.{arith}
 use lib.ListN.{length, take, drop}
 use lib.Seq.{take_at}
 use borrow.Author.Tests.{le-leb, eq-eqb}
+use Rattle.error.specs.declared.Error.{Error}
 use Rattle.error.specs.Refusal.{Refusal}
-use Rattle.error.specs.Said.{Said, says, refused}
+use Rattle.error.specs.Said.{Said, says, refused, said}
 use Rattle.wire.specs.Part.{splice}
 use Rattle.wire.proofs.Part.{take_pad_to}
 use Rattle.elements.specs.Elements.{Element, data_of, lay_elements}
 use Rattle.elements.proofs.Elements.{elements_of_lay_elements}
 use Rattle.block.specs.Form.{form_of, per_element}
 use Rattle.block_write.specs.Write.{fits, all_writable}
-use Rattle.block.specs.Form as forms
-use Rattle.block.proofs.Form.{form_other}
+use Rattle.block.specs.declared.Form.{Form as BlockForm}
+use Rattle.block.specs.declared.Form.TheVariants as forms
+use Rattle.block.proofs.Forms.{form_other}
 use Rattle.header.specs.declared.Header.{Header}
-use Rattle.header_write.specs.declared.Length.{Length}
-use Rattle.header_write.specs.declared.Length.TheVariants as len
 use Rattle.header.specs.Fields.{Fields, fields_of, lay_out, in_domain}
 use Rattle.header.specs.Read.{Reading, read_header}
 use Rattle.header.specs.Size.{payload_length, header_size}
 use Rattle.header.specs.Write.{octets_of, in_writing_domain, write_header}
-use Rattle.header_write.specs.Said.{said_length}
 use Rattle.header.specs.Said.{reading_heard, Written, heard_written, written}
 use Rattle.header.proofs.ReadBack.{changed_domain}
 use Rattle.header.proofs.Sizes.{never}
@@ -60,7 +60,7 @@ taken_allowed form (e ∷ es) t = ap₂ (λ (a b : Bool). a && b) (one form e.id
 
 ways_allowed : (f : Fields) → Ways TakenElements f → all_writable (form_of f.profile) f.elements ≡ true
 ways_allowed f (without off p e) = ap (all_writable (form_of f.profile)) e
-ways_allowed f (in_form form plain on p g k) = ap (λ (h : forms.Form). all_writable h f.elements) g ∙ taken_allowed form f.elements k
+ways_allowed f (in_form form plain on p g k) = ap (λ (h : BlockForm). all_writable h f.elements) g ∙ taken_allowed form f.elements k
 ways_allowed f (whole words on g e m a b) = ap₂ all_writable g e
 
 in_writing_domain_lem : (h : Header) → in_domain h ≡ true → h.version ≤ 3 → h.payload_type ≤ 127 → Ways TakenElements (fields_of h) → in_writing_domain h ≡ true
@@ -68,13 +68,13 @@ unfolding fields_of
 in_writing_domain_lem h d v t s = writing_domain h d (le-leb h.version 3 v) (le-leb h.payload_type 127 t) (ways_allowed (fields_of h) s)
 
 -- what 9 and 10 let pass
-form_passes : (g : forms.Form) (on : Bool) (len count : ℕ) (x : List ℕ) → (g ≡ forms.other → ⊥) → block_asked on g len count x ≡ says x
-form_passes forms.one_byte true len count x h = refl
-form_passes forms.two_byte true len count x h = refl
-form_passes forms.other true len count x h = absurd (h refl)
+form_passes : (g : BlockForm) (on : Bool) (len count : ℕ) (x : List ℕ) → (g ≡ forms.Other → ⊥) → block_asked on g len count x ≡ says x
+form_passes forms.OneByte true len count x h = refl
+form_passes forms.TwoByte true len count x h = refl
+form_passes forms.Other true len count x h = absurd (h refl)
 form_passes g false len count x h = refl
 
-words_pass : (on : Bool) (len count : ℕ) (x : List ℕ) → len % 4 ≡ 0 → count ≡ 1 → block_asked on forms.other len count x ≡ says x
+words_pass : (on : Bool) (len count : ℕ) (x : List ℕ) → len % 4 ≡ 0 → count ≡ 1 → block_asked on forms.Other len count x ≡ says x
 words_pass true len count x m n = rw (eq-eqb (len % 4) 0 m, eq-eqb count 1 n)
 words_pass false len count x m n = refl
 
@@ -85,14 +85,14 @@ not_judged f x (without off p e) = ap (λ (on : Bool). block_asked on (form_of f
 not_judged f x (in_form form plain on p g k) =
     form_passes (form_of f.profile) f.extension (payload_length f) (length f.elements) x (λ q. in_no_other form (sym g ∙ q))
   where
-    in_no_other : (h : Form) → in_paper h ≡ forms.other → ⊥
+    in_no_other : (h : Form) → in_paper h ≡ forms.Other → ⊥
     in_no_other one_byte q = let z : ◌≡◌ {A = ℕ} 0 1 = cc in omega arith
     in_no_other (two_byte appbits) q = let z : ◌≡◌ {A = ℕ} 0 1 = cc in omega arith
 not_judged f x (whole words on g e m a b) =
     let count : length f.elements ≡ 1 = ap length e in
     let long : payload_length f ≡ length words =
-    ap₂ (λ (h : forms.Form) (es : List Element). length (data_of es) + length es * per_element h) g e ∙ omega (arith, ap length (append-nil words)) in
-    ap (λ (h : forms.Form). block_asked f.extension h (payload_length f) (length f.elements) x) g
+    ap₂ (λ (h : BlockForm) (es : List Element). length (data_of es) + length es * per_element h) g e ∙ omega (arith, ap length (append-nil words)) in
+    ap (λ (h : BlockForm). block_asked f.extension h (payload_length f) (length f.elements) x) g
     ∙ words_pass f.extension (payload_length f) (length f.elements) x (omega arith) count
 
 -- ---- the call writes
@@ -103,7 +103,7 @@ module _ (h : Header) (room : ℕ) (fits : header_size (fields_of h) ≤ room) w
   ways_written d s = write_asked h room d fits ∙ not_judged (fields_of h) (octets_of (fields_of h)) s
 
   -- in the one-byte and the two-byte profile everything in the writing domain is written, ids 0 and 15 too
-  pub form_written : in_writing_domain h ≡ true → (form_of h.extension_profile ≡ forms.other → ⊥) → write_header h room ≡ says (octets_of (fields_of h))
+  pub form_written : in_writing_domain h ≡ true → (form_of h.extension_profile ≡ forms.Other → ⊥) → write_header h room ≡ says (octets_of (fields_of h))
   form_written d g =
       write_asked h room d fits
       ∙ form_passes (form_of h.extension_profile) h.extension (payload_length (fields_of h)) (length (fields_of h).elements) (octets_of (fields_of h)) g
@@ -136,29 +136,29 @@ round_trip h t d r room fits =
 
 -- ---- the code
 
-bytes_said : (a : Length) (n : ℕ) → said_length a ≡ says n → a ≡ len.Bytes n
-bytes_said (len.Bytes m) n e = let same : m ≡ n = cc in ap (λ (k : ℕ). len.Bytes k) same
-bytes_said (len.Refused k) n e = absurd (never (sym e))
+bytes_said : (a : Result ℕ Error) (n : ℕ) → said a ≡ says n → a ≡ Ok n
+bytes_said (Ok m) n e = let same : m ≡ n = cc in ap (λ (k : ℕ). Ok k) same
+bytes_said (Err k) n e = absurd (never (sym e))
 
 -- octets that were written are counted in the answer, and stand in front of the buffer
-pub left_by : (a : Length) (buf exit s : List ℕ) → heard_written a exit ≡ written buf (says s) → (a ≡ len.Bytes (length s)) × (exit ≡ splice buf 0 s)
+pub left_by : (a : Result ℕ Error) (buf exit s : List ℕ) → heard_written a exit ≡ written buf (says s) → (a ≡ Ok (length s)) × (exit ≡ splice buf 0 s)
 left_by a buf exit s e = (bytes_said a (length s) (ap (λ (x : Written). x.answer) e), ap (λ (x : Written). x.buffer) e)
 
 pub front_left : (buf exit s : List ℕ) → exit ≡ splice buf 0 s → take (length s) exit ≡ s
 unfolding splice
 front_left buf exit s e = ap (take (length s)) e ∙ take_at s (drop (0 + length s) buf) (length s) refl
 
-pub code_writes : (h : Header) (buf exit : List ℕ) (a : Length) → heard_written a exit ≡ written buf (write_header h (length buf)) →
+pub code_writes : (h : Header) (buf exit : List ℕ) (a : Result ℕ Error) → heard_written a exit ≡ written buf (write_header h (length buf)) →
     in_writing_domain h ≡ true → ReadsBack (fields_of h) → header_size (fields_of h) ≤ length buf →
-    (a ≡ len.Bytes (length (octets_of (fields_of h)))) × (exit ≡ splice buf 0 (octets_of (fields_of h)))
+    (a ≡ Ok (length (octets_of (fields_of h)))) × (exit ≡ splice buf 0 (octets_of (fields_of h)))
 code_writes h buf exit a contract d r fits =
     left_by a buf exit (octets_of (fields_of h)) (contract ∙ ap (written buf) (writes h d r (length buf) fits))
 
-pub code_round_trip : (h : Header) → AsTyped h → (buf exit : List ℕ) (a : Length) → heard_written a exit ≡ written buf (write_header h (length buf)) →
+pub code_round_trip : (h : Header) → AsTyped h → (buf exit : List ℕ) (a : Result ℕ Error) → heard_written a exit ≡ written buf (write_header h (length buf)) →
     in_writing_domain h ≡ true → ReadsBack (fields_of h) → header_size (fields_of h) ≤ length buf → CodeWrittenAndRead h exit a
 code_round_trip h t buf exit a contract d r fits =
     let octets : List ℕ = octets_of (fields_of h) in
-    let left : (a ≡ len.Bytes (length octets)) × (exit ≡ splice buf 0 octets) = code_writes h buf exit a contract d r fits in
+    let left : (a ≡ Ok (length octets)) × (exit ≡ splice buf 0 octets) = code_writes h buf exit a contract d r fits in
     let front : take (length octets) exit ≡ octets = front_left buf exit octets left.1 in
     record {
       count = length octets;

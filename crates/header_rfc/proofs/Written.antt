@@ -10,7 +10,8 @@ use lib.ListN.{length, replicate, length-append, length-replicate}
 use Rattle.wire.specs.Net.{be16, be32}
 use Rattle.elements.specs.Elements.{Element, data_of}
 use Rattle.block.specs.Form.{form_of, per_element, words_for}
-use Rattle.block.specs.Form as forms
+use Rattle.block.specs.declared.Form.{Form as BlockForm}
+use Rattle.block.specs.declared.Form.TheVariants as forms
 use Rattle.block_write.specs.Write as blocks
 use Rattle.block_write.proofs.Octets.{length_block_octets}
 use Rattle.header.specs.Fields.{Fields}
@@ -77,9 +78,9 @@ fixed_same f i =
 -- ---- the block
 
 -- a form as the paper names it
-abbrev pub in_paper : Form → forms.Form
-in_paper one_byte = forms.one_byte
-in_paper (two_byte appbits) = forms.two_byte
+abbrev pub in_paper : Form → BlockForm
+in_paper one_byte = forms.OneByte
+in_paper (two_byte appbits) = forms.TwoByte
 
 -- and as it knows its profile
 pub form_again : (form : Form) → PlainForm form → form_of (profile_of form) ≡ in_paper form
@@ -87,17 +88,17 @@ form_again one_byte p = refl
 form_again (two_byte appbits) p = ap (λ (a : ℕ). form_of (0x1000 + a)) p
 
 -- elements with their heads
-abbrev pub packed_length : forms.Form → List Element → ℕ
+abbrev pub packed_length : BlockForm → List Element → ℕ
 packed_length g es = length (data_of es) + length es * per_element g
 
-abbrev pub zeros_for : forms.Form → List Element → ℕ
+abbrev pub zeros_for : BlockForm → List Element → ℕ
 zeros_for g es = 4 * words_for (packed_length g es) - packed_length g es
 
 -- the written block, filled up to a whole word
-abbrev pub filled : forms.Form → List Element → List ℕ
+abbrev pub filled : BlockForm → List Element → List ℕ
 filled g es = blocks.block_octets g es ++ replicate (zeros_for g es) 0
 
-pub filled_length : (g : forms.Form) (es : List Element) → length (filled g es) ≡ 4 * words_for (packed_length g es)
+pub filled_length : (g : BlockForm) (es : List Element) → length (filled g es) ≡ 4 * words_for (packed_length g es)
 filled_length g es =
     omega (
       arith,
@@ -107,13 +108,13 @@ filled_length g es =
     )
 
 -- the written extension is one of RFC 3550, whose content is the filled block
-pub extension_same : (f : Fields) (g : forms.Form) → form_of f.profile ≡ g →
+pub extension_same : (f : Fields) (g : BlockForm) → form_of f.profile ≡ g →
     written.extension_octets f ≡ rtp.extension_octets (extension_with f.profile (filled g f.elements))
 unfolding blocks.extension_for rtp.extension_octets payload_length
 extension_same f g e =
     let n : length (filled g f.elements) ≡ 4 * words_for (packed_length g f.elements) = filled_length g f.elements in
     let words : words_for (packed_length g f.elements) ≡ length (filled g f.elements) / 4 = omega arith in
-    ap (λ (h : forms.Form). be16 f.profile ++ (be16 (words_for (packed_length h f.elements)) ++ filled h f.elements)) e
+    ap (λ (h : BlockForm). be16 f.profile ++ (be16 (words_for (packed_length h f.elements)) ++ filled h f.elements)) e
     ∙ ap (λ (w : ℕ). be16 f.profile ++ (be16 w ++ filled g f.elements)) words
 
 pub octets_plain : (f : Fields) → f.extension ≡ false → octets_of f ≡ rtp.octets (record { fixed = fixed_for f; extension = none })
@@ -124,7 +125,7 @@ octets_plain f off =
     ∙ ap (rtp.fixed_octets (fixed_for f)) off
     ∙ sym (plain_octets (fixed_for f))
 
-pub octets_extended : (f : Fields) (g : forms.Form) → f.extension ≡ true → form_of f.profile ≡ g →
+pub octets_extended : (f : Fields) (g : BlockForm) → f.extension ≡ true → form_of f.profile ≡ g →
     octets_of f ≡ rtp.octets (extended (fixed_for f) (extension_with f.profile (filled g f.elements)))
 unfolding octets_of rtp.octets
 octets_extended f g on e =
@@ -149,10 +150,10 @@ octets_with form [] zero = refl
 octets_with form [] (suc z) = ap (λ (l : List ℕ). 0 ∷ l) (octets_with form [] z)
 octets_with one_byte (e ∷ es) z =
     ap (λ (l : List ℕ). ((e.id * 16 + (length e.bytes - 1)) ∷ e.bytes) ++ l) (octets_with one_byte es z)
-    ∙ sym (append_assoc ((e.id * 16 + (length e.bytes - 1)) ∷ e.bytes) (blocks.block_octets forms.one_byte es) (replicate z 0))
+    ∙ sym (append_assoc ((e.id * 16 + (length e.bytes - 1)) ∷ e.bytes) (blocks.block_octets forms.OneByte es) (replicate z 0))
 octets_with (two_byte appbits) (e ∷ es) z =
     ap (λ (l : List ℕ). (e.id ∷ length e.bytes ∷ e.bytes) ++ l) (octets_with (two_byte appbits) es z)
-    ∙ sym (append_assoc (e.id ∷ length e.bytes ∷ e.bytes) (blocks.block_octets forms.two_byte es) (replicate z 0))
+    ∙ sym (append_assoc (e.id ∷ length e.bytes ∷ e.bytes) (blocks.block_octets forms.TwoByte es) (replicate z 0))
 
 -- the items of a written block
 abbrev pub items_in : Form → List Element → List Item
@@ -162,19 +163,19 @@ pub filled_items : (form : Form) (es : List Element) → filled (in_paper form) 
 filled_items form es = sym (octets_with form es (zeros_for (in_paper form) es))
 
 -- a block of one element that is whole words is that element's data
-pub filled_words : (words : List ℕ) → length words % 4 ≡ 0 → filled forms.other (record { id = 0; bytes = words } ∷ []) ≡ words
+pub filled_words : (words : List ℕ) → length words % 4 ≡ 0 → filled forms.Other (record { id = 0; bytes = words } ∷ []) ≡ words
 filled_words words h =
     let none_left : 4 * words_for (length (words ++ []) + 1 * 0) - (length (words ++ []) + 1 * 0) ≡ 0 = omega (arith, ap length (append-nil words)) in
     ap (λ (k : ℕ). words ++ [] ++ replicate k 0) none_left ∙ append-nil (words ++ []) ∙ append-nil words
 
 -- ---- each extension that is written is lawful
 
-per_small : (g : forms.Form) (n : ℕ) → n ≤ 32 → n * per_element g ≤ 64
-per_small forms.one_byte n h = omega arith
-per_small forms.two_byte n h = omega arith
-per_small forms.other n h = omega arith
+per_small : (g : BlockForm) (n : ℕ) → n ≤ 32 → n * per_element g ≤ 64
+per_small forms.OneByte n h = omega arith
+per_small forms.TwoByte n h = omega arith
+per_small forms.Other n h = omega arith
 
-pub filled_lawful : (g : forms.Form) (profile : ℕ) (es : List Element) → profile < 65536 → Within es → LawfulExtension (extension_with profile (filled g es))
+pub filled_lawful : (g : BlockForm) (profile : ℕ) (es : List Element) → profile < 65536 → Within es → LawfulExtension (extension_with profile (filled g es))
 filled_lawful g profile es h w =
     let n : length (filled g es) ≡ 4 * words_for (packed_length g es) = filled_length g es in
     let per : length es * per_element g ≤ 64 = per_small g (length es) w.few in

@@ -8,7 +8,7 @@ use native.Mathlib.Omega.{arith}
 use lib.ListN.{length, length-append}
 use Rattle.error.specs.Said.{says}
 use Rattle.elements.specs.Elements.{Element}
-use Rattle.block.proofs.Form.{form_other}
+use Rattle.block.proofs.Forms.{form_other}
 use Rattle.header.specs.Fields.{Fields}
 use Rattle.header.specs.Read.{Reading, read_header}
 use Rattle.rfc3550.specs.Rfc3550.{Octets, Fixed, LawfulFixed}

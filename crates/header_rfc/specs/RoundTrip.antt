@@ -1,13 +1,14 @@
 -- The paper's round trip: which records read back, and as what. Assumes nothing.
-use Rattle.std.specs.Prelude.{◌≡◌, Bool, true, false, cond, List, [], ◌∷◌, ◌++◌, ℕ, ◌+◌, ◌-◌, ◌*◌, ◌%◌, ◌<◌, ◌≤◌, length, take, replicate}
+use Rattle.std.specs.Prelude.{◌≡◌, Bool, true, false, cond, List, [], ◌∷◌, ◌++◌, ℕ, ◌+◌, ◌-◌, ◌*◌, ◌%◌, ◌<◌, ◌≤◌, length, take, replicate, Result, Ok}
 use Rattle.std.proofs.Math.Option.{Option, none, some}
+use Rattle.error.specs.declared.Error.{Error}
 use Rattle.error.specs.Said.{Said, says}
 use Rattle.wire.specs.Each.{Each}
 use Rattle.elements.specs.Elements.{Element}
-use Rattle.block.specs.Form.{Form, one_byte, two_byte, other, form_of, words_for}
+use Rattle.block.specs.declared.Form.{Form}
+use Rattle.block.specs.declared.Form.TheVariants.{OneByte as one_byte, TwoByte as two_byte, Other as other}
+use Rattle.block.specs.Form.{form_of, words_for}
 use Rattle.header.specs.declared.Header.{Header}
-use Rattle.header_write.specs.declared.Length.{Length}
-use Rattle.header_write.specs.declared.Length.TheVariants as len
 use Rattle.header.specs.declared.Unmarshalled.{Unmarshalled}
 use Rattle.header.specs.Fields.{Fields, fields_of, lay_out}
 use Rattle.header.specs.Read.{read_header}
@@ -121,9 +122,9 @@ pub record WrittenAndRead (f : Fields) (answer : Said (List ℕ)) : Type 0 where
 
 -- the code's two calls: `marshal_to` of h answered a and left exit, and whatever `unmarshal` answers of what was written, with any payload behind it, is
 -- what reads back
-pub record CodeWrittenAndRead (h : Header) (exit : List ℕ) (a : Length) : Type 0 where
+pub record CodeWrittenAndRead (h : Header) (exit : List ℕ) (a : Result ℕ Error) : Type 0 where
   pub count : ℕ
-  pub answer : a ≡ len.Bytes count
+  pub answer : a ≡ Ok count
   pub back : (payload : List ℕ) → Fits (take count exit ++ payload) → (u : Unmarshalled) →
       heard u ≡ reading_heard (read_header (take count exit ++ payload)) →
       heard u ≡ record { answer = says count; header = lay_out (read_back (fields_of h)) }

@@ -1,5 +1,6 @@
 -- What the tests of the domain say of the numbers and the parts of a header: each by itself, and all of them as `measured` has them.
 -- Assumes nothing.
+use Rattle.std.specs.Prelude.{Result, Ok, Err}
 use mathlib.Core.Path.{◌≡◌, refl, sym, ap, ◌∙◌}
 use mathlib.Core.Bool.{Bool, true, false, cond, ◌&&◌}
 use mathlib.Core.List.{List}
@@ -8,20 +9,17 @@ use native.Mathlib.Omega.{arith}
 use lib.Dec.{leb}
 use lib.ListN.{take}
 use borrow.Author.Tests.{leb-true, le-leb}
+use Rattle.std.proofs.lemmas.Bool.{and_parts}
 use Rattle.error.specs.declared.Error.{Error}
 use Rattle.error.specs.Refusal.{Refusal}
-use Rattle.error.specs.Said.{Said, says, refused, refuse}
+use Rattle.error.specs.Said.{Said, says, refused, refuse, said}
 use Rattle.elements.specs.Elements.{sum}
 use Rattle.block.specs.Form.{form_of, length_for}
-use Rattle.block.proofs.Form.{heads_few}
+use Rattle.block.proofs.Forms.{heads_few}
 use Rattle.block_write.specs.Write.{all_fit}
-use Rattle.block_write.proofs.Octets.{both}
 use Rattle.header_write.specs.declared.Fixed.{Fixed}
-use Rattle.header_write.specs.declared.Length.{Length}
-use Rattle.header_write.specs.declared.Length.TheVariants as len
 use Rattle.header_write.specs.Limits.{in_limits}
 use Rattle.header_write.specs.Parts.{measured}
-use Rattle.header_write.specs.Said.{said_length}
 
 pub never : {A : Type 0} {x : A} {r : Refusal} → says x ≡ refused r → ⊥
 never e = let z : ◌≡◌ {A = ℕ} 0 1 = cc in omega arith
@@ -36,9 +34,9 @@ pub record Limits (n count : ℕ) (lens : List ℕ) (pads : ℕ) : Type 0 where
 
 pub limits : (n count : ℕ) (lens : List ℕ) (pads : ℕ) → in_limits n count lens pads ≡ true → Limits n count lens pads
 limits n count lens pads e =
-    let some = both (leb n 15) _ e in
-    let more = both (leb count 32) _ some.1 in
-    let last = both (leb (sum (take count lens)) 1024) _ more.1 in
+    let some = and_parts (leb n 15) _ e in
+    let more = and_parts (leb count 32) _ some.1 in
+    let last = and_parts (leb (sum (take count lens)) 1024) _ more.1 in
     record {
       sources = leb-true n 15 some.0;
       elements = leb-true count 32 more.0;
@@ -71,9 +69,9 @@ module _ (f : Fixed) (n profile count : ℕ) (ids lens : List ℕ) (pads : ℕ) 
 
   fine : tests ≡ true → Fine f n profile count ids lens pads
   fine e =
-      let some = both (in_limits n count lens pads) _ e in
-      let more = both (leb f.version 3) _ some.1 in
-      let last = both (leb f.payload_type 127) _ more.1 in
+      let some = and_parts (in_limits n count lens pads) _ e in
+      let more = and_parts (leb f.version 3) _ some.1 in
+      let last = and_parts (leb f.payload_type 127) _ more.1 in
       record {
         limits = limits n count lens pads some.0;
         version = leb-true f.version 3 more.0;
@@ -104,20 +102,20 @@ module _ (f : Fixed) (n profile count : ℕ) (ids lens : List ℕ) (pads : ℕ) 
       go false e = by_tests e
 
   -- what an answer says of the parts
-  module _ (r : Length) (a : said_length r ≡ asked) where
-    pub measured_says : (k : ℕ) → r ≡ len.Bytes k → Fine f n profile count ids lens pads × (k ≡ taken)
+  module _ (r : Result ℕ Error) (a : said r ≡ asked) where
+    pub measured_says : (k : ℕ) → r ≡ Ok k → Fine f n profile count ids lens pads × (k ≡ taken)
     measured_says k p = go tests refl
       where
         go : (t : Bool) → tests ≡ t → Fine f n profile count ids lens pads × (k ≡ taken)
         go true e =
-            let same : says k ≡ says taken = sym (ap said_length p) ∙ a ∙ by_tests e in
+            let same : says k ≡ says taken = sym (ap said p) ∙ a ∙ by_tests e in
             (fine e, cc)
-        go false e = absurd (never (sym (ap said_length p) ∙ a ∙ by_tests e))
+        go false e = absurd (never (sym (ap said p) ∙ a ∙ by_tests e))
 
-    pub measured_refuses : (k : Error) → r ≡ len.Refused k → Fine f n profile count ids lens pads → ⊥
-    measured_refuses k p w = never (sym (measured_fine w) ∙ sym a ∙ ap said_length p)
+    pub measured_refuses : (k : Error) → r ≡ Err k → Fine f n profile count ids lens pads → ⊥
+    measured_refuses k p w = never (sym (measured_fine w) ∙ sym a ∙ ap said p)
 
 -- the elements take 1,088 bytes at most
 pub taken_few : (n profile count : ℕ) (lens : List ℕ) (pads : ℕ) → Limits n count lens pads →
     length_for profile count (sum (take count lens)) ≤ 1088
-taken_few n profile count lens pads l = omega (arith, l.bytes, heads_few profile count l.elements)
+taken_few n profile count lens pads l = omega (arith, l.bytes, heads_few (form_of profile) count l.elements)

@@ -19,7 +19,9 @@ use lib.ListN.{length, get_or}
 use borrow.Author.Tests.{eq-eqb, eqb-true}
 use Rattle.error.specs.Said.{Said, refuse}
 use Rattle.elements.specs.Elements.{sum}
-use Rattle.block.specs.Form.{Form, one_byte, two_byte, other, per_element}
+use Rattle.block.specs.declared.Form.{Form}
+use Rattle.block.specs.declared.Form.TheVariants.{OneByte as one_byte, TwoByte as two_byte, Other as other}
+use Rattle.block.specs.Form.{per_element}
 use Rattle.header_write.specs.Judge.{judged}
 
 -- how many bytes elements of these lengths take with their heads

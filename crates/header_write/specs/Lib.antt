@@ -2,5 +2,4 @@ pub mod Limits
 pub mod Size
 pub mod Fixed
 pub mod Judge
-pub mod Said
 pub mod Parts

@@ -1,77 +1,65 @@
 // A header by its parts: the fixed fields by value, the arrays of its record lent.
+// Stays: C hands a record over so, its arrays beside their counts, and no record is copied.
 ghost use Rattle.std.specs.Prelude.{◌≡◌, true, [], ◌≤◌, length, take};
+ghost use Rattle.error.specs.Said.{said};
 ghost use Rattle.wire.specs.Part.{Put};
 ghost use Rattle.elements.specs.Elements.{Packed, elements_in, sum};
 ghost use Rattle.block.specs.Form.{form_of, length_for};
 ghost use Rattle.block_write.specs.Write.{all_writable};
-ghost use Rattle.header_write.specs.Parts.{measured, octets_for};
-ghost use Rattle.header_write.specs.Said.{said_length};
+ghost use Rattle.header_write.specs.Parts.{Whole, measured, octets_for};
 
-use crate::figure::{first_octet, put_csrcs, put_fixed, second_octet};
-use crate::{Fixed, Length};
-use block::per_element;
+use crate::figure::put_csrcs;
+use crate::{Fixed, Parts};
+use block::Form;
 use block_write::{put_extension, weigh};
 use error::Error;
 
 // How many bytes the elements take with their heads, where all of it is in the domain of writing.
-pub fn measure<'a>(
-    fixed: Fixed,
-    csrc_count: usize,
-    profile: u16,
-    count: usize,
-    ids: &'a [u8; 32],
-    lens: &'a [u16; 32],
-    padding: usize,
-) -> Length
-    ensures { said_length result ≡ measured fixed csrc_count profile count ids.now lens.now padding }
+// Stays: functions and no methods, since `header` lends `Parts` on, and no public call asks for room.
+pub fn measure(parts: Parts<'_>) -> Result<usize, Error>
+    ensures value { said result ≡ measured parts.entry.fixed parts.entry.csrc_count parts.entry.profile parts.entry.count parts.entry.ids.now parts.entry.lens.now parts.entry.padding }
+    ensures whole { Whole parts.entry }
 {
-    if 15 < csrc_count || 32 < count || 262140 < padding {
-        return Length::Refused(Error::OutsideDomain);
+    // a slice tells its length
+    let csrc = parts.csrc;
+    let csrc: &[u32] = csrc;
+    let ids = parts.ids;
+    let names: &[u8] = ids;
+    let lens = parts.lens;
+    let sizes: &[u16] = lens;
+    let bytes = parts.bytes;
+    let bytes: &[u8] = bytes;
+    if 15 < parts.csrc_count || 32 < parts.count || 262140 < parts.padding {
+        return Err(Error::OutsideDomain);
     }
-    if 3 < fixed.version || 127 < fixed.payload_type {
-        return Length::Refused(Error::OutsideDomain);
+    if 3 < parts.fixed.version || 127 < parts.fixed.payload_type {
+        return Err(Error::OutsideDomain);
     }
-    let bytes = weigh(profile, count, ids, lens);
-    if 1024 < bytes {
-        return Length::Refused(Error::OutsideDomain);
+    let form = Form::from(parts.profile);
+    match weigh(form, parts.count, ids, lens) {
+        Some(bytes) if bytes <= 1024 => Ok(bytes + parts.count * form.per_element()),
+        _ => Err(Error::OutsideDomain),
     }
-    Length::Bytes(bytes + count * per_element(profile))
 }
 
 // All that is written for a header whose elements take `len` bytes with their heads.
-pub fn put_header<'a>(
-    buf: &mut [u8],
-    fixed: Fixed,
-    csrc_count: usize,
-    csrc: &'a [u32; 15],
-    profile: u16,
-    len: usize,
-    count: usize,
-    ids: &'a [u8; 32],
-    lens: &'a [u16; 32],
-    bytes: &'a [u8; 1024],
-) -> usize
-    requires version_bound { (fixed.version ≤ 3) × (fixed.payload_type ≤ 127) }
-    requires csrc_count_bound { (csrc_count ≤ 15) × (csrc_count ≤ length csrc.now) }
-    requires packed { Packed count ids.now lens.now bytes.now }
-    requires bytes_value { all_writable (form_of profile) (elements_in count ids.now lens.now bytes.now) ≡ true }
-    requires len_value { (len ≡ length_for profile count (sum (take count lens.now))) × (len ≤ 1088) }
-    requires bytes_in_bounds { length (octets_for fixed (take csrc_count csrc.now) profile len (elements_in count ids.now lens.now bytes.now)) ≤ length buf.old }
-    ensures { Put buf.old 0 (octets_for fixed (take csrc_count csrc.now) profile len (elements_in count ids.now lens.now bytes.now)) result buf.new }
+pub fn put_header(parts: Parts<'_>, buf: &mut [u8], len: usize) -> usize
+    requires version_bound { (parts.fixed.version ≤ 3) × (parts.fixed.payload_type ≤ 127) }
+    requires csrc_count_bound { (parts.csrc_count ≤ 15) × (parts.csrc_count ≤ length parts.csrc.now) }
+    requires packed { Packed parts.count parts.ids.now parts.lens.now parts.bytes.now }
+    requires bytes_value { all_writable (form_of parts.profile) (elements_in parts.count parts.ids.now parts.lens.now parts.bytes.now) ≡ true }
+    requires len_value { (len ≡ length_for parts.profile parts.count (sum (take parts.count parts.lens.now))) × (len ≤ 1088) }
+    requires bytes_in_bounds { length (octets_for parts.fixed (take parts.csrc_count parts.csrc.now) parts.profile len (elements_in parts.count parts.ids.now parts.lens.now parts.bytes.now)) ≤ length buf.old }
+    ensures { Put buf.old 0 (octets_for parts.entry.fixed (take parts.entry.csrc_count parts.entry.csrc.now) parts.entry.profile len (elements_in parts.entry.count parts.entry.ids.now parts.entry.lens.now parts.entry.bytes.now)) result buf.new }
 {
-    let b0 = first_octet(fixed.version, fixed.padding, fixed.extension, csrc_count);
-    let b1 = second_octet(fixed.marker, fixed.payload_type);
-    put_fixed(
-        buf,
-        b0,
-        b1,
-        fixed.sequence_number,
-        fixed.timestamp,
-        fixed.ssrc,
-    );
-    let at = put_csrcs(buf, 12, csrc_count, csrc);
-    if fixed.extension {
-        return put_extension(buf, at, profile, len, count, ids, lens, bytes);
+    let csrc = parts.csrc;
+    parts.fixed.put(buf, parts.csrc_count);
+    let at = put_csrcs(buf, 12, &csrc[..parts.csrc_count]);
+    if parts.fixed.extension {
+        let ids = parts.ids;
+        let lens = parts.lens;
+        let bytes = parts.bytes;
+        return put_extension(buf, at, parts.profile, len, parts.count, ids, lens, bytes);
     }
     at
 }
@@ -82,16 +70,7 @@ pub fn put_bare(buf: &mut [u8], fixed: Fixed, profile: u16) -> usize
     requires profile_in_bounds { length (octets_for fixed [] profile 0 []) ≤ length buf.old }
     ensures { Put buf.old 0 (octets_for fixed [] profile 0 []) result buf.new }
 {
-    let b0 = first_octet(fixed.version, fixed.padding, fixed.extension, 0);
-    let b1 = second_octet(fixed.marker, fixed.payload_type);
-    put_fixed(
-        buf,
-        b0,
-        b1,
-        fixed.sequence_number,
-        fixed.timestamp,
-        fixed.ssrc,
-    );
+    fixed.put(buf, 0);
     if fixed.extension {
         wire::put_u16(buf, 12, profile);
         wire::put_u16(buf, 14, 0);

@@ -3,8 +3,6 @@
 // Only proved code calls this crate, so its functions may ask that a record is in the domain, and that the buffer has room.
 #![tactic(auto)]
 
-use error::Error;
-
 mod by_parts;
 mod figure;
 mod judging;
@@ -38,9 +36,23 @@ pub struct Fixed {
     pub ssrc: u32,
 }
 
-// A number of bytes.
+// A header's record in parts: what is small by value, its arrays lent, so that no record is copied.
 #[derive(Clone, Copy)]
-pub enum Length {
-    Bytes(usize),
-    Refused(Error),
+pub struct Parts<'a> {
+    pub fixed: Fixed,
+    // how many contributing sources there are: 0 to 15
+    pub csrc_count: usize,
+    pub csrc: &'a [u32; 15],
+    // 0xBEDE: one-byte elements; 0x1000: two-byte elements; any other: one element of whole words
+    pub profile: u16,
+    // how many extension elements there are: 0 to 32
+    pub count: usize,
+    // the id of each
+    pub ids: &'a [u8; 32],
+    // how many data bytes each has: 1,024 in all at most
+    pub lens: &'a [u16; 32],
+    // the data of all of them, packed in order
+    pub bytes: &'a [u8; 1024],
+    // zeros of the block: 0 to 262,140
+    pub padding: usize,
 }

@@ -5,17 +5,9 @@ ghost use Rattle.header_write.specs.Limits.{in_limits};
 use elements::total;
 
 // Whether a record's counts, lengths and extensions_padding are in the domain.
+// Stays: asked of a record and of the parts of one, so the array goes by itself.
 pub fn in_limits(csrc_count: usize, count: usize, lens: &[u16; 32], padding: usize) -> bool
     ensures { result ≡ in_limits csrc_count count lens.now padding }
 {
-    if 15 < csrc_count {
-        return false;
-    }
-    if 32 < count {
-        return false;
-    }
-    if 1024 < total(count, lens) {
-        return false;
-    }
-    padding <= 262140
+    csrc_count <= 15 && count <= 32 && total(count, lens) <= 1024 && padding <= 262140
 }

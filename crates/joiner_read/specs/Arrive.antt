@@ -1,10 +1,10 @@
 -- What the joiner needs of a packet, by the packet's reader. Assumes nothing.
-use Rattle.std.specs.Prelude.{ℕ}
+use Rattle.std.specs.Prelude.{ℕ, Result, Ok, Err}
+use Rattle.error.specs.declared.Error.{Error}
 use Rattle.error.specs.Refusal.{refusal_of}
 use Rattle.error.specs.Said.{Said, says, refused}
 use Rattle.packet.specs.Read.{PacketReading}
 use Rattle.joiner_read.specs.declared.Arrival.{Arrival}
-use Rattle.joiner_read.specs.declared.Arrival.TheVariants as arrival
 
 pub record Arrived : Type 0 where
   pub source : ℕ
@@ -13,10 +13,10 @@ pub record Arrived : Type 0 where
   pub place : ℕ
   pub len : ℕ
 
-abbrev pub arrival_said : Arrival → Said Arrived
-arrival_said (arrival.Packet source number time at len) =
-    says (record { source = source; number = number; time = time; place = at; len = len })
-arrival_said (arrival.Refused e) = refused (refusal_of e)
+abbrev pub arrival_said : Result Arrival Error → Said Arrived
+arrival_said (Ok a) =
+    says (record { source = a.source; number = a.number; time = a.time; place = a.at; len = a.len })
+arrival_said (Err e) = refused (refusal_of e)
 
 abbrev pub arrived_by : PacketReading → Arrived
 arrived_by r =

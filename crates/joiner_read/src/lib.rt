@@ -6,41 +6,35 @@ ghost use Rattle.packet.specs.Read.{read_packet};
 ghost use Rattle.joiner_read.specs.Arrive.{arrival_said, arrival_of};
 
 use error::Error;
-use packet::PacketRead;
 
+// The payload is `len` bytes of the packet from `at` on.
 #[derive(Clone, Copy)]
-pub enum Arrival {
-    // the payload is `len` bytes of the packet from `at` on
-    Packet {
-        source: u32,
-        number: u16,
-        time: u32,
-        at: usize,
-        len: usize,
-    },
-    Refused(Error),
+pub struct Arrival {
+    pub source: u32,
+    pub number: u16,
+    pub time: u32,
+    pub at: usize,
+    pub len: usize,
 }
 
 // By the packet's reader.
-fn read(packet: &[u8]) -> Arrival
+fn read(packet: &[u8]) -> Result<Arrival, Error>
     ensures { arrival_said result ≡ arrival_of (read_packet packet.now) }
 {
     let answer = packet::unmarshal_front(packet);
-    let read = answer.read;
-    match read {
-        PacketRead::Payload { at, len } => Arrival::Packet {
-            source: answer.front.fixed.ssrc,
-            number: answer.front.fixed.sequence_number,
-            time: answer.front.fixed.timestamp,
-            at,
-            len,
-        },
-        PacketRead::Refused(e) => Arrival::Refused(e),
-    }
+    let payload = answer.read?;
+    let fixed = answer.front.fixed;
+    Ok(Arrival {
+        source: fixed.ssrc,
+        number: fixed.sequence_number,
+        time: fixed.timestamp,
+        at: payload.at,
+        len: payload.len,
+    })
 }
 
 // Of a packet without padding and extensions all that is needed stands at fixed places.
-pub fn arrive(packet: &[u8]) -> Arrival
+pub fn arrive(packet: &[u8]) -> Result<Arrival, Error>
     ensures { arrival_said result ≡ arrival_of (read_packet packet.now) }
 {
     if packet.len() < 12 {
@@ -53,15 +47,15 @@ pub fn arrive(packet: &[u8]) -> Arrival
     if b0 / 16 % 4 != 0 {
         return read(packet);
     }
-    let at = 12 + 4 * wire::wide(b0 % 16);
+    let at = 12 + 4 * usize::from(b0 % 16);
     if packet.len() < at {
         return read(packet);
     }
-    Arrival::Packet {
+    Ok(Arrival {
         source: wire::get_u32(packet, 8),
         number: wire::get_u16(packet, 2),
         time: wire::get_u32(packet, 4),
         at,
         len: packet.len() - at,
-    }
+    })
 }

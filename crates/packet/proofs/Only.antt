@@ -1,32 +1,32 @@
 -- "that no second answer satisfies it is proved": each public call's contract is met by one answer, and by no other. For a call that is
 -- lent a buffer or arrays an answer is the result with these as they are left. Assumes nothing.
+use Rattle.std.specs.Prelude.{Result, Ok, Err}
 use mathlib.Core.Path.{◌≡◌, refl, ap}
 use mathlib.Core.Bool.{cond, ◌&&◌}
 use mathlib.Core.List.{List}
 use Prim.Native.Nat.{ℕ, ◌-◌}
 use lib.Dec.{ltb, eqb}
 use lib.ListN.{length, get_or}
+use Rattle.error.specs.declared.Error.{Error}
 use Rattle.error.specs.Refusal.{Refusal}
-use Rattle.error.specs.Said.{Said, says, refused, refuse}
+use Rattle.error.specs.Said.{Said, says, refused, refuse, said}
 use Rattle.error.specs.Only.{Determined}
 use Rattle.error.proofs.Inverse.{error_of, error_of_refusal_of}
-use Rattle.error.proofs.Only.{by_value, by_view, by_both, Sayable, either_sayable, known, passed}
+use Rattle.error.proofs.Only.{by_value, by_view, by_both, Sayable, either_sayable, known, passed, by_said}
 use Rattle.elements.specs.declared.Extensions.{Extensions}
-use Rattle.block.specs.Form.{Form, form_of}
+use Rattle.block.specs.declared.Form.{Form}
+use Rattle.block.specs.Form.{form_of}
 use Rattle.header.specs.declared.Header.{Header}
 use Rattle.header_write.specs.declared.Fixed.{Fixed}
-use Rattle.header_write.specs.declared.Length.{Length}
 use Rattle.header.specs.Fields.{Fields, fields_of, blank, in_domain}
 use Rattle.header.specs.Parts.{together, bare, front_of, Lent}
 use Rattle.header.specs.Read.{Reading, read_header}
 use Rattle.header.specs.Size.{payload_length}
 use Rattle.header_write.specs.Judge.{judged}
 use Rattle.header.specs.Write.{in_writing_domain}
-use Rattle.header_write.specs.Said.{said_length}
 use Rattle.header.specs.Said.{written}
-use Rattle.header.proofs.Only.{length_only, Left, heard_left, written_only, judged_sayable, read_sayable}
-use Rattle.packet.specs.declared.PacketRead.{PacketRead}
-use Rattle.packet.specs.declared.PacketRead.TheVariants as read
+use Rattle.header.proofs.Only.{Left, heard_left, written_only, judged_sayable, read_sayable}
+use Rattle.packet.specs.declared.Payload as code
 use Rattle.packet.specs.declared.Unmarshalled.{Unmarshalled}
 use Rattle.packet.specs.declared.FrontRead.{FrontRead}
 use Rattle.packet.specs.Fronts.{FrontHeard, heard_front, front_heard, lent_read}
@@ -37,15 +37,15 @@ use Rattle.packet.proofs.Reading.{said_front}
 
 -- ---- size and writing
 
-pub marshal_size_only : (h : Header) (payload : List ℕ) → Determined (λ (r : Length). said_length r ≡ packet_size_asked h payload)
+pub marshal_size_only : (h : Header) (payload : List ℕ) → Determined (λ (r : Result ℕ Error). said r ≡ packet_size_asked h payload)
 unfolding packet_size_asked
 marshal_size_only h payload =
-    length_only (packet_size_asked h payload)
+    by_said (packet_size_asked h payload)
     (either_sayable {x = says (packet_size (fields_of h) payload)} {y = refuse 8} (in_domain h && short_enough payload) refl refl)
 
 -- .. of the header's record put together
 pub marshal_size_parts_only : (f : Fixed) (count : ℕ) (csrc : List ℕ) (profile : ℕ) (x : Extensions) (pads : ℕ) (payload : List ℕ) →
-    Determined (λ (r : Length). said_length r ≡ packet_size_asked (together f count csrc profile x pads) payload)
+    Determined (λ (r : Result ℕ Error). said r ≡ packet_size_asked (together f count csrc profile x pads) payload)
 marshal_size_parts_only f count csrc profile x pads payload = marshal_size_only (together f count csrc profile x pads) payload
 
 write_sayable : (h : Header) (payload : List ℕ) (room : ℕ) → Sayable (write_packet h payload room)
@@ -102,19 +102,19 @@ pub packet_sayable : (s : List ℕ) → Sayable (read_packet s)
 unfolding read_packet
 packet_sayable s = behind_sayable s (read_header s) (read_sayable s)
 
-abbrev read_of : Said Payload → PacketRead
-read_of (says p) = read.Payload p.place p.len
-read_of (refused r) = read.Refused (error_of r)
+abbrev read_of : Said Payload → Result code.Payload Error
+read_of (says p) = Ok (record { at = p.place; len = p.len })
+read_of (refused r) = Err (error_of r)
 
-read_of_said : (a : PacketRead) → read_of (said_read a) ≡ a
-read_of_said (read.Payload place len) = refl
-read_of_said (read.Refused e) = ap read.Refused (error_of_refusal_of e)
+read_of_said : (a : Result code.Payload Error) → read_of (said_read a) ≡ a
+read_of_said (Ok p) = refl
+read_of_said (Err e) = ap Err (error_of_refusal_of e)
 
 abbrev unmarshalled_of : Heard → Unmarshalled
 unmarshalled_of h = record { read = read_of h.answer; header = h.header }
 
 unmarshalled_of_heard : (a : Unmarshalled) → unmarshalled_of (heard a) ≡ a
-unmarshalled_of_heard a = ap (λ (r : PacketRead). record { read = r; header = a.header }) (read_of_said a.read)
+unmarshalled_of_heard a = ap (λ (r : Result code.Payload Error). record { read = r; header = a.header }) (read_of_said a.read)
 
 heard_unmarshalled_of : (x : Said PacketReading) → Sayable x → heard (unmarshalled_of (reading_heard x)) ≡ reading_heard x
 heard_unmarshalled_of (says r) s = refl
@@ -131,7 +131,7 @@ abbrev front_read_of : FrontHeard → FrontRead
 front_read_of h = record { read = read_of h.answer; front = h.front }
 
 front_read_of_heard : (a : FrontRead) → front_read_of (heard_front a) ≡ a
-front_read_of_heard a = ap (λ (r : PacketRead). record { read = r; front = a.front }) (read_of_said a.read)
+front_read_of_heard a = ap (λ (r : Result code.Payload Error). record { read = r; front = a.front }) (read_of_said a.read)
 
 heard_front_read_of : (x : Said PacketReading) → Sayable x → heard_front (front_read_of (said_front x)) ≡ said_front x
 heard_front_read_of (says r) s = refl

@@ -7,7 +7,7 @@ use Rattle.header.specs.declared.Header.{Header}
 use Rattle.header.specs.Fields.{fields_of, in_domain}
 use Rattle.header.specs.Write.{in_writing_domain}
 use Rattle.header.specs.Parts.{fixed_of, together, bare}
-use Rattle.header.proofs.Parts.{is_emptied}
+use Rattle.header.proofs.Apart.{is_emptied}
 use Rattle.packet.specs.Write.{write_packet}
 
 pub bare_alike : (h : Header) → h.csrc_count ≡ 0 → h.extensions.count ≡ 0 → (payload : List ℕ) (room : ℕ) →

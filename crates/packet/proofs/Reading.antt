@@ -1,4 +1,5 @@
 -- How `read_packet` goes on from the header's answer. Assumes nothing.
+use Rattle.std.specs.Prelude.{Result, Ok, Err}
 use mathlib.Core.Path.{◌≡◌, refl, sym, ap, ap₂, subst, ◌∙◌}
 use mathlib.Core.Bool.{Bool, true, false, cond}
 use mathlib.Core.List.{List}
@@ -8,23 +9,20 @@ use lib.Dec.{ltb, eqb}
 use lib.ListN.{length, get_or}
 use Rattle.error.specs.declared.Error.{Error}
 use Rattle.error.specs.Refusal.{refusal_of}
-use Rattle.error.specs.Said.{Said, says, refused, refuse}
+use Rattle.error.specs.Said.{Said, says, refused, refuse, said}
 use Rattle.error.proofs.Refusing.{not_says}
 use Rattle.wire.specs.Net.{bit}
 use Rattle.header.specs.declared.Header.{Header}
-use Rattle.header.specs.declared.HeaderRead.{HeaderRead}
-use Rattle.header.specs.declared.HeaderRead.TheVariants as head
 use Rattle.header.specs.declared.FrontRead as seen
 use Rattle.header.specs.declared.Front.{Front}
 use Rattle.header.specs.Fields.{Fields, lay_out, blank}
 use Rattle.header.specs.Parts as header
 use Rattle.header.specs.Parts.{front_of, Lent, lent_of}
 use Rattle.header.specs.Read.{Reading, read_header}
-use Rattle.header.specs.Said as said
+use Rattle.header.specs.Said as head
 use Rattle.header.proofs.Reading.{shown, place_inside}
 use Rattle.header.proofs.Fronts.{FrontAnswered, front_answered, with_arrays, front_whole, zeros, blank_whole}
-use Rattle.packet.specs.declared.PacketRead.{PacketRead}
-use Rattle.packet.specs.declared.PacketRead.TheVariants as read
+use Rattle.packet.specs.declared.Payload as code
 use Rattle.packet.specs.declared.FrontRead.{FrontRead}
 use Rattle.packet.specs.Fronts.{FrontHeard, heard_front, front_heard, lent_read}
 use Rattle.packet.specs.Read.{Payload, stripped, payload_at, PacketReading, with_fields, behind, read_packet}
@@ -54,22 +52,22 @@ abbrev pub said_front : Said PacketReading → FrontHeard
 said_front x = front_heard (reading_heard x)
 
 -- the front beside the payload's answer
-module _ (f : Fields) (r : PacketRead) (h : Front) where
-  beside : (r' : PacketRead) (h' : Front) → r ≡ r' → h ≡ h' →
+module _ (f : Fields) (r : Result code.Payload Error) (h : Front) where
+  beside : (r' : Result code.Payload Error) (h' : Front) → r ≡ r' → h ≡ h' →
       heard_front (record { read = r'; front = h' }) ≡ said_front (with_fields f (said_read r')) →
       heard_front (record { read = r; front = h }) ≡ said_front (with_fields f (said_read r))
   beside r' h' er eh e =
-      ap₂ (λ (x : PacketRead) (y : Front). heard_front (record { read = x; front = y })) er eh
+      ap₂ (λ (x : Result code.Payload Error) (y : Front). heard_front (record { read = x; front = y })) er eh
       ∙ e
-      ∙ sym (ap (λ (x : PacketRead). said_front (with_fields f (said_read x))) er)
+      ∙ sym (ap (λ (x : Result code.Payload Error). said_front (with_fields f (said_read x))) er)
 
-  pub beside_payload : (place len : ℕ) → r ≡ read.Payload place len → h ≡ front_of (lay_out f) →
+  pub beside_payload : (p : code.Payload) → r ≡ Ok p → h ≡ front_of (lay_out f) →
       heard_front (record { read = r; front = h }) ≡ said_front (with_fields f (said_read r))
-  beside_payload place len er eh = beside (read.Payload place len) (front_of (lay_out f)) er eh refl
+  beside_payload p er eh = beside (Ok p) (front_of (lay_out f)) er eh refl
 
-  pub beside_refusal : (e : Error) → r ≡ read.Refused e → h ≡ front_of blank →
+  pub beside_refusal : (e : Error) → r ≡ Err e → h ≡ front_of blank →
       heard_front (record { read = r; front = h }) ≡ said_front (with_fields f (said_read r))
-  beside_refusal e er eh = beside (read.Refused e) (front_of blank) er eh refl
+  beside_refusal e er eh = beside (Err e) (front_of blank) er eh refl
 
 -- ---- the arrays
 
@@ -78,15 +76,15 @@ module _ (q : FrontRead) (x : Said PacketReading) (e : heard_front q ≡ said_fr
   answers : said_read q.read ≡ (said_front x).answer
   answers = ap (λ (k : FrontHeard). k.answer) e
 
-  pub front_says : (place len : ℕ) → q.read ≡ read.Payload place len → (r : PacketReading) × (x ≡ says r)
-  front_says place len p = go x answers
+  pub front_says : (p : code.Payload) → q.read ≡ Ok p → (r : PacketReading) × (x ≡ says r)
+  front_says p is = go x answers
     where
       go : (y : Said PacketReading) → said_read q.read ≡ (said_front y).answer → (r : PacketReading) × (y ≡ says r)
       go (says r) a = (r, refl)
-      go (refused r) a = absurd (not_says (sym (ap said_read (sym p) ∙ a)))
+      go (refused r) a = absurd (not_says (sym (ap said_read (sym is) ∙ a)))
 
   -- .. and a refusal leaves them
-  pub front_refusal : (old : Lent) (r : Error) → q.read ≡ read.Refused r → old ≡ lent_read old x
+  pub front_refusal : (old : Lent) (r : Error) → q.read ≡ Err r → old ≡ lent_read old x
   front_refusal old r p = go x answers
     where
       go : (y : Said PacketReading) → said_read q.read ≡ (said_front y).answer → old ≡ lent_read old y
@@ -114,9 +112,9 @@ abbrev rest : ℕ → Said ℕ → Said Payload
 rest n (says place) = says (record { place = place; len = n - place })
 rest n (refused r) = refused r
 
-unpadded_rest : (n : ℕ) (a : HeaderRead) → unpadded n a ≡ rest n (said.said_read a)
-unpadded_rest n (head.Payload place) = refl
-unpadded_rest n (head.Refused e) = refl
+unpadded_rest : (n : ℕ) (a : Result ℕ Error) → unpadded n a ≡ rest n (said a)
+unpadded_rest n (Ok place) = refl
+unpadded_rest n (Err e) = refl
 
 -- .. and the fields are the header's
 abbrev plain : List ℕ → Said Reading → Said PacketReading
@@ -139,13 +137,13 @@ module _ (s : List ℕ) (clear : bit (get_or s 0 0 / 32) ≡ false) where
       go (says r) = refl
       go (refused r) = refl
 
-module _ (s : List ℕ) (q : seen.FrontRead) (e : header.heard_front q ≡ header.front_heard (said.reading_heard (read_header s))) where
+module _ (s : List ℕ) (q : seen.FrontRead) (e : header.heard_front q ≡ header.front_heard (head.reading_heard (read_header s))) where
   pub front_begins : Begins (length s) q.read
   front_begins = go q.read refl
     where
-      go : (a : HeaderRead) → q.read ≡ a → Begins (length s) a
-      go (head.Payload place) is = place_inside s _ (front_answered q s e place is).reads
-      go (head.Refused r) is = tt
+      go : (a : Result ℕ Error) → q.read ≡ a → Begins (length s) a
+      go (Ok place) is = place_inside s _ (front_answered q s e place is).reads
+      go (Err r) is = tt
 
   pub front_clear : bit (get_or s 0 0 / 32) ≡ false → (p : Said Payload) → p ≡ unpadded (length s) q.read →
       record { answer = p; front = q.front } ≡ said_front (read_packet s)
@@ -158,7 +156,7 @@ module _ (s : List ℕ) (q : seen.FrontRead) (e : header.heard_front q ≡ heade
       onwards : header.FrontHeard → FrontHeard
       onwards h = record { answer = rest (length s) h.answer; front = h.front }
 
-      go : (x : Said Reading) → onwards (header.front_heard (said.reading_heard x)) ≡ said_front (plain s x)
+      go : (x : Said Reading) → onwards (header.front_heard (head.reading_heard x)) ≡ said_front (plain s x)
       go (says r) = refl
       go (refused r) = refl
 

@@ -1,4 +1,5 @@
 -- `packet_size_asked` and `write_packet` test by test, and the packet's octets behind those of its header. Assumes nothing.
+use Rattle.std.specs.Prelude.{Result, Ok, Err}
 use mathlib.Core.Path.{◌≡◌, refl, sym, ap, ap₂, ◌∙◌}
 use mathlib.Core.Bool.{Bool, true, false, cond, ◌&&◌}
 use mathlib.Core.List.{List, [], ◌∷◌, ◌++◌}
@@ -9,18 +10,15 @@ use lib.Seq.{length-take-le}
 use borrow.Rule.Slice.PartMut.{put_mid}
 use borrow.Author.Tests.{lt-ltb, le-ltb}
 use Rattle.error.specs.declared.Error.{Error}
-use Rattle.error.specs.Said.{says, refuse}
+use Rattle.error.specs.Said.{says, refuse, said}
 use Rattle.wire.specs.Part.{splice, Put}
 use Rattle.wire.proofs.Part.{length_splice, splice_behind, splice_lent}
 use Rattle.block.specs.Form.{form_of}
 use Rattle.header.specs.declared.Header.{Header}
-use Rattle.header_write.specs.declared.Length.{Length}
-use Rattle.header_write.specs.declared.Length.TheVariants as len
 use Rattle.header.specs.Fields.{fields_of, in_domain}
 use Rattle.header.specs.Size.{payload_length, header_size}
 use Rattle.header.specs.Write.{octets_of, in_writing_domain, write_header}
 use Rattle.header_write.specs.Size.{size_for}
-use Rattle.header_write.specs.Said.{said_length}
 use Rattle.header.specs.Said.{heard_written, written}
 use Rattle.header.proofs.Octets.{octets_fit}
 use Rattle.header.proofs.Writing.{block_asked, write_asked, block_asked_says, Measured, octets_by, sized, size_few, octets_by_lem, judge_refuses, judge_says}
@@ -134,16 +132,15 @@ module _ (h : Header) (n : ℕ) (m : Measured h n) (payload buf : List ℕ) (q :
   short_written l = sym (ap (written buf) (packet_short h payload (length buf) m.domain q l))
 
   -- 9 and 10 are judged of the elements as they were measured
-  module _ (fits : packet_size (fields_of h) payload ≤ length buf) (r : Length)
-      (e : said_length r ≡ block_asked h.extension (form_of h.extension_profile) n h.extensions.count n) where
-    pub judge_written : (k : Error) → r ≡ len.Refused k → heard_written r buf ≡ written buf (write_packet h payload (length buf))
+  module _ (fits : packet_size (fields_of h) payload ≤ length buf) (r : Result ℕ Error)
+      (e : said r ≡ block_asked h.extension (form_of h.extension_profile) n h.extensions.count n) where
+    pub judge_written : (k : Error) → r ≡ Err k → heard_written (Err k) buf ≡ written buf (write_packet h payload (length buf))
     judge_written k p =
-        ap (λ (l : Length). heard_written l buf) p
-        ∙ sym
+        sym
         (ap (written buf)
         (packet_asked h payload (length buf) m.domain q fits ∙ judge_refuses h n m (packet_octets (fields_of h) payload) r e k p))
 
-    pub behind : (k : ℕ) → r ≡ len.Bytes k → (exit : List ℕ) (at : ℕ) → Put buf 0 (octets_by h n) at exit → Behind h payload buf exit at
+    pub behind : (k : ℕ) → r ≡ Ok k → (exit : List ℕ) (at : ℕ) → Put buf 0 (octets_by h n) at exit → Behind h payload buf exit at
     behind k p exit at put =
         let same = ap length (octets_by_lem h n m) in
         let fit = octets_fit (fields_of h) in

@@ -10,24 +10,25 @@ mod write;
 pub use read::{unmarshal, unmarshal_front, unmarshal_parts};
 pub use write::{marshal_bare, marshal_parts, marshal_size, marshal_size_parts, marshal_to};
 
-// What reading answers beside the record: the payload, `len` bytes of the packet from `at` on.
+// `len` bytes of the packet from `at` on.
 #[derive(Clone, Copy)]
-pub enum PacketRead {
-    Payload { at: usize, len: usize },
-    Refused(Error),
+pub struct Payload {
+    pub at: usize,
+    pub len: usize,
 }
 
+// Stays: as in `header`, the record stands beside the answer here, and there its front.
 #[derive(Clone, Copy)]
 pub struct Unmarshalled {
-    pub read: PacketRead,
+    pub read: Result<Payload, Error>,
     // all zeros beside a refusal
     pub header: Header,
 }
 
-// What reading answers beside the record's front: all of it but its arrays.
+// With the record's front: all of it but its arrays.
 #[derive(Clone, Copy)]
 pub struct FrontRead {
-    pub read: PacketRead,
+    pub read: Result<Payload, Error>,
     // all zeros beside a refusal
     pub front: Front,
 }

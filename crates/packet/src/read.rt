@@ -5,36 +5,34 @@ ghost use Rattle.packet.specs.Read.{stripped, read_packet};
 ghost use Rattle.packet.specs.Fronts.{heard_front, front_heard, lent_read};
 ghost use Rattle.packet.specs.Said.{said_read, heard, reading_heard, Begins, unpadded};
 
-use crate::{FrontRead, PacketRead, Unmarshalled};
+use crate::{FrontRead, Payload, Unmarshalled};
 use error::Error;
-use header::{Front, HeaderRead};
+use header::Front;
 
 // The header's answer as that of a packet without padding: its refusal, or all from the payload's place on.
-fn unpadded(read: HeaderRead, len: usize) -> PacketRead
+fn unpadded(read: Result<usize, Error>, len: usize) -> Result<Payload, Error>
     requires { Begins len read }
     ensures { said_read result ≡ unpadded len read }
 {
-    match read {
-        HeaderRead::Payload(at) => PacketRead::Payload { at, len: len - at },
-        HeaderRead::Refused(e) => PacketRead::Refused(e),
-    }
+    let at = read?;
+    Ok(Payload { at, len: len - at })
 }
 
 // RFC 3550, section 5.1: "The last octet of the padding contains a count of how many padding octets should be ignored, including
 // itself."
-fn strip(packet: &[u8], at: usize) -> PacketRead
+fn strip(packet: &[u8], at: usize) -> Result<Payload, Error>
     requires { at ≤ length packet.now }
     ensures { said_read result ≡ stripped packet.now at }
 {
     let left = packet.len() - at;
     if left == 0 {
-        return PacketRead::Refused(Error::ErrShortPacket);
+        return Err(Error::ErrShortPacket);
     }
-    let n = wire::wide(packet[packet.len() - 1]);
+    let n = usize::from(packet[packet.len() - 1]);
     if left < n {
-        return PacketRead::Refused(Error::ErrShortPacket);
+        return Err(Error::ErrShortPacket);
     }
-    PacketRead::Payload { at, len: left - n }
+    Ok(Payload { at, len: left - n })
 }
 
 // The record's front: all but its arrays.
@@ -43,7 +41,7 @@ pub fn unmarshal_front(packet: &[u8]) -> FrontRead
 {
     let seen = header::unmarshal_front(packet);
     let read = seen.read;
-    let HeaderRead::Payload(at) = read else {
+    let Ok(at) = read else {
         return FrontRead {
             read: unpadded(read, packet.len()),
             front: Front::default(),
@@ -57,7 +55,7 @@ pub fn unmarshal_front(packet: &[u8]) -> FrontRead
         };
     }
     let read = strip(packet, at);
-    let PacketRead::Payload { at: _, len: _ } = read else {
+    let Ok(_) = read else {
         return FrontRead {
             read,
             front: Front::default(),
@@ -90,7 +88,7 @@ fn unmarshal_padded(
 {
     let seen = unmarshal_front(packet);
     let read = seen.read;
-    let PacketRead::Payload { at: _, len: _ } = read else {
+    let Ok(_) = read else {
         return seen;
     };
     header::unmarshal_parts(packet, csrc, ids, lens, bytes);
@@ -98,6 +96,7 @@ fn unmarshal_padded(
 }
 
 // The front, and the record's arrays, which are lent.
+// Stays: C lends each array by itself, so in all that fills them.
 pub fn unmarshal_parts(
     packet: &[u8],
     csrc: &mut [u32; 15],
@@ -121,6 +120,7 @@ pub fn unmarshal_parts(
     }
 }
 
+// Stays: as `Header::unmarshal`, over another reader and its answer.
 pub fn unmarshal(packet: &[u8]) -> Unmarshalled
     ensures { heard result ≡ reading_heard (read_packet packet.now) }
 {

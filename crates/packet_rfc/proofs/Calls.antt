@@ -1,5 +1,6 @@
 -- The calls write: where the header's call writes, the packet's does, and what `marshal_to` left in front of the buffer is what was written; so what is
 -- shown of the octets is shown of the calls. Assumes nothing.
+use Rattle.std.specs.Prelude.{Result, Ok}
 use mathlib.Core.Path.{◌≡◌, sym, ap, ◌∙◌}
 use mathlib.Core.Bool.{true}
 use mathlib.Core.List.{List, []}
@@ -7,13 +8,12 @@ use Prim.Native.Nat.{ℕ, ◌+◌, ◌≤◌}
 use native.Mathlib.Omega.{arith}
 use lib.ListN.{length, take}
 use borrow.Author.Tests.{le-leb}
+use Rattle.error.specs.declared.Error.{Error}
 use Rattle.error.specs.Refusal.{Refusal}
 use Rattle.error.specs.Said.{Said, says, refused}
 use Rattle.wire.specs.Part.{splice}
 use Rattle.wire.proofs.Part.{length_part}
 use Rattle.header.specs.declared.Header.{Header}
-use Rattle.header_write.specs.declared.Length.{Length}
-use Rattle.header_write.specs.declared.Length.TheVariants as len
 use Rattle.header.specs.Fields.{Fields, fields_of, lay_out}
 use Rattle.header.specs.Read.{read_header}
 use Rattle.header.specs.Write.{octets_of, in_writing_domain, write_header}
@@ -98,19 +98,19 @@ same_octets p l plain t fill w short room fits =
 
 -- ---- the code
 
-pub code_writes : (h : Header) (payload buf exit : List ℕ) (a : Length) → heard_written a exit ≡ written buf (write_packet h payload (length buf)) →
+pub code_writes : (h : Header) (payload buf exit : List ℕ) (a : Result ℕ Error) → heard_written a exit ≡ written buf (write_packet h payload (length buf)) →
     in_writing_domain h ≡ true → ReadsBack (fields_of h) → length payload ≤ 65535 → packet_size (fields_of h) payload ≤ length buf →
-    (a ≡ len.Bytes (length (paper.packet_octets (fields_of h) payload))) × (exit ≡ splice buf 0 (paper.packet_octets (fields_of h) payload))
+    (a ≡ Ok (length (paper.packet_octets (fields_of h) payload))) × (exit ≡ splice buf 0 (paper.packet_octets (fields_of h) payload))
 code_writes h payload buf exit a contract d r short fits =
     header.left_by a buf exit (paper.packet_octets (fields_of h) payload) (contract ∙ ap (written buf) (writes h payload d r short (length buf) fits))
 
-pub code_round_trip : (h : Header) → AsTyped h → (payload buf exit : List ℕ) (a : Length) →
+pub code_round_trip : (h : Header) → AsTyped h → (payload buf exit : List ℕ) (a : Result ℕ Error) →
     heard_written a exit ≡ written buf (write_packet h payload (length buf)) → in_writing_domain h ≡ true → ReadsBack (fields_of h) →
     length payload ≤ 65535 → packet_size (fields_of h) payload ≤ length buf → CodeWrittenAndRead h payload exit a
 code_round_trip h t payload buf exit a contract d r short fits =
     let whole : WrittenAndRead (fields_of h) payload (write_packet h payload (length buf)) = round_trip h payload t d r short (length buf) fits in
     let octets : List ℕ = whole.octets in
-    let left : (a ≡ len.Bytes (length octets)) × (exit ≡ splice buf 0 octets) = header.left_by a buf exit octets (contract ∙ ap (written buf) whole.written) in
+    let left : (a ≡ Ok (length octets)) × (exit ≡ splice buf 0 octets) = header.left_by a buf exit octets (contract ∙ ap (written buf) whole.written) in
     let front : take (length octets) exit ≡ octets = header.front_left buf exit octets left.1 in
     record {
       count = length octets;

@@ -10,18 +10,18 @@
 --
 -- The paper's limits are `Fits` (65,535 bytes) and `Within` (32 elements, 1,024 data bytes). Of the crate's deviations COMPLETE has to leave one out:
 -- `Plain`, of the two-byte form's profiles 0x1000 to 0x100F only 0x1000 is read as such.
+use Rattle.std.specs.Prelude.{Result, Ok}
 use mathlib.Core.Path.{◌≡◌, ap, ◌∙◌}
 use mathlib.Core.Bool.{true}
 use mathlib.Core.List.{List}
 use mathlib.Core.Logic.{◌⊎◌}
 use Prim.Native.Nat.{ℕ, ◌+◌, ◌≤◌}
 use lib.ListN.{length}
+use Rattle.error.specs.declared.Error.{Error}
 use Rattle.error.specs.Refusal.{Refusal}
 use Rattle.error.specs.Said.{Said, says, refused, refuse}
 use Rattle.wire.specs.Part.{splice}
 use Rattle.header.specs.declared.Header.{Header}
-use Rattle.header_write.specs.declared.Length.{Length}
-use Rattle.header_write.specs.declared.Length.TheVariants as len
 use Rattle.header.specs.Fields.{Fields, fields_of, lay_out}
 use Rattle.header.specs.Write.{in_writing_domain}
 use Rattle.header.specs.Read.{read_header}
@@ -31,7 +31,6 @@ use Rattle.rfc3550.specs.Packet.{Packet, LawfulPacket, packet_octets, IsRtpPacke
 use Rattle.rfc3550.proofs.Packets as packets
 use Rattle.header_rfc.specs.Says.{elements_said, fields_said, Within, Plain, AppBits, Fits}
 use Rattle.header_rfc.specs.RoundTrip.{AsTyped, ReadsBack, Trailing}
-use Rattle.packet.specs.declared.PacketRead.TheVariants as read
 use Rattle.packet.specs.declared.Unmarshalled.{Unmarshalled}
 use Rattle.packet.specs.Read.{Payload, PacketReading, read_packet}
 use Rattle.packet.specs.Write as written
@@ -92,7 +91,7 @@ pub SOUND : Sound read_packet
 SOUND = sound.sound
 
 -- .. and so is whatever `unmarshal` accepts under its contract ..
-pub CODE_SOUND : (u : Unmarshalled) (s : List ℕ) → Octets s → heard u ≡ reading_heard (read_packet s) → (place len : ℕ) → u.read ≡ read.Payload place len →
+pub CODE_SOUND : (u : Unmarshalled) (s : List ℕ) → Octets s → heard u ≡ reading_heard (read_packet s) → (place len : ℕ) → u.read ≡ Ok (record { at = place; len = len }) →
     CodeTold s u place len
 CODE_SOUND = sound.code_sound
 
@@ -187,14 +186,14 @@ pub ROUND_TRIP : (h : Header) (payload : List ℕ) → AsTyped h → in_writing_
 ROUND_TRIP = calls.round_trip
 
 -- The same of the code: under these conditions `marshal_to` answers how many bytes it wrote, whatever the buffer held ..
-pub CODE_WRITES : (h : Header) (payload buf exit : List ℕ) (a : Length) →
+pub CODE_WRITES : (h : Header) (payload buf exit : List ℕ) (a : Result ℕ Error) →
     answers.heard_written a exit ≡ answers.written buf (written.write_packet h payload (length buf)) →
     in_writing_domain h ≡ true → ReadsBack (fields_of h) → length payload ≤ 65535 → written.packet_size (fields_of h) payload ≤ length buf →
-    (a ≡ len.Bytes (length (written.packet_octets (fields_of h) payload))) × (exit ≡ splice buf 0 (written.packet_octets (fields_of h) payload))
+    (a ≡ Ok (length (written.packet_octets (fields_of h) payload))) × (exit ≡ splice buf 0 (written.packet_octets (fields_of h) payload))
 CODE_WRITES = calls.code_writes
 
 -- .. and whatever `unmarshal` answers of these bytes is what reads back.
-pub CODE_ROUND_TRIP : (h : Header) → AsTyped h → (payload buf exit : List ℕ) (a : Length) →
+pub CODE_ROUND_TRIP : (h : Header) → AsTyped h → (payload buf exit : List ℕ) (a : Result ℕ Error) →
     answers.heard_written a exit ≡ answers.written buf (written.write_packet h payload (length buf)) →
     in_writing_domain h ≡ true → ReadsBack (fields_of h) → length payload ≤ 65535 → written.packet_size (fields_of h) payload ≤ length buf →
     CodeWrittenAndRead h payload exit a

@@ -19,7 +19,8 @@ use Rattle.elements.specs.Elements.{Element, room_for}
 use Rattle.block_read.specs.Read.{Block, block_at, items_by, taken, turn, read_block, whole_block}
 use Rattle.block_read.specs.Read as paper
 use Rattle.block.specs.Form.{form_of}
-use Rattle.block.specs.Form as forms
+use Rattle.block.specs.declared.Form.{Form as BlockForm}
+use Rattle.block.specs.declared.Form.TheVariants as forms
 use Rattle.header.specs.Read.{Reading, count_of, fixed_length, reading_of, read_extension, read_fixed, read_header}
 use Rattle.rfc3550.specs.Rfc3550.{Fixed, present}
 use Rattle.rfc3550.specs.Rfc8285.{one_byte, two_byte, block_octets, Content, laid, other, Plan, Lawful, octets}
@@ -75,11 +76,11 @@ items_not_four item (suc fuel) b = go (turn item b) (turn_ends item b) (λ c. it
     go (more c) h next = next c
     go (done x) h next = h
 
-block_not_four : (form : forms.Form) (b : Block) → NotFour (read_block form b)
+block_not_four : (form : BlockForm) (b : Block) → NotFour (read_block form b)
 unfolding whole_block
-block_not_four forms.one_byte b = items_not_four (items_by false) (b.left + 1) b
-block_not_four forms.two_byte b = items_not_four (items_by true) (b.left + 1) b
-block_not_four forms.other b =
+block_not_four forms.OneByte b = items_not_four (items_by false) (b.left + 1) b
+block_not_four forms.TwoByte b = items_not_four (items_by true) (b.left + 1) b
+block_not_four forms.Other b =
     not_four_test (room_for b.elements b.left)
     (says (paper.with_element (record { id = 0; bytes = take b.left b.rest }) (paper.skip b.left b))) (refuse 7) (λ e. omega arith) (λ e. omega arith)
 

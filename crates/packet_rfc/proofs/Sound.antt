@@ -1,5 +1,6 @@
 -- Whatever is accepted is a well-formed packet, has a padding count of 0, or strays, and is told in one way alone: the header conforms or strays by the
 -- header's SOUND, and the octets behind it were measured. Assumes nothing.
+use Rattle.std.specs.Prelude.{Ok}
 use mathlib.Core.Path.{◌≡◌, refl, sym, ap, ◌∙◌, subst}
 use mathlib.Core.Bool.{Bool}
 use mathlib.Core.List.{List, [], ◌∷◌, ◌++◌, append-nil}
@@ -20,7 +21,6 @@ use Rattle.header_rfc.specs.Says as header
 use Rattle.header_rfc.specs.Accepted.{payload_left}
 use Rattle.header_rfc.specs.Accepted as header-told
 use Rattle.header_rfc.proofs.Sound as header_read
-use Rattle.packet.specs.declared.PacketRead.TheVariants as read
 use Rattle.packet.specs.declared.Unmarshalled.{Unmarshalled}
 use Rattle.packet.specs.Read.{Payload, PacketReading, read_packet}
 use Rattle.packet.specs.Said.{said_read, Heard, heard, reading_heard}
@@ -98,19 +98,19 @@ sound s r o e = go (header_read.sound s (header_of r) o a.header)
 -- ---- the code
 
 -- whatever `unmarshal` accepts under its contract
-pub code_sound : (u : Unmarshalled) (s : List ℕ) → Octets s → heard u ≡ reading_heard (read_packet s) → (place len : ℕ) → u.read ≡ read.Payload place len →
+pub code_sound : (u : Unmarshalled) (s : List ℕ) → Octets s → heard u ≡ reading_heard (read_packet s) → (place len : ℕ) → u.read ≡ Ok (record { at = place; len = len }) →
     CodeTold s u place len
 code_sound u s o contract place len answer = go (read_packet s) refl
   where
     at : Payload
     at = record { place = place; len = len }
 
-    said : (a : Said PacketReading) → read_packet s ≡ a → says at ≡ (reading_heard a).answer
-    said a e = sym (ap said_read answer) ∙ ap (λ (x : Heard). x.answer) (contract ∙ ap reading_heard e)
+    heard_as : (a : Said PacketReading) → read_packet s ≡ a → says at ≡ (reading_heard a).answer
+    heard_as a e = sym (ap said_read answer) ∙ ap (λ (x : Heard). x.answer) (contract ∙ ap reading_heard e)
 
     go : (a : Said PacketReading) → read_packet s ≡ a → CodeTold s u place len
     go (says r) e =
-        let p : says at ≡ says r.payload = said (says r) e in
+        let p : says at ≡ says r.payload = heard_as (says r) e in
         let same : r.payload ≡ at = cc in
         record {
           reading = r;
@@ -119,7 +119,7 @@ code_sound u s o contract place len answer = go (read_packet s) refl
           header = ap (λ (x : Heard). x.header) (contract ∙ ap reading_heard e);
         }
     go (refused w) e =
-        let p : says at ≡ refused w = said (refused w) e in
+        let p : says at ≡ refused w = heard_as (refused w) e in
         absurd (let z : ◌≡◌ {A = ℕ} 0 1 = cc in omega arith)
 
 -- ---- what is told is a header that is told, and octets behind it that are measured

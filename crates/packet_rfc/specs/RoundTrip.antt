@@ -1,10 +1,9 @@
 -- The round trip of a whole packet: "A whole packet reads back so too, where at most 65,535 bytes were written." Assumes nothing.
-use Rattle.std.specs.Prelude.{◌≡◌, true, List, ℕ, ◌+◌, ◌%◌, ◌≤◌, length, take, replicate}
+use Rattle.std.specs.Prelude.{◌≡◌, true, List, ℕ, ◌+◌, ◌%◌, ◌≤◌, length, take, replicate, Result, Ok}
 use Rattle.std.proofs.Math.Option.{Option, none, some}
+use Rattle.error.specs.declared.Error.{Error}
 use Rattle.error.specs.Said.{Said, says}
 use Rattle.header.specs.declared.Header.{Header}
-use Rattle.header_write.specs.declared.Length.{Length}
-use Rattle.header_write.specs.declared.Length.TheVariants as len
 use Rattle.header.specs.Fields.{Fields, fields_of, lay_out}
 use Rattle.header.specs.Write.{octets_of, in_writing_domain}
 use Rattle.rfc3550.specs.Packet.{Padding, count_in, LawfulPadding, padding_octets, Packet, LawfulPacket, packet_octets}
@@ -67,9 +66,9 @@ pub record WrittenAndRead (f : Fields) (payload : List ℕ) (answer : Said (List
   pub bytes : payload_in octets (packet_back f payload) ≡ payload
 
 -- the code's two calls: `marshal_to` of h and a payload answered a and left exit, and whatever `unmarshal` answers of what was written is what reads back
-pub record CodeWrittenAndRead (h : Header) (payload exit : List ℕ) (a : Length) : Type 0 where
+pub record CodeWrittenAndRead (h : Header) (payload exit : List ℕ) (a : Result ℕ Error) : Type 0 where
   pub count : ℕ
-  pub answer : a ≡ len.Bytes count
+  pub answer : a ≡ Ok count
   pub back : count ≤ 65535 → (u : Unmarshalled) → heard u ≡ reading_heard (read_packet (take count exit)) →
       heard u ≡ record { answer = says (packet_back (fields_of h) payload).payload; header = lay_out (read_back (fields_of h)) }
 

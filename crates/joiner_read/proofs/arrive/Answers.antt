@@ -26,7 +26,7 @@ read s source number time count =
 
 pub returns : goal.returns
 returns c =
-    let count = c.wide in
+    let count = c.from in
     let p : List ℕ = c.args.packet.now in
-    (λ i. read (goal.at.returns c).Start (c.get_u32.ensures i) (c.get_u16.ensures i) (c.get_u32-2.ensures i) (count.ensures.0 i))
-    ∙ sym (arrival_plain p (search rules) (search rules) (omega (arith, count.ensures.0)) (search rules))
+    (λ i. read (goal.at.returns c).Start (c.get_u32.ensures i) (c.get_u16.ensures i) (c.get_u32-2.ensures i) (count.ensures i))
+    ∙ sym (arrival_plain p (search rules) (search rules) (omega (arith, count.ensures)) (search rules))

@@ -1,37 +1,24 @@
 -- A record can be written where its parts can be measured.
-use mathlib.Core.Path.{◌≡◌, sym, ap, ◌∙◌}
-use borrow.Author.Rules.{rules}
-use Rattle.header_write.specs.declared.Fixed.{Fixed}
-use Rattle.header_write.specs.Parts.{measured}
-use Rattle.header_write.proofs.Domain.{measured_says, measured_refuses}
-use Rattle.header.specs.declared.Header.{Header}
-use Rattle.header.specs.Parts.{fixed_of}
-use Rattle.header.proofs.Sizes.{Arrays}
-use Rattle.header.proofs.Writing.{fine_domain, not_fine}
+use Rattle.std.specs.Prelude.{Result, Ok, Err, is_ok}
+use mathlib.Core.Path.{◌≡◌, refl, sym, ap, ◌∙◌}
+use Prim.Native.Nat.{ℕ}
+use Rattle.error.specs.declared.Error.{Error}
+use Rattle.error.specs.Said.{said}
+use Rattle.header_write.specs.declared.Parts.{Parts}
+use Rattle.header_write.specs.Parts.{Whole, measured}
+use Rattle.header.specs.Parts.{record_of}
+use Rattle.header.specs.Write.{in_writing_domain}
+use Rattle.header.proofs.Apart.{known_of, unknown_of}
 use Rattle.header.proofs.Header.is_writable.Goals as goal
 
-asked : (h : Header) (f : Fixed) → f ≡ fixed_of h →
-    measured f h.csrc_count h.extension_profile h.extensions.count h.extensions.ids h.extensions.lens h.extensions_padding
-    ≡ measured (fixed_of h) h.csrc_count h.extension_profile h.extensions.count h.extensions.ids h.extensions.lens h.extensions_padding
-asked h f e =
-    ap
-    (λ (f : Fixed).
-    measured f h.csrc_count h.extension_profile h.extensions.count h.extensions.ids h.extensions.lens h.extensions_padding) e
+-- the answer, by what measuring answers
+by : (p : Parts) (whole : Whole p) (r : Result ℕ Error) →
+    said r ≡ measured p.fixed p.csrc_count p.profile p.count p.ids.now p.lens.now p.padding → is_ok r ≡ in_writing_domain (record_of p)
+by p whole (Ok n) e = let m = known_of p whole (Ok n) e n refl in sym m.domain
+by p whole (Err k) e = sym (unknown_of p whole (Err k) e k refl).1
 
-pub returns-in-Bytes : goal.returns-in-Bytes
-returns-in-Bytes c =
-    let h = c.args.self in
-    let arrays : Arrays h = record { csrc = search rules; ids = search rules; lens = search rules; bytes = search rules } in
-    sym
-    (fine_domain h arrays
-    (measured_says (fixed_of h) h.csrc_count h.extension_profile h.extensions.count h.extensions.ids h.extensions.lens
-    h.extensions_padding c.measure-measured.result (c.measure-measured.ensures ∙ asked h _ c.fixed.ensures) _ c.in-Bytes.is).0)
-
-pub returns-in-Refused : goal.returns-in-Refused
-returns-in-Refused c =
-    let h = c.args.self in
-    let arrays : Arrays h = record { csrc = search rules; ids = search rules; lens = search rules; bytes = search rules } in
-    sym
-    (not_fine h arrays
-    (measured_refuses (fixed_of h) h.csrc_count h.extension_profile h.extensions.count h.extensions.ids h.extensions.lens
-    h.extensions_padding c.measure-measured.result (c.measure-measured.ensures ∙ asked h _ c.fixed.ensures) _ c.in-Refused.is))
+pub returns : goal.returns
+returns c =
+    c.is_ok.ensures.value
+    ∙ by c.parts.result c.measure.ensures.whole c.measure.result c.measure.ensures.value
+    ∙ ap in_writing_domain c.parts.ensures

@@ -22,13 +22,13 @@ returns-then-packet-lt4 c =
 pub returns-then-packet-at : goal.returns-then-packet-at
 returns-then-packet-at c =
     let s = c.args.packet.now in
-    let cc : c.wide-cc.result ≡ count_of s = c.wide-cc.ensures.0 in
+    let cc : c.from-cc.result ≡ count_of s = c.from-cc.ensures in
     c.refused_front-then-packet-at.ensures ∙ sym (ap said_front (header_cut s (search rules) (search rules) (omega arith)))
 
 pub returns-then-b0-eq1 : goal.returns-then-b0-eq1
 returns-then-b0-eq1 c =
     let s = c.args.packet.now in
-    let cc : c.wide-cc.result ≡ count_of s = c.wide-cc.ensures.0 in
+    let cc : c.from-cc.result ≡ count_of s = c.from-cc.ensures in
     c.front_extended.ensures
     ∙ ap (λ (n : ℕ). said_front (read_extension s n (fixed_length n))) cc
     ∙ sym (ap said_front (header_extended s (search rules) (search rules) (omega arith) c.if-b0-eq1.true))
@@ -36,7 +36,7 @@ returns-then-b0-eq1 c =
 pub returns : goal.returns
 returns c =
     let s = c.args.packet.now in
-    let cc : c.wide-cc.result ≡ count_of s = c.wide-cc.ensures.0 in
+    let cc : c.from-cc.result ≡ count_of s = c.from-cc.ensures in
     c.front_at.ensures
     ∙ ap (λ (n : ℕ). record { answer = says (fixed_length n); front = front_at s n 0 0 0 }) cc
     ∙ sym

@@ -1,7 +1,12 @@
 -- In the domain the length that is counted from the arrays is that of the elements; outside it is 8.
 use mathlib.Core.Path.{sym, ap, ◌∙◌}
 use mathlib.Core.Bool.{not}
+use Prim.Native.Nat.{◌+◌, ◌*◌}
+use lib.ListN.{take}
 use Rattle.error.specs.Said.{says}
+use Rattle.elements.specs.Elements.{sum}
+use Rattle.block.specs.declared.Form.{Form}
+use Rattle.block.specs.Form.{per_element}
 use Rattle.header.specs.Parts.{together}
 use Rattle.header.proofs.Sizes.{passes, fails, limits_of, packed, payload_length_lem, length_asked_lem}
 use Rattle.header.proofs.size.get_extension_payload_len_parts.Goals as goal
@@ -20,5 +25,5 @@ unfolding together
 returns c =
     let tested = c.in_domain.ensures in
     let inside = passes tested (ap not c.if-not-in_domain.false) in
-    ap says (c.payload_len.ensures.0 ∙ sym (payload_length_lem _ (packed _ tested.arrays (limits_of _ inside))))
+    ap says (c.payload_len.ensures.0 ∙ ap (λ (f : Form). sum (take c.args.parts.count c.args.parts.lens.now) + c.args.parts.count * per_element f) c.from.ensures ∙ sym (payload_length_lem _ (packed _ tested.arrays (limits_of _ inside))))
     ∙ sym (length_asked_lem _ inside)

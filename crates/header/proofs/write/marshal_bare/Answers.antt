@@ -3,6 +3,7 @@ use mathlib.Core.Path.{◌≡◌, sym, ap}
 use Prim.Native.Nat.{ℕ, ◌≤◌}
 use native.Mathlib.Omega.{arith}
 use lib.ListN.{length}
+use Rattle.std.proofs.lemmas.Result.{err_from_is_err_and}
 use Rattle.elements.specs.Elements.{lay_elements}
 use Rattle.header_write.specs.declared.Fixed.{Fixed}
 use Rattle.header_write.specs.Size.{size_for}
@@ -11,7 +12,7 @@ use Rattle.header.specs.Size.{header_size}
 use Rattle.header.specs.Said.{written}
 use Rattle.header.specs.Parts.{together, bare}
 use Rattle.header.proofs.Writing.{Measured, sized, octets_room, short_written, judge_written, put_written, write_outside}
-use Rattle.header.proofs.Parts.{bare_measured, bare_outside}
+use Rattle.header.proofs.Apart.{bare_measured, bare_outside}
 use Rattle.header.proofs.write.marshal_bare.Goals as goal
 use Rattle.header.proofs.write.marshal_bare.Goals.{then-fixed-gt3-via-then-fixed-gt3, then-fixed-gt3-via-else-fixed-gt3+then-fixed-gt127, then-fixed-gt3-via-else-fixed-gt3+else-fixed-gt127+then-padding-gt262140}
 
@@ -45,14 +46,16 @@ returns-then-buf-size_of c =
     short_written (bare a.fixed a.profile a.padding) 0 m a.buf.now (omega (arith, c.size_of.ensures, c.if-buf-size_of.true))
 
 -- ---- 9, 10
-pub returns-in_default : goal.returns-in_default
+pub returns-in_err-judge : goal.returns-in_err-judge
 unfolding bare together lay_elements
-returns-in_default c =
+returns-in_err-judge c =
     let a = c.args in
     let m = bare_measured a.fixed a.profile a.padding (omega arith) (omega arith) (omega arith) in
-    judge_written (bare a.fixed a.profile a.padding) 0 m a.buf.now
+    let p = err_from_is_err_and c.from_residual.result c.from_residual.ensures.1 in
+    rw (p.1, p.2)
+    (judge_written (bare a.fixed a.profile a.padding) 0 m a.buf.now
     (roomy a.fixed a.profile a.padding m c.size_of.result (length a.buf.now) c.size_of.ensures c.if-buf-size_of.false)
-    c.judge-judged.result c.judge-judged.ensures _ c.in_default.is
+    c.judge.result c.judge.ensures _ c.in_err-judge.was)
 
 -- ---- the octets
 pub put_bare-requires-clause-profile_in_bounds : goal.put_bare-requires-clause-profile_in_bounds
@@ -70,5 +73,5 @@ returns c =
     let m = bare_measured a.fixed a.profile a.padding (omega arith) (omega arith) (omega arith) in
     put_written (bare a.fixed a.profile a.padding) 0 m a.buf.now
     (roomy a.fixed a.profile a.padding m c.size_of.result (length a.buf.now) c.size_of.ensures c.if-buf-size_of.false)
-    c.judge-judged.result c.judge-judged.ensures _ c.in-Bytes.is _ _
+    c.judge.result c.judge.ensures _ c.in_ok-judge.was _ _
     c.put_bare.ensures

@@ -1,54 +1,62 @@
 -- Every test that refuses is one of `measured`, and where none does, all hold.
-use mathlib.Core.Path.{sym, ap₂, ◌∙◌}
+use mathlib.Core.Path.{sym, ap, ap₂, ◌∙◌}
 use Prim.Native.Nat.{ℕ, ◌+◌, ◌*◌}
 use native.Mathlib.Omega.{arith}
 use lib.ListN.{take}
 use Rattle.error.specs.Said.{says}
-use Rattle.block.specs.Form.{form_of}
-use Rattle.block_write.proofs.Octets.{weight_fit, weight_within}
+use Rattle.block.specs.Form.{form_of, per_element}
+use Rattle.block_write.proofs.Octets.{weighed, unweighed}
 use Rattle.header_write.proofs.Domain.{Fine, measured_fine, measured_outside}
 use Rattle.header_write.proofs.by_parts.measure.Goals as goal
-use Rattle.header_write.proofs.by_parts.measure.Goals.{then-csrc_count-gt15-via-then-csrc_count-gt15, then-csrc_count-gt15-via-else-csrc_count-gt15+then-count-gt32, then-csrc_count-gt15-via-else-csrc_count-gt15+else-count-gt32+then-padding-gt262140, then-fixed-gt3-via-then-fixed-gt3, then-fixed-gt3-via-else-fixed-gt3+then-fixed-gt127}
+use Rattle.header_write.proofs.by_parts.measure.Goals.{then-parts-gt15-via-then-parts-gt15, then-parts-gt15-via-else-parts-gt15+then-parts-gt32, then-parts-gt15-via-else-parts-gt15+else-parts-gt32+then-parts-gt262140, then-parts-gt3-via-then-parts-gt3, then-parts-gt3-via-else-parts-gt3+then-parts-gt127}
 
-pub returns-then-csrc_count-gt15 : goal.returns-then-csrc_count-gt15
-returns-then-csrc_count-gt15 c =
+pub returns-then-parts-gt15-clause-value : goal.returns-then-parts-gt15-clause-value
+returns-then-parts-gt15-clause-value c =
     let a = c.args in
     sym
-    (measured_outside a.fixed a.csrc_count a.profile a.count a.ids.now a.lens.now a.padding
+    (measured_outside a.parts.fixed a.parts.csrc_count a.parts.profile a.parts.count a.parts.ids.now a.parts.lens.now a.parts.padding
     (λ w.
-    elim c.then-csrc_count-gt15.branch [
-      | then-csrc_count-gt15-via-then-csrc_count-gt15 v ↦ omega (arith, v.if-csrc_count-gt15.true, w.limits.sources)
-      | then-csrc_count-gt15-via-else-csrc_count-gt15+then-count-gt32 v ↦ omega (arith, v.if-count-gt32.true, w.limits.elements)
-      | then-csrc_count-gt15-via-else-csrc_count-gt15+else-count-gt32+then-padding-gt262140 v ↦
-          omega (arith, v.if-padding-gt262140.true, w.limits.zeros)
+    elim c.then-parts-gt15.branch [
+      | then-parts-gt15-via-then-parts-gt15 v ↦ omega (arith, v.if-parts-gt15.true, w.limits.sources)
+      | then-parts-gt15-via-else-parts-gt15+then-parts-gt32 v ↦ omega (arith, v.if-parts-gt32.true, w.limits.elements)
+      | then-parts-gt15-via-else-parts-gt15+else-parts-gt32+then-parts-gt262140 v ↦
+          omega (arith, v.if-parts-gt262140.true, w.limits.zeros)
     ]))
 
-pub returns-then-fixed-gt3 : goal.returns-then-fixed-gt3
-returns-then-fixed-gt3 c =
+pub returns-then-parts-gt3-clause-value : goal.returns-then-parts-gt3-clause-value
+returns-then-parts-gt3-clause-value c =
     let a = c.args in
     sym
-    (measured_outside a.fixed a.csrc_count a.profile a.count a.ids.now a.lens.now a.padding
+    (measured_outside a.parts.fixed a.parts.csrc_count a.parts.profile a.parts.count a.parts.ids.now a.parts.lens.now a.parts.padding
     (λ w.
-    elim c.then-fixed-gt3.branch [
-      | then-fixed-gt3-via-then-fixed-gt3 v ↦ omega (arith, v.if-fixed-gt3.true, w.version)
-      | then-fixed-gt3-via-else-fixed-gt3+then-fixed-gt127 v ↦ omega (arith, v.if-fixed-gt127.true, w.type)
+    elim c.then-parts-gt3.branch [
+      | then-parts-gt3-via-then-parts-gt3 v ↦ omega (arith, v.if-parts-gt3.true, w.version)
+      | then-parts-gt3-via-else-parts-gt3+then-parts-gt127 v ↦ omega (arith, v.if-parts-gt127.true, w.type)
     ]))
 
-pub returns-then-bytes-gt1024 : goal.returns-then-bytes-gt1024
-returns-then-bytes-gt1024 c =
+pub returns-in_default-clause-value : goal.returns-in_default-clause-value
+returns-in_default-clause-value c =
+    let a = c.args in
+    let w = weighed (form_of a.parts.profile) (take a.parts.count a.parts.ids.now) (take a.parts.count a.parts.lens.now) c.in-Some.bytes
+    (rw c.from-form.ensures at c.in-Some.ensures) in
+    sym
+    (measured_outside a.parts.fixed a.parts.csrc_count a.parts.profile a.parts.count a.parts.ids.now a.parts.lens.now a.parts.padding
+    (λ f. omega (arith, f.limits.bytes, c.if-bytes-le1024.false, w.1)))
+
+pub returns-in_default-2-clause-value : goal.returns-in_default-2-clause-value
+returns-in_default-2-clause-value c =
     let a = c.args in
     sym
-    (measured_outside a.fixed a.csrc_count a.profile a.count a.ids.now a.lens.now a.padding
-    (λ w.
-    let weight = weight_fit (form_of a.profile) (take a.count a.ids.now) (take a.count a.lens.now) w.fit in
-    omega (arith, w.limits.bytes, c.if-bytes-gt1024.true, c.weigh-bytes.ensures)))
+    (measured_outside a.parts.fixed a.parts.csrc_count a.parts.profile a.parts.count a.parts.ids.now a.parts.lens.now a.parts.padding
+    (λ f.
+    unweighed (form_of a.parts.profile) (take a.parts.count a.parts.ids.now) (take a.parts.count a.parts.lens.now) (rw c.from-form.ensures at c.in_default.ensures) f.fit))
 
-pub returns : goal.returns
-returns c =
+pub returns-in-Some-clause-value : goal.returns-in-Some-clause-value
+returns-in-Some-clause-value c =
     let a = c.args in
-    let w = weight_within (form_of a.profile) (take a.count a.ids.now) (take a.count a.lens.now)
-    (omega (arith, c.if-bytes-gt1024.false, c.weigh-bytes.ensures)) in
-    let fine : Fine a.fixed a.csrc_count a.profile a.count a.ids.now a.lens.now a.padding = record {
+    let form = form_of a.parts.profile in
+    let w = weighed form (take a.parts.count a.parts.ids.now) (take a.parts.count a.parts.lens.now) c.in-Some.bytes (rw c.from-form.ensures at c.in-Some.ensures) in
+    let fine : Fine a.parts.fixed a.parts.csrc_count a.parts.profile a.parts.count a.parts.ids.now a.parts.lens.now a.parts.padding = record {
       limits = record {
         sources = omega arith;
         elements = omega arith;
@@ -59,5 +67,5 @@ returns c =
       type = omega arith;
       fit = w.0;
     } in
-    ap₂ (λ (n k : ℕ). says (n + a.count * k)) (c.weigh-bytes.ensures ∙ w.1) c.per_element.ensures.0
-    ∙ sym (measured_fine a.fixed a.csrc_count a.profile a.count a.ids.now a.lens.now a.padding fine)
+    ap₂ (λ (n k : ℕ). says (n + a.parts.count * k)) w.1 (c.per_element.ensures.0 ∙ ap per_element c.from-form.ensures)
+    ∙ sym (measured_fine a.parts.fixed a.parts.csrc_count a.parts.profile a.parts.count a.parts.ids.now a.parts.lens.now a.parts.padding fine)

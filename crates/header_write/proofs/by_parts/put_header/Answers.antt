@@ -1,5 +1,5 @@
 -- The fixed part, the sources and the block of elements, each put behind the other, are all the octets.
-use mathlib.Core.Path.{◌≡◌, sym, ap₂, ◌∙◌}
+use mathlib.Core.Path.{◌≡◌, sym}
 use mathlib.Core.List.{List, []}
 use Prim.Native.Nat.{ℕ, ◌≤◌}
 use native.Mathlib.Omega.{arith}
@@ -12,57 +12,53 @@ use Rattle.header_write.specs.Fixed.{csrc_octets, first_for, second_for, fixed_f
 use Rattle.header_write.proofs.Octets.{figure, figure_put, figure_fits, extension_fits, put_on, put_off}
 use Rattle.header_write.proofs.by_parts.put_header.Goals as goal
 
--- the figure stands in the buffer: its first two bytes are b and d, and the sources were put behind the fixed part
-put : (f : Fixed) (buf mid exit : List ℕ) (n : ℕ) (csrc : List ℕ) (at b d : ℕ) → n ≤ length csrc →
-    mid ≡ splice buf 0 (fixed_for b d f.sequence_number f.timestamp f.ssrc []) →
-    b ≡ first_for f.version f.padding f.extension n → d ≡ second_for f.marker f.payload_type →
+-- the figure stands in the buffer: the sources were put behind the fixed part
+put : (f : Fixed) (buf mid exit : List ℕ) (n : ℕ) (csrc : List ℕ) (at : ℕ) → n ≤ length csrc →
+    mid ≡ splice buf 0 (fixed_for (first_for f.version f.padding f.extension n) (second_for f.marker f.payload_type) f.sequence_number f.timestamp f.ssrc []) →
     Put mid 12 (csrc_octets (take n csrc)) at exit → Put buf 0 (figure f (take n csrc)) at exit
-put f buf mid exit n csrc at b d h m first second p =
-    figure_put f buf mid exit n (take n csrc) at (sym (length-take-le n csrc h))
-    (m ∙ ap₂ (λ (b d : ℕ). splice buf 0 (fixed_for b d f.sequence_number f.timestamp f.ssrc [])) first second)
-    p
+put f buf mid exit n csrc at h m p = figure_put f buf mid exit n (take n csrc) at (sym (length-take-le n csrc h)) m p
 
-pub put_fixed-requires : goal.put_fixed-requires
-put_fixed-requires c =
+pub put-requires-clause-room : goal.put-requires-clause-room
+put-requires-clause-room c =
     let a = c.args in
     omega (
       arith,
-      figure_fits a.fixed (take a.csrc_count a.csrc.now) a.profile a.len (elements_in a.count a.ids.now a.lens.now a.bytes.now),
+      figure_fits a.parts.fixed (take a.parts.csrc_count a.parts.csrc.now) a.parts.profile a.len (elements_in a.parts.count a.parts.ids.now a.parts.lens.now a.parts.bytes.now),
       c.requires.bytes_in_bounds,
     )
 
-pub put_csrcs-at-requires-clause-csrc_in_bounds : goal.put_csrcs-at-requires-clause-csrc_in_bounds
-put_csrcs-at-requires-clause-csrc_in_bounds c =
+pub put_csrcs-at-requires : goal.put_csrcs-at-requires
+put_csrcs-at-requires c =
     let a = c.args in
     omega (
       arith,
-      figure_fits a.fixed (take a.csrc_count a.csrc.now) a.profile a.len (elements_in a.count a.ids.now a.lens.now a.bytes.now),
+      figure_fits a.parts.fixed (take a.parts.csrc_count a.parts.csrc.now) a.parts.profile a.len (elements_in a.parts.count a.parts.ids.now a.parts.lens.now a.parts.bytes.now),
       c.requires.bytes_in_bounds,
-      c.put_fixed.auto.buf,
+      c.put.auto.buf,
     )
 
 pub put_extension-requires-clause-bytes_in_bounds : goal.put_extension-requires-clause-bytes_in_bounds
 put_extension-requires-clause-bytes_in_bounds c =
     let a = c.args in
-    let here = put a.fixed a.buf.now c.put_fixed.new.buf c.put_csrcs-at.new.buf a.csrc_count a.csrc.now c.put_csrcs-at.result _ _
-    c.requires.csrc_count_bound.1 c.put_fixed.ensures c.first_octet-b0.ensures c.second_octet-b1.ensures c.put_csrcs-at.ensures in
-    let fits = extension_fits a.fixed (take a.csrc_count a.csrc.now) a.profile a.len (elements_in a.count a.ids.now a.lens.now a.bytes.now)
-    c.if-fixed.true c.put_csrcs-at.result (omega (arith, here.next)) in
-    omega (arith, fits, c.requires.bytes_in_bounds, c.put_csrcs-at.auto.buf, c.put_fixed.auto.buf)
+    let here = put a.parts.fixed a.buf.now c.put.new.buf c.put_csrcs-at.new.buf a.parts.csrc_count a.parts.csrc.now c.put_csrcs-at.result
+    c.requires.csrc_count_bound.1 c.put.ensures c.put_csrcs-at.ensures in
+    let fits = extension_fits a.parts.fixed (take a.parts.csrc_count a.parts.csrc.now) a.parts.profile a.len (elements_in a.parts.count a.parts.ids.now a.parts.lens.now a.parts.bytes.now)
+    c.if-parts.true c.put_csrcs-at.result (omega (arith, here.next)) in
+    omega (arith, fits, c.requires.bytes_in_bounds, c.put_csrcs-at.auto.buf, c.put.auto.buf)
 
-pub returns-then-fixed : goal.returns-then-fixed
-returns-then-fixed c =
+pub returns-then-parts : goal.returns-then-parts
+returns-then-parts c =
     let a = c.args in
-    put_on a.fixed (take a.csrc_count a.csrc.now) a.profile a.len (elements_in a.count a.ids.now a.lens.now a.bytes.now)
-    c.if-fixed.true a.buf.now c.put_csrcs-at.new.buf _ c.put_csrcs-at.result _
-    (put a.fixed a.buf.now c.put_fixed.new.buf c.put_csrcs-at.new.buf a.csrc_count a.csrc.now c.put_csrcs-at.result _ _
-    c.requires.csrc_count_bound.1 c.put_fixed.ensures c.first_octet-b0.ensures c.second_octet-b1.ensures c.put_csrcs-at.ensures)
+    put_on a.parts.fixed (take a.parts.csrc_count a.parts.csrc.now) a.parts.profile a.len (elements_in a.parts.count a.parts.ids.now a.parts.lens.now a.parts.bytes.now)
+    c.if-parts.true a.buf.now c.put_csrcs-at.new.buf _ c.put_csrcs-at.result _
+    (put a.parts.fixed a.buf.now c.put.new.buf c.put_csrcs-at.new.buf a.parts.csrc_count a.parts.csrc.now c.put_csrcs-at.result
+    c.requires.csrc_count_bound.1 c.put.ensures c.put_csrcs-at.ensures)
     c.put_extension.ensures
 
 pub returns : goal.returns
 returns c =
     let a = c.args in
-    put_off a.fixed (take a.csrc_count a.csrc.now) a.profile a.len (elements_in a.count a.ids.now a.lens.now a.bytes.now)
-    c.if-fixed.false a.buf.now c.put_csrcs-at.new.buf c.put_csrcs-at.result
-    (put a.fixed a.buf.now c.put_fixed.new.buf c.put_csrcs-at.new.buf a.csrc_count a.csrc.now c.put_csrcs-at.result _ _
-    c.requires.csrc_count_bound.1 c.put_fixed.ensures c.first_octet-b0.ensures c.second_octet-b1.ensures c.put_csrcs-at.ensures)
+    put_off a.parts.fixed (take a.parts.csrc_count a.parts.csrc.now) a.parts.profile a.len (elements_in a.parts.count a.parts.ids.now a.parts.lens.now a.parts.bytes.now)
+    c.if-parts.false a.buf.now c.put_csrcs-at.new.buf c.put_csrcs-at.result
+    (put a.parts.fixed a.buf.now c.put.new.buf c.put_csrcs-at.new.buf a.parts.csrc_count a.parts.csrc.now c.put_csrcs-at.result
+    c.requires.csrc_count_bound.1 c.put.ensures c.put_csrcs-at.ensures)

@@ -17,7 +17,7 @@ unfolding stripped
 returns-then-left-n c =
     let a = c.args in
     let s = a.packet.now in
-    let n : c.wide-n.result ≡ get_or s (length s - 1) 0 = c.wide-n.ensures.0 in
+    let n : c.from-n.result ≡ get_or s (length s - 1) 0 = c.from-n.ensures in
     sym (rw (ne_eqb _ 0 c.if-left-eq0.false, lt-ltb (length s - a.at) (get_or s (length s - 1) 0) (omega arith)))
 
 pub returns : goal.returns
@@ -25,6 +25,6 @@ unfolding stripped
 returns c =
     let a = c.args in
     let s = a.packet.now in
-    let n : c.wide-n.result ≡ get_or s (length s - 1) 0 = c.wide-n.ensures.0 in
+    let n : c.from-n.result ≡ get_or s (length s - 1) 0 = c.from-n.ensures in
     ap (λ (k : ℕ). says (record { place = a.at; len = length s - a.at - k })) n
     ∙ sym (rw (ne_eqb _ 0 c.if-left-eq0.false, le-ltb (length s - a.at) (get_or s (length s - 1) 0) (omega arith)))

@@ -4,17 +4,10 @@ use Rattle.packet.specs.Read.{read_packet}
 use Rattle.packet.proofs.Reading.{front_says, front_refusal, arrays_alike}
 use Rattle.packet.proofs.read.unmarshal_padded.Goals as goal
 
-pub returns-in_default : goal.returns-in_default
-returns-in_default c =
-    let q = c.unmarshal_front-seen in record {
-      result_value = q.ensures;
-      bytes_after = front_refusal q.result (read_packet c.args.packet.now) q.ensures _ _ c.in_default.is;
-    }
-
 pub returns : goal.returns
 returns c =
     let q = c.unmarshal_front-seen in record {
       result_value = q.ensures;
       bytes_after = c.unmarshal_parts.ensures.bytes_after
-          ∙ arrays_alike _ _ _ (front_says q.result _ q.ensures _ _ c.in-Payload.is).1;
+          ∙ arrays_alike _ _ _ (front_says q.result _ q.ensures _ c.in-Ok.is).1;
     }

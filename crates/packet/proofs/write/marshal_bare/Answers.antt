@@ -4,13 +4,14 @@ use Prim.Native.Nat.{◌≤◌}
 use native.Mathlib.Omega.{arith}
 use lib.ListN.{length}
 use borrow.Author.Tests.{le-leb, lt-leb}
+use Rattle.std.proofs.lemmas.Result.{err_from_is_err_and}
 use Rattle.elements.specs.Elements.{lay_elements}
 use Rattle.header.specs.declared.Header.{Header}
 use Rattle.header.specs.Fields.{fields_of}
 use Rattle.header.specs.Said.{written}
 use Rattle.header.specs.Parts.{together, bare}
 use Rattle.header.proofs.Writing.{octets_room}
-use Rattle.header.proofs.Parts.{bare_measured, bare_outside}
+use Rattle.header.proofs.Apart.{bare_measured, bare_outside}
 use Rattle.packet.specs.Write.{packet_size}
 use Rattle.packet.proofs.Writing.{packet_outside, packet_long, short_written, judge_written, header_fits, behind, size_counted, size_small, reached, rest_room, packet_written}
 use Rattle.packet.proofs.write.marshal_bare.Goals as goal
@@ -55,9 +56,9 @@ returns-then-buf-size c =
     short_written h 0 m a.payload.now a.buf.now q (omega (arith, size, c.if-buf-size.true))
 
 -- ---- 9, 10
-pub returns-in_default : goal.returns-in_default
+pub returns-in_err-judge : goal.returns-in_err-judge
 unfolding bare together lay_elements
-returns-in_default c =
+returns-in_err-judge c =
     let a = c.args in
     let h : Header = bare a.fixed a.profile a.extensions_padding in
     let m = bare_measured a.fixed a.profile a.extensions_padding (omega arith) (omega arith) (omega arith) in
@@ -65,8 +66,10 @@ returns-in_default c =
     let size = size_counted h 0 m a.payload.now a.buf.now q c.size_of-size.result c.padding_len-padding.result c.size_of-size.ensures
     c.padding_len-padding.ensures.0 in
     let fits : packet_size (fields_of h) a.payload.now ≤ length a.buf.now = omega (arith, size, c.if-buf-size.false) in
-    judge_written h 0 m a.payload.now a.buf.now q fits c.judge-judged.result c.judge-judged.ensures _
-    c.in_default.is
+    let p = err_from_is_err_and c.from_residual.result c.from_residual.ensures.1 in
+    rw (p.1, p.2)
+    (judge_written h 0 m a.payload.now a.buf.now q fits c.judge.result c.judge.ensures _
+    c.in_err-judge.was)
 
 -- ---- the octets
 pub put_bare-at-requires-clause-profile_in_bounds : goal.put_bare-at-requires-clause-profile_in_bounds
@@ -91,7 +94,7 @@ slice_bounds-put_payload-count c =
     let size = size_counted h 0 m a.payload.now a.buf.now q c.size_of-size.result c.padding_len-padding.result c.size_of-size.ensures
     c.padding_len-padding.ensures.0 in
     let fits : packet_size (fields_of h) a.payload.now ≤ length a.buf.now = omega (arith, size, c.if-buf-size.false) in
-    let behind = behind h 0 m a.payload.now a.buf.now q fits c.judge-judged.result c.judge-judged.ensures _ c.in-Bytes.is c.put_bare-at.new.buf
+    let behind = behind h 0 m a.payload.now a.buf.now q fits c.judge.result c.judge.ensures _ c.in_ok-judge.was c.put_bare-at.new.buf
     c.put_bare-at.result c.put_bare-at.ensures in
     let reach = reached h 0 m a.payload.now a.buf.now q c.size_of-size.result c.padding_len-padding.result c.size_of-size.ensures
     c.padding_len-padding.ensures.0 c.put_bare-at.new.buf c.put_bare-at.result behind in
@@ -107,7 +110,7 @@ slice_bounds-put_payload-start c =
     let size = size_counted h 0 m a.payload.now a.buf.now q c.size_of-size.result c.padding_len-padding.result c.size_of-size.ensures
     c.padding_len-padding.ensures.0 in
     let fits : packet_size (fields_of h) a.payload.now ≤ length a.buf.now = omega (arith, size, c.if-buf-size.false) in
-    let behind = behind h 0 m a.payload.now a.buf.now q fits c.judge-judged.result c.judge-judged.ensures _ c.in-Bytes.is c.put_bare-at.new.buf
+    let behind = behind h 0 m a.payload.now a.buf.now q fits c.judge.result c.judge.ensures _ c.in_ok-judge.was c.put_bare-at.new.buf
     c.put_bare-at.result c.put_bare-at.ensures in
     let reach = reached h 0 m a.payload.now a.buf.now q c.size_of-size.result c.padding_len-padding.result c.size_of-size.ensures
     c.padding_len-padding.ensures.0 c.put_bare-at.new.buf c.put_bare-at.result behind in
@@ -123,7 +126,7 @@ put_payload-requires-clause-padding_in_bounds c =
     let size = size_counted h 0 m a.payload.now a.buf.now q c.size_of-size.result c.padding_len-padding.result c.size_of-size.ensures
     c.padding_len-padding.ensures.0 in
     let fits : packet_size (fields_of h) a.payload.now ≤ length a.buf.now = omega (arith, size, c.if-buf-size.false) in
-    let behind = behind h 0 m a.payload.now a.buf.now q fits c.judge-judged.result c.judge-judged.ensures _ c.in-Bytes.is c.put_bare-at.new.buf
+    let behind = behind h 0 m a.payload.now a.buf.now q fits c.judge.result c.judge.ensures _ c.in_ok-judge.was c.put_bare-at.new.buf
     c.put_bare-at.result c.put_bare-at.ensures in
     let reach = reached h 0 m a.payload.now a.buf.now q c.size_of-size.result c.padding_len-padding.result c.size_of-size.ensures
     c.padding_len-padding.ensures.0 c.put_bare-at.new.buf c.put_bare-at.result behind in
@@ -141,7 +144,7 @@ overflow_add-result c =
     let small = size_small h 0 m a.payload.now a.buf.now q c.size_of-size.result c.padding_len-padding.result c.size_of-size.ensures
     c.padding_len-padding.ensures.0 in
     let fits : packet_size (fields_of h) a.payload.now ≤ length a.buf.now = omega (arith, size, c.if-buf-size.false) in
-    let behind = behind h 0 m a.payload.now a.buf.now q fits c.judge-judged.result c.judge-judged.ensures _ c.in-Bytes.is c.put_bare-at.new.buf
+    let behind = behind h 0 m a.payload.now a.buf.now q fits c.judge.result c.judge.ensures _ c.in_ok-judge.was c.put_bare-at.new.buf
     c.put_bare-at.result c.put_bare-at.ensures in
     let reach = reached h 0 m a.payload.now a.buf.now q c.size_of-size.result c.padding_len-padding.result c.size_of-size.ensures
     c.padding_len-padding.ensures.0 c.put_bare-at.new.buf c.put_bare-at.result behind in
@@ -157,7 +160,7 @@ returns c =
     let size = size_counted h 0 m a.payload.now a.buf.now q c.size_of-size.result c.padding_len-padding.result c.size_of-size.ensures
     c.padding_len-padding.ensures.0 in
     let fits : packet_size (fields_of h) a.payload.now ≤ length a.buf.now = omega (arith, size, c.if-buf-size.false) in
-    let behind = behind h 0 m a.payload.now a.buf.now q fits c.judge-judged.result c.judge-judged.ensures _ c.in-Bytes.is c.put_bare-at.new.buf
+    let behind = behind h 0 m a.payload.now a.buf.now q fits c.judge.result c.judge.ensures _ c.in_ok-judge.was c.put_bare-at.new.buf
     c.put_bare-at.result c.put_bare-at.ensures in
     packet_written h a.payload.now a.buf.now c.put_bare-at.new.buf c.put_payload.new.rest c.put_bare-at.result c.padding_len-padding.result
     c.put_payload.result behind c.padding_len-padding.ensures.0 c.put_payload.ensures.0 c.put_payload.ensures.1

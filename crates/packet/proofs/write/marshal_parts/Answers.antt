@@ -5,38 +5,34 @@ use Prim.Native.Nat.{ℕ, ◌≤◌}
 use native.Mathlib.Omega.{arith}
 use lib.ListN.{length}
 use borrow.Author.Tests.{le-leb, lt-leb}
+use Rattle.std.proofs.lemmas.Result.{err_from_is_err_and}
 use Rattle.error.specs.Said.{Said}
-use Rattle.elements.specs.declared.Extensions.{Extensions}
 use Rattle.header.specs.declared.Header.{Header}
 use Rattle.header.specs.Fields.{fields_of}
 use Rattle.header.specs.Said.{written}
-use Rattle.header.specs.Parts.{together}
+use Rattle.header.specs.Parts.{together, record_of}
 use Rattle.header.proofs.Writing.{few, octets_room, all_writable_lem}
-use Rattle.header.proofs.Parts.{arrays_of, known_of, unknown_of}
+use Rattle.header.proofs.Apart.{known_of, unknown_of}
 use Rattle.packet.specs.Write.{packet_size}
 use Rattle.packet.proofs.Writing.{packet_outside, packet_long, short_written, judge_written, header_fits, behind, size_counted, size_small, reached, rest_room, packet_written}
 use Rattle.packet.proofs.write.marshal_parts.Goals as goal
 
 -- ---- 8
-pub returns-in_default : goal.returns-in_default
-returns-in_default c =
+pub returns-in_err-len : goal.returns-in_err-len
+returns-in_err-len c =
     let a = c.args in
-    let x : Extensions = record { count = a.count; ids = a.ids.now; lens = a.lens.now; bytes = a.bytes.now } in
-    let h : Header = together a.fixed a.csrc_count a.csrc.now a.profile x a.extensions_padding in
-    let lengths = arrays_of a.fixed a.csrc_count a.csrc.now a.profile x a.extensions_padding c.told-csrc c.told-ids c.told-lens c.told-bytes in
-    let out = unknown_of a.fixed a.csrc_count a.csrc.now a.profile x a.extensions_padding lengths c.measure-measured.result
-    c.measure-measured.ensures _ c.in_default.is in
-    ap (λ (s : Said ℕ). record { answer = s; buffer = a.buf.now }) out.0
-    ∙ sym (ap (written a.buf.now) (packet_outside h a.payload.now (length a.buf.now) out.1))
+    let h : Header = record_of a.parts in
+    let out = unknown_of a.parts c.measure.ensures.whole c.measure.result c.measure.ensures.value _ c.in_err-len.was in
+    let p = err_from_is_err_and c.from_residual.result c.from_residual.ensures.1 in
+    rw (p.1, p.2)
+    (ap (λ (s : Said ℕ). record { answer = s; buffer = a.buf.now }) out.0
+    ∙ sym (ap (written a.buf.now) (packet_outside h a.payload.now (length a.buf.now) out.1)))
 
 pub returns-then-payload-gt65535 : goal.returns-then-payload-gt65535
 returns-then-payload-gt65535 c =
     let a = c.args in
-    let x : Extensions = record { count = a.count; ids = a.ids.now; lens = a.lens.now; bytes = a.bytes.now } in
-    let h : Header = together a.fixed a.csrc_count a.csrc.now a.profile x a.extensions_padding in
-    let lengths = arrays_of a.fixed a.csrc_count a.csrc.now a.profile x a.extensions_padding c.told-csrc c.told-ids c.told-lens c.told-bytes in
-    let m = known_of a.fixed a.csrc_count a.csrc.now a.profile x a.extensions_padding lengths c.measure-measured.result
-    c.measure-measured.ensures _ c.in-Bytes.is in
+    let h : Header = record_of a.parts in
+    let m = known_of a.parts c.measure.ensures.whole c.measure.result c.measure.ensures.value _ c.in_ok-len.was in
     sym
     (ap (written a.buf.now)
     (packet_long h a.payload.now (length a.buf.now) m.domain (lt-leb (length a.payload.now) 65535 c.if-payload-gt65535.true)))
@@ -46,11 +42,8 @@ pub size_of-size-requires : goal.size_of-size-requires
 unfolding together
 size_of-size-requires c =
     let a = c.args in
-    let x : Extensions = record { count = a.count; ids = a.ids.now; lens = a.lens.now; bytes = a.bytes.now } in
-    let h : Header = together a.fixed a.csrc_count a.csrc.now a.profile x a.extensions_padding in
-    let lengths = arrays_of a.fixed a.csrc_count a.csrc.now a.profile x a.extensions_padding c.told-csrc c.told-ids c.told-lens c.told-bytes in
-    let m = known_of a.fixed a.csrc_count a.csrc.now a.profile x a.extensions_padding lengths c.measure-measured.result
-    c.measure-measured.ensures _ c.in-Bytes.is in
+    let h : Header = record_of a.parts in
+    let m = known_of a.parts c.measure.ensures.whole c.measure.result c.measure.ensures.value _ c.in_ok-len.was in
     record {
       csrc_count_bound = m.can.limits.sources;
       len_bound = few h _ m;
@@ -61,11 +54,8 @@ pub overflow_add-size : goal.overflow_add-size
 unfolding together
 overflow_add-size c =
     let a = c.args in
-    let x : Extensions = record { count = a.count; ids = a.ids.now; lens = a.lens.now; bytes = a.bytes.now } in
-    let h : Header = together a.fixed a.csrc_count a.csrc.now a.profile x a.extensions_padding in
-    let lengths = arrays_of a.fixed a.csrc_count a.csrc.now a.profile x a.extensions_padding c.told-csrc c.told-ids c.told-lens c.told-bytes in
-    let m = known_of a.fixed a.csrc_count a.csrc.now a.profile x a.extensions_padding lengths c.measure-measured.result
-    c.measure-measured.ensures _ c.in-Bytes.is in
+    let h : Header = record_of a.parts in
+    let m = known_of a.parts c.measure.ensures.whole c.measure.result c.measure.ensures.value _ c.in_ok-len.was in
     let q = le-leb (length a.payload.now) 65535 c.if-payload-gt65535.false in
     let small = size_small h _ m a.payload.now a.buf.now q c.size_of-size.result c.padding_len-padding.result c.size_of-size.ensures
     c.padding_len-padding.ensures.0 in
@@ -75,11 +65,8 @@ pub overflow_add-size-2 : goal.overflow_add-size-2
 unfolding together
 overflow_add-size-2 c =
     let a = c.args in
-    let x : Extensions = record { count = a.count; ids = a.ids.now; lens = a.lens.now; bytes = a.bytes.now } in
-    let h : Header = together a.fixed a.csrc_count a.csrc.now a.profile x a.extensions_padding in
-    let lengths = arrays_of a.fixed a.csrc_count a.csrc.now a.profile x a.extensions_padding c.told-csrc c.told-ids c.told-lens c.told-bytes in
-    let m = known_of a.fixed a.csrc_count a.csrc.now a.profile x a.extensions_padding lengths c.measure-measured.result
-    c.measure-measured.ensures _ c.in-Bytes.is in
+    let h : Header = record_of a.parts in
+    let m = known_of a.parts c.measure.ensures.whole c.measure.result c.measure.ensures.value _ c.in_ok-len.was in
     let q = le-leb (length a.payload.now) 65535 c.if-payload-gt65535.false in
     let small = size_small h _ m a.payload.now a.buf.now q c.size_of-size.result c.padding_len-padding.result c.size_of-size.ensures
     c.padding_len-padding.ensures.0 in
@@ -89,43 +76,36 @@ pub returns-then-buf-size : goal.returns-then-buf-size
 unfolding together
 returns-then-buf-size c =
     let a = c.args in
-    let x : Extensions = record { count = a.count; ids = a.ids.now; lens = a.lens.now; bytes = a.bytes.now } in
-    let h : Header = together a.fixed a.csrc_count a.csrc.now a.profile x a.extensions_padding in
-    let lengths = arrays_of a.fixed a.csrc_count a.csrc.now a.profile x a.extensions_padding c.told-csrc c.told-ids c.told-lens c.told-bytes in
-    let m = known_of a.fixed a.csrc_count a.csrc.now a.profile x a.extensions_padding lengths c.measure-measured.result
-    c.measure-measured.ensures _ c.in-Bytes.is in
+    let h : Header = record_of a.parts in
+    let m = known_of a.parts c.measure.ensures.whole c.measure.result c.measure.ensures.value _ c.in_ok-len.was in
     let q = le-leb (length a.payload.now) 65535 c.if-payload-gt65535.false in
     let size = size_counted h _ m a.payload.now a.buf.now q c.size_of-size.result c.padding_len-padding.result c.size_of-size.ensures
     c.padding_len-padding.ensures.0 in
     short_written h _ m a.payload.now a.buf.now q (omega (arith, size, c.if-buf-size.true))
 
 -- ---- 9, 10
-pub returns-in_default-judged : goal.returns-in_default-judged
+pub returns-in_err-judge : goal.returns-in_err-judge
 unfolding together
-returns-in_default-judged c =
+returns-in_err-judge c =
     let a = c.args in
-    let x : Extensions = record { count = a.count; ids = a.ids.now; lens = a.lens.now; bytes = a.bytes.now } in
-    let h : Header = together a.fixed a.csrc_count a.csrc.now a.profile x a.extensions_padding in
-    let lengths = arrays_of a.fixed a.csrc_count a.csrc.now a.profile x a.extensions_padding c.told-csrc c.told-ids c.told-lens c.told-bytes in
-    let m = known_of a.fixed a.csrc_count a.csrc.now a.profile x a.extensions_padding lengths c.measure-measured.result
-    c.measure-measured.ensures _ c.in-Bytes.is in
+    let h : Header = record_of a.parts in
+    let m = known_of a.parts c.measure.ensures.whole c.measure.result c.measure.ensures.value _ c.in_ok-len.was in
     let q = le-leb (length a.payload.now) 65535 c.if-payload-gt65535.false in
     let size = size_counted h _ m a.payload.now a.buf.now q c.size_of-size.result c.padding_len-padding.result c.size_of-size.ensures
     c.padding_len-padding.ensures.0 in
     let fits : packet_size (fields_of h) a.payload.now ≤ length a.buf.now = omega (arith, size, c.if-buf-size.false) in
-    judge_written h _ m a.payload.now a.buf.now q fits c.judge-judged.result c.judge-judged.ensures _
-    c.in_default-judged.is
+    let p = err_from_is_err_and c.from_residual-in_err-judge.result c.from_residual-in_err-judge.ensures.1 in
+    rw (p.1, p.2)
+    (judge_written h _ m a.payload.now a.buf.now q fits c.judge.result c.judge.ensures _
+    c.in_err-judge.was)
 
 -- ---- the octets
 pub put_header-at-requires : goal.put_header-at-requires
 unfolding together
 put_header-at-requires c =
     let a = c.args in
-    let x : Extensions = record { count = a.count; ids = a.ids.now; lens = a.lens.now; bytes = a.bytes.now } in
-    let h : Header = together a.fixed a.csrc_count a.csrc.now a.profile x a.extensions_padding in
-    let lengths = arrays_of a.fixed a.csrc_count a.csrc.now a.profile x a.extensions_padding c.told-csrc c.told-ids c.told-lens c.told-bytes in
-    let m = known_of a.fixed a.csrc_count a.csrc.now a.profile x a.extensions_padding lengths c.measure-measured.result
-    c.measure-measured.ensures _ c.in-Bytes.is in
+    let h : Header = record_of a.parts in
+    let m = known_of a.parts c.measure.ensures.whole c.measure.result c.measure.ensures.value _ c.in_ok-len.was in
     let q = le-leb (length a.payload.now) 65535 c.if-payload-gt65535.false in
     let size = size_counted h _ m a.payload.now a.buf.now q c.size_of-size.result c.padding_len-padding.result c.size_of-size.ensures
     c.padding_len-padding.ensures.0 in
@@ -143,16 +123,13 @@ pub slice_bounds-put_payload-count : goal.slice_bounds-put_payload-count
 unfolding together
 slice_bounds-put_payload-count c =
     let a = c.args in
-    let x : Extensions = record { count = a.count; ids = a.ids.now; lens = a.lens.now; bytes = a.bytes.now } in
-    let h : Header = together a.fixed a.csrc_count a.csrc.now a.profile x a.extensions_padding in
-    let lengths = arrays_of a.fixed a.csrc_count a.csrc.now a.profile x a.extensions_padding c.told-csrc c.told-ids c.told-lens c.told-bytes in
-    let m = known_of a.fixed a.csrc_count a.csrc.now a.profile x a.extensions_padding lengths c.measure-measured.result
-    c.measure-measured.ensures _ c.in-Bytes.is in
+    let h : Header = record_of a.parts in
+    let m = known_of a.parts c.measure.ensures.whole c.measure.result c.measure.ensures.value _ c.in_ok-len.was in
     let q = le-leb (length a.payload.now) 65535 c.if-payload-gt65535.false in
     let size = size_counted h _ m a.payload.now a.buf.now q c.size_of-size.result c.padding_len-padding.result c.size_of-size.ensures
     c.padding_len-padding.ensures.0 in
     let fits : packet_size (fields_of h) a.payload.now ≤ length a.buf.now = omega (arith, size, c.if-buf-size.false) in
-    let behind = behind h _ m a.payload.now a.buf.now q fits c.judge-judged.result c.judge-judged.ensures _ c.in-Bytes-judged.is c.put_header-at.new.buf
+    let behind = behind h _ m a.payload.now a.buf.now q fits c.judge.result c.judge.ensures _ c.in_ok-judge.was c.put_header-at.new.buf
     c.put_header-at.result c.put_header-at.ensures in
     let reach = reached h _ m a.payload.now a.buf.now q c.size_of-size.result c.padding_len-padding.result c.size_of-size.ensures
     c.padding_len-padding.ensures.0 c.put_header-at.new.buf c.put_header-at.result behind in
@@ -162,16 +139,13 @@ pub slice_bounds-put_payload-start : goal.slice_bounds-put_payload-start
 unfolding together
 slice_bounds-put_payload-start c =
     let a = c.args in
-    let x : Extensions = record { count = a.count; ids = a.ids.now; lens = a.lens.now; bytes = a.bytes.now } in
-    let h : Header = together a.fixed a.csrc_count a.csrc.now a.profile x a.extensions_padding in
-    let lengths = arrays_of a.fixed a.csrc_count a.csrc.now a.profile x a.extensions_padding c.told-csrc c.told-ids c.told-lens c.told-bytes in
-    let m = known_of a.fixed a.csrc_count a.csrc.now a.profile x a.extensions_padding lengths c.measure-measured.result
-    c.measure-measured.ensures _ c.in-Bytes.is in
+    let h : Header = record_of a.parts in
+    let m = known_of a.parts c.measure.ensures.whole c.measure.result c.measure.ensures.value _ c.in_ok-len.was in
     let q = le-leb (length a.payload.now) 65535 c.if-payload-gt65535.false in
     let size = size_counted h _ m a.payload.now a.buf.now q c.size_of-size.result c.padding_len-padding.result c.size_of-size.ensures
     c.padding_len-padding.ensures.0 in
     let fits : packet_size (fields_of h) a.payload.now ≤ length a.buf.now = omega (arith, size, c.if-buf-size.false) in
-    let behind = behind h _ m a.payload.now a.buf.now q fits c.judge-judged.result c.judge-judged.ensures _ c.in-Bytes-judged.is c.put_header-at.new.buf
+    let behind = behind h _ m a.payload.now a.buf.now q fits c.judge.result c.judge.ensures _ c.in_ok-judge.was c.put_header-at.new.buf
     c.put_header-at.result c.put_header-at.ensures in
     let reach = reached h _ m a.payload.now a.buf.now q c.size_of-size.result c.padding_len-padding.result c.size_of-size.ensures
     c.padding_len-padding.ensures.0 c.put_header-at.new.buf c.put_header-at.result behind in
@@ -181,16 +155,13 @@ pub put_payload-requires-clause-padding_in_bounds : goal.put_payload-requires-cl
 unfolding together
 put_payload-requires-clause-padding_in_bounds c =
     let a = c.args in
-    let x : Extensions = record { count = a.count; ids = a.ids.now; lens = a.lens.now; bytes = a.bytes.now } in
-    let h : Header = together a.fixed a.csrc_count a.csrc.now a.profile x a.extensions_padding in
-    let lengths = arrays_of a.fixed a.csrc_count a.csrc.now a.profile x a.extensions_padding c.told-csrc c.told-ids c.told-lens c.told-bytes in
-    let m = known_of a.fixed a.csrc_count a.csrc.now a.profile x a.extensions_padding lengths c.measure-measured.result
-    c.measure-measured.ensures _ c.in-Bytes.is in
+    let h : Header = record_of a.parts in
+    let m = known_of a.parts c.measure.ensures.whole c.measure.result c.measure.ensures.value _ c.in_ok-len.was in
     let q = le-leb (length a.payload.now) 65535 c.if-payload-gt65535.false in
     let size = size_counted h _ m a.payload.now a.buf.now q c.size_of-size.result c.padding_len-padding.result c.size_of-size.ensures
     c.padding_len-padding.ensures.0 in
     let fits : packet_size (fields_of h) a.payload.now ≤ length a.buf.now = omega (arith, size, c.if-buf-size.false) in
-    let behind = behind h _ m a.payload.now a.buf.now q fits c.judge-judged.result c.judge-judged.ensures _ c.in-Bytes-judged.is c.put_header-at.new.buf
+    let behind = behind h _ m a.payload.now a.buf.now q fits c.judge.result c.judge.ensures _ c.in_ok-judge.was c.put_header-at.new.buf
     c.put_header-at.result c.put_header-at.ensures in
     let reach = reached h _ m a.payload.now a.buf.now q c.size_of-size.result c.padding_len-padding.result c.size_of-size.ensures
     c.padding_len-padding.ensures.0 c.put_header-at.new.buf c.put_header-at.result behind in
@@ -200,18 +171,15 @@ pub overflow_add-result : goal.overflow_add-result
 unfolding together
 overflow_add-result c =
     let a = c.args in
-    let x : Extensions = record { count = a.count; ids = a.ids.now; lens = a.lens.now; bytes = a.bytes.now } in
-    let h : Header = together a.fixed a.csrc_count a.csrc.now a.profile x a.extensions_padding in
-    let lengths = arrays_of a.fixed a.csrc_count a.csrc.now a.profile x a.extensions_padding c.told-csrc c.told-ids c.told-lens c.told-bytes in
-    let m = known_of a.fixed a.csrc_count a.csrc.now a.profile x a.extensions_padding lengths c.measure-measured.result
-    c.measure-measured.ensures _ c.in-Bytes.is in
+    let h : Header = record_of a.parts in
+    let m = known_of a.parts c.measure.ensures.whole c.measure.result c.measure.ensures.value _ c.in_ok-len.was in
     let q = le-leb (length a.payload.now) 65535 c.if-payload-gt65535.false in
     let size = size_counted h _ m a.payload.now a.buf.now q c.size_of-size.result c.padding_len-padding.result c.size_of-size.ensures
     c.padding_len-padding.ensures.0 in
     let small = size_small h _ m a.payload.now a.buf.now q c.size_of-size.result c.padding_len-padding.result c.size_of-size.ensures
     c.padding_len-padding.ensures.0 in
     let fits : packet_size (fields_of h) a.payload.now ≤ length a.buf.now = omega (arith, size, c.if-buf-size.false) in
-    let behind = behind h _ m a.payload.now a.buf.now q fits c.judge-judged.result c.judge-judged.ensures _ c.in-Bytes-judged.is c.put_header-at.new.buf
+    let behind = behind h _ m a.payload.now a.buf.now q fits c.judge.result c.judge.ensures _ c.in_ok-judge.was c.put_header-at.new.buf
     c.put_header-at.result c.put_header-at.ensures in
     let reach = reached h _ m a.payload.now a.buf.now q c.size_of-size.result c.padding_len-padding.result c.size_of-size.ensures
     c.padding_len-padding.ensures.0 c.put_header-at.new.buf c.put_header-at.result behind in
@@ -221,16 +189,13 @@ pub returns : goal.returns
 unfolding together
 returns c =
     let a = c.args in
-    let x : Extensions = record { count = a.count; ids = a.ids.now; lens = a.lens.now; bytes = a.bytes.now } in
-    let h : Header = together a.fixed a.csrc_count a.csrc.now a.profile x a.extensions_padding in
-    let lengths = arrays_of a.fixed a.csrc_count a.csrc.now a.profile x a.extensions_padding c.told-csrc c.told-ids c.told-lens c.told-bytes in
-    let m = known_of a.fixed a.csrc_count a.csrc.now a.profile x a.extensions_padding lengths c.measure-measured.result
-    c.measure-measured.ensures _ c.in-Bytes.is in
+    let h : Header = record_of a.parts in
+    let m = known_of a.parts c.measure.ensures.whole c.measure.result c.measure.ensures.value _ c.in_ok-len.was in
     let q = le-leb (length a.payload.now) 65535 c.if-payload-gt65535.false in
     let size = size_counted h _ m a.payload.now a.buf.now q c.size_of-size.result c.padding_len-padding.result c.size_of-size.ensures
     c.padding_len-padding.ensures.0 in
     let fits : packet_size (fields_of h) a.payload.now ≤ length a.buf.now = omega (arith, size, c.if-buf-size.false) in
-    let behind = behind h _ m a.payload.now a.buf.now q fits c.judge-judged.result c.judge-judged.ensures _ c.in-Bytes-judged.is c.put_header-at.new.buf
+    let behind = behind h _ m a.payload.now a.buf.now q fits c.judge.result c.judge.ensures _ c.in_ok-judge.was c.put_header-at.new.buf
     c.put_header-at.result c.put_header-at.ensures in
     packet_written h a.payload.now a.buf.now c.put_header-at.new.buf c.put_payload.new.rest c.put_header-at.result c.padding_len-padding.result
     c.put_payload.result behind c.padding_len-padding.ensures.0 c.put_payload.ensures.0 c.put_payload.ensures.1

@@ -1,6 +1,7 @@
 -- A record and its parts are one: put together again they are the record, measured by its parts it is measured, and where it has no CSRCs
 -- and no elements its arrays are not looked at. Assumes nothing.
-use mathlib.Core.Path.{◌≡◌, refl, ap, ap₂, ◌∙◌}
+use Rattle.std.specs.Prelude.{Result, Ok, Err}
+use mathlib.Core.Path.{◌≡◌, refl, sym, ap, ap₂, ◌∙◌}
 use mathlib.Core.Bool.{false}
 use mathlib.Core.List.{List, []}
 use Prim.Native.Nat.{ℕ, ◌*◌, ◌≤◌}
@@ -8,23 +9,24 @@ use native.Mathlib.Nat.{zero-mul}
 use native.Mathlib.Omega.{arith}
 use lib.ListN.{length}
 use Rattle.error.specs.declared.Error.{Error}
-use Rattle.error.specs.Said.{refuse}
+use Rattle.error.specs.Said.{refuse, said}
 use Rattle.wire.proofs.Part.{length_pad_to}
 use Rattle.elements.specs.declared.Extensions.{Extensions}
 use Rattle.elements.specs.Elements.{elements_of, lay_elements}
 use Rattle.block.specs.Form.{form_of, per_element}
 use Rattle.header_write.specs.declared.Fixed.{Fixed}
-use Rattle.header_write.specs.declared.Length.{Length}
-use Rattle.header_write.specs.declared.Length.TheVariants as len
+use Rattle.header_write.specs.declared.Parts.{Parts}
 use Rattle.header_write.specs.Parts as parts
-use Rattle.header_write.specs.Said.{said_length}
+use Rattle.header_write.specs.Parts.{Whole}
 use Rattle.header_write.proofs.Domain.{measured_outside, measured_says, measured_refuses}
 use Rattle.header.specs.declared.Header.{Header}
 use Rattle.header.specs.Fields.{fields_of, in_domain}
 use Rattle.header.specs.Write.{in_writing_domain, write_header}
-use Rattle.header.specs.Parts.{fixed_of, together, bare}
+use Rattle.header.specs.Parts.{fixed_of, together, record_of, bare}
 use Rattle.header.proofs.Sizes.{Arrays, length_in}
 use Rattle.header.proofs.Writing.{Measured, measured, not_fine}
+
+-- ---- put together again
 
 pub together_whole : (h : Header) →
     together (fixed_of h) h.csrc_count h.csrc h.extension_profile h.extensions h.extensions_padding ≡ h
@@ -38,6 +40,11 @@ together_of h e =
     (λ (f : Fixed).
     together f h.csrc_count h.csrc h.extension_profile h.extensions h.extensions_padding) e
     ∙ together_whole h
+
+pub arrays_of : (f : Fixed) (n : ℕ) (csrc : List ℕ) (profile : ℕ) (x : Extensions) (pads : ℕ) → length csrc ≡ 15 → length x.ids ≡ 32 →
+    length x.lens ≡ 32 → length x.bytes ≡ 1024 → Arrays (together f n csrc profile x pads)
+unfolding together
+arrays_of f n csrc profile x pads c i l b = record { csrc = c; ids = i; lens = l; bytes = b }
 
 -- ---- without CSRCs and elements
 
@@ -95,23 +102,23 @@ module _ (f : Fixed) (profile pads : ℕ) where
 
 -- ---- the record of parts that were measured
 
-pub arrays_of : (f : Fixed) (n : ℕ) (csrc : List ℕ) (profile : ℕ) (x : Extensions) (pads : ℕ) → length csrc ≡ 15 → length x.ids ≡ 32 →
-    length x.lens ≡ 32 → length x.bytes ≡ 1024 → Arrays (together f n csrc profile x pads)
-unfolding together
-arrays_of f n csrc profile x pads c i l b = record { csrc = c; ids = i; lens = l; bytes = b }
-
-module _ (f : Fixed) (n : ℕ) (csrc : List ℕ) (profile : ℕ) (x : Extensions) (pads : ℕ)
-    (a : Arrays (together f n csrc profile x pads)) (r : Length)
-    (e : said_length r ≡ parts.measured f n profile x.count x.ids x.lens pads) where
-  pub known_of : (k : ℕ) → r ≡ len.Bytes k → Measured (together f n csrc profile x pads) k
+module _ (p : Parts) (whole : Whole p) (r : Result ℕ Error)
+    (e : said r ≡ parts.measured p.fixed p.csrc_count p.profile p.count p.ids.now p.lens.now p.padding) where
+  arrays : Arrays (record_of p)
   unfolding together
-  known_of k p =
-      let s = measured_says f n profile x.count x.ids x.lens pads r e k p in
-      measured (together f n csrc profile x pads) a k s.0 s.1
+  arrays = record { csrc = whole.csrc; ids = whole.ids; lens = whole.lens; bytes = whole.bytes }
+
+  pub known_of : (k : ℕ) → r ≡ Ok k → Measured (record_of p) k
+  unfolding together
+  known_of k is =
+      let s = measured_says p.fixed p.csrc_count p.profile p.count p.ids.now p.lens.now p.padding r e k is in
+      measured (record_of p) arrays k s.0 s.1
 
   -- .. or 8
-  pub unknown_of : (k : Error) → r ≡ len.Refused k → (said_length r ≡ refuse 8) × (in_writing_domain (together f n csrc profile x pads) ≡ false)
+  pub unknown_of : (k : Error) → r ≡ Err k → (said {A = ℕ} (Err k) ≡ refuse 8) × (in_writing_domain (record_of p) ≡ false)
   unfolding together
-  unknown_of k p =
-      let out = measured_refuses f n profile x.count x.ids x.lens pads r e k p in
-      (e ∙ measured_outside f n profile x.count x.ids x.lens pads out, not_fine (together f n csrc profile x pads) a out)
+  unknown_of k is =
+      let out = measured_refuses p.fixed p.csrc_count p.profile p.count p.ids.now p.lens.now p.padding r e k is in (
+        sym (ap said is) ∙ e ∙ measured_outside p.fixed p.csrc_count p.profile p.count p.ids.now p.lens.now p.padding out,
+        not_fine (record_of p) arrays out,
+      )

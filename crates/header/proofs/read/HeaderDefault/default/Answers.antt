@@ -1,7 +1,7 @@
 -- Zeros everywhere are the blank record.
 use Rattle.wire.specs.Part.{pad_to}
 use Rattle.header.specs.Fields.{blank, lay_out}
-use Rattle.header.proofs.Header.default.Goals as goal
+use Rattle.header.proofs.read.HeaderDefault.default.Goals as goal
 
 pub returns : goal.returns
 unfolding blank lay_out pad_to

@@ -1,5 +1,5 @@
 -- Two stores and three numbers, each behind the other, are one part.
-use mathlib.Core.Path.{◌≡◌, ap, ◌∙◌}
+use mathlib.Core.Path.{◌≡◌, ap, ap₂, ◌∙◌}
 use mathlib.Core.List.{List, [], ◌∷◌, ◌++◌}
 use Prim.Native.Nat.{ℕ, ◌≤◌}
 use native.Mathlib.Omega.{arith}
@@ -8,7 +8,7 @@ use Rattle.wire.specs.Net.{be16, be32}
 use Rattle.wire.specs.Part.{splice}
 use Rattle.wire.proofs.Part.{splice_one, splice_push, splice_on}
 use Rattle.header_write.specs.Fixed.{fixed_for}
-use Rattle.header_write.proofs.figure.put_fixed.Goals as goal
+use Rattle.header_write.proofs.Fixed.put.Goals as goal
 
 figure : (buf : List ℕ) (a b number time ssrc : ℕ) → 12 ≤ length buf →
     splice (splice (splice (set (set buf 0 a) 1 b) 2 (be16 number)) 4 (be32 time)) 8 (be32 ssrc)
@@ -23,10 +23,9 @@ figure buf a b number time ssrc h =
 
 pub returns : goal.returns
 returns c =
-    let a = c.args in
+    let f = c.args.self in
+    let buf = c.args.buf.now in
     c.put_u32-2.ensures
-    ∙ ap (λ (l : List ℕ). splice l 8 (be32 a.ssrc))
-    (c.put_u32.ensures
-    ∙ ap (λ (l : List ℕ). splice l 4 (be32 a.time))
-    c.put_u16.ensures)
-    ∙ figure a.buf.now a.b0 a.b1 a.number a.time a.ssrc c.requires
+    ∙ ap (λ (l : List ℕ). splice l 8 (be32 f.ssrc)) (c.put_u32.ensures ∙ ap (λ (l : List ℕ). splice l 4 (be32 f.timestamp)) c.put_u16.ensures)
+    ∙ figure buf c.first_octet.result c.second_octet.result f.sequence_number f.timestamp f.ssrc c.requires.room
+    ∙ ap₂ (λ (a b : ℕ). splice buf 0 (fixed_for a b f.sequence_number f.timestamp f.ssrc [])) c.first_octet.ensures c.second_octet.ensures
