@@ -8,20 +8,24 @@ use native.Mathlib.Omega.{arith}
 use lib.Dec.{eqb, leb}
 use lib.ListN.{length, drop, get_or, length-drop}
 use borrow.Author.Tests.{lt-leb, eqb-true}
-use Rattle.annexb.specs.declared.Found.{Found}
-use Rattle.annexb.specs.declared.Found.TheVariants.{At, Nothing}
-use Rattle.annexb.specs.Search.{zeros_by, ends_code, scan, code_of}
+use Rattle.std.specs.Prelude.{Option, Some, None}
+use Rattle.annexb.specs.declared.Code.{Code}
+use Rattle.annexb.specs.Search.{zeros_by, ends_code, scan}
 use Rattle.annexb.specs.Runs.{Run, Zero, Other, ZerosStart}
 use Rattle.annexb.proofs.Codes.{scan_zero, scan_other, scan_code, on_by, no_one, few_zeros, one_after_zeros}
 
 -- the search from i on, where z zeros stand before it
-abbrev pub ahead : List ℕ → ℕ → ℕ → Found
+abbrev pub ahead : List ℕ → ℕ → ℕ → Option Code
 ahead frame i z = scan (drop i frame) i z
+
+-- a start code of so many bytes at a place
+the_code : ℕ → ℕ → Option Code
+the_code at len = Some (record { at = at; len = len })
 
 -- ---- runs
 
 -- what no turn changes is the same at both ends
-through : (f : ℕ → Found) (n i : ℕ) → ((k : ℕ) → k < i + n → i ≤ k → f k ≡ f (k + 1)) → f i ≡ f (i + n)
+through : (f : ℕ → Option Code) (n i : ℕ) → ((k : ℕ) → k < i + n → i ≤ k → f k ≡ f (k + 1)) → f i ≡ f (i + n)
 through f zero i turn = ap f (omega arith)
 through f (suc n) i turn =
     turn i (omega arith) (omega arith)
@@ -29,7 +33,7 @@ through f (suc n) i turn =
     ∙ ap f (omega arith)
 
 module _ (frame : List ℕ) (i e : ℕ) where
-  by_turns : {P : ℕ → Type 0} → Run P frame i e → (f : ℕ → Found) →
+  by_turns : {P : ℕ → Type 0} → Run P frame i e → (f : ℕ → Option Code) →
       ((k : ℕ) → k < length frame → i ≤ k → P (get_or frame k 0) → f k ≡ f (k + 1)) → f i ≡ f e
   by_turns r f turn =
       let q : i + (e - i) ≡ e = omega (arith, r.from) in
@@ -48,10 +52,11 @@ module _ (frame : List ℕ) (i e : ℕ) where
 
   -- "A start code is two or more zeros and a 1"
   pub code_found : {n : ℕ} → n ≡ e - i + 1 → Run Zero frame i e → e < length frame → get_or frame e 0 ≡ 1 → leb 2 (e - i) ≡ true →
-      record { at = i; len = n } ≡ code_of (ahead frame i 0)
+      Some (record { at = i; len = n }) ≡ ahead frame i 0
+  unfolding the_code
   code_found q r h one two =
-      ap₂ (λ (x y : ℕ). record { at = x; len = y }) (omega (arith, r.from)) q
-      ∙ ap code_of (sym (past_zeros r ∙ scan_code frame e (e - i) h (one_after_zeros (get_or frame e 0) (e - i) one two)))
+      ap₂ (λ (x y : ℕ). the_code x y) (omega (arith, r.from)) q
+      ∙ sym (past_zeros r ∙ scan_code frame e (e - i) h (one_after_zeros (get_or frame e 0) (e - i) one two))
 
   pub no_code : Run Zero frame i e → e < length frame → (get_or frame e 0 ≡ 0 → ⊥) → ends_code (get_or frame e 0) (e - i) ≡ false →
       ahead frame i 0 ≡ ahead frame (e + 1) 0
@@ -64,14 +69,14 @@ zeros_up true z = omega arith
 zeros_up false z = omega arith
 
 -- no start code ends where it had fewer than three bytes
-short : (s : List ℕ) (at z : ℕ) → length s + z < 3 → scan s at z ≡ Nothing
+short : (s : List ℕ) (at z : ℕ) → length s + z < 3 → scan s at z ≡ None
 short [] at z h = refl
 short (b ∷ s) at z h =
     let rest = scan s (at + 1) (zeros_by (eqb b 0) z) in
-    ap (λ (t : Bool). cond t (At (at - z) (z + 1)) rest) (few_zeros b z (lt-leb 2 z (omega arith)))
+    ap (λ (t : Bool). cond t (Some (record { at = at - z; len = z + 1 })) rest) (few_zeros b z (lt-leb 2 z (omega arith)))
     ∙ short s (at + 1) (zeros_by (eqb b 0) z) (omega (arith, zeros_up (eqb b 0) z))
 
-pub few_left : (frame : List ℕ) (i : ℕ) → length frame < i + 3 → ahead frame i 0 ≡ Nothing
+pub few_left : (frame : List ℕ) (i : ℕ) → length frame < i + 3 → ahead frame i 0 ≡ None
 few_left frame i few = short (drop i frame) i 0 (omega (arith, length-drop i frame))
 
 -- how many zeros stand in a row up to the byte at i, where z stood before it

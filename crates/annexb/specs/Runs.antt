@@ -15,6 +15,10 @@ Zero b = b ≡ 0
 abbrev pub Other : ℕ → Type 0
 Other b = 1 < b
 
+-- a byte from `low` to `high`
+abbrev pub FromTo : ℕ → ℕ → ℕ → Type 0
+FromTo low high b = (low ≤ b) × (b ≤ high)
+
 -- the zeros from `start` on reach to before `end`
 pub record ZerosEnd (frame : List ℕ) (start end : ℕ) : Type 0 where
   pub zeros : Run Zero frame start end

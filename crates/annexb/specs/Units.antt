@@ -1,5 +1,5 @@
 -- From a frame to its units. Assumes nothing.
-use Rattle.std.specs.Prelude.{List, [], ◌∷◌, ◌++◌, Bool, true, false, cond, ◌||◌, ◌≡◌, ℕ, ◌-◌, ◌≤◌, ◌<◌, eqb, length, take, drop, replicate}
+use Rattle.std.specs.Prelude.{List, [], ◌∷◌, ◌++◌, Bool, true, false, cond, ◌||◌, ◌≡◌, ℕ, ◌-◌, ◌≤◌, ◌<◌, eqb, length, take, drop, replicate, Option, Some, None, MatchOption}
 use Rattle.annexb.specs.declared.Piece.{Piece}
 use Rattle.annexb.specs.Search.{zeros_by, ends_code}
 
@@ -38,11 +38,14 @@ no_units mtu len = eqb len 0 || eqb mtu 0
 unfoldable pub units_at : ℕ → List ℕ → List (List ℕ)
 units_at mtu frame = cond (no_units mtu (length frame)) [] (units frame)
 
+-- the pieces of the frame from a place on, if there are any
+abbrev pub pieces_at : List ℕ → Option ℕ → List (List ℕ)
+pieces_at frame (Some next) = pieces (drop next frame)
+pieces_at frame None = []
+
 -- p is the piece of the frame that starts at `start`
 pub record Pieced (frame : List ℕ) (start : ℕ) (p : Piece) : Type 0 where
   pub from : start ≤ p.end
-  pub to : p.end ≤ p.next
-  pub within : p.next ≤ length frame
-  pub onward : cond p.more (p.end < p.next) (Unit {0})
-  pub same :
-      pieces (drop start frame) ≡ take (p.end - start) (drop start frame) ∷ cond p.more (pieces (drop p.next frame)) []
+  pub within : p.end ≤ length frame
+  pub onward : MatchOption p.next (Unit {0}) (λ next. (p.end < next) × (next ≤ length frame))
+  pub same : pieces (drop start frame) ≡ take (p.end - start) (drop start frame) ∷ pieces_at frame p.next

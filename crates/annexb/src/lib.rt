@@ -1,137 +1,67 @@
 // Annex B: the start codes of a frame, and the units between them.
 //
 // Only proved code calls this crate, `next_ind` apart, so its functions may ask that a place lies in the frame.
+// Stays: a place is a number beside the frame and no rest of it, since what is found is a place in the frame again.
 //
 // A start code is two or more zeros and a 1. Bytes before the first one are ignored; without one the frame is one unit.
 #![tactic(auto)]
 
-ghost use Rattle.std.specs.Prelude.{◌≡◌, ◌+◌, ◌≤◌, length, drop, get_or};
-ghost use Rattle.annexb.specs.Search.{next_code, code_of, said_search, next_ind};
-ghost use Rattle.annexb.specs.Runs.{Run, Zero, Other, ZerosEnd, ZerosStart};
+ghost use Rattle.std.specs.Prelude.{◌≡◌, ◌+◌, ◌≤◌, true, length, drop, get_or};
+ghost use Rattle.error.specs.Said.{said};
+ghost use Rattle.annexb.specs.Search.{next_code, code_of, next_ind};
+ghost use Rattle.annexb.specs.Runs.{Run, FromTo, ZerosEnd, ZerosStart};
 ghost use Rattle.annexb.specs.Units.{units, pieces, Pieced};
 
 use error::Error;
 
+// Where a start code lies.
 #[derive(Clone, Copy)]
-pub enum Found {
-    // the place of a start code's first zero, and how many bytes it has
-    At(usize, usize),
-    Nothing,
+pub struct Code {
+    // the place of its first zero
+    pub at: usize,
+    // how many bytes it has, its 1 among them
+    pub len: usize,
 }
 
-#[derive(Clone, Copy)]
-pub enum Search {
-    Yields(Found),
-    Refused(Error),
-}
-
-// Where a start code lies. Two numbers and no enum: an enum that is returned is stored in parts and loaded whole, which stalls.
-#[derive(Clone, Copy)]
-struct Code {
-    // the place of its first zero; 0 where there is none
-    at: usize,
-    // how many bytes it has, its 1 among them; 0 where there is none
-    len: usize,
-}
-
-fn lesser(a: u8, b: u8) -> u8
-    ensures { (result ≤ a) × (result ≤ b) }
-{
-    if b < a {
-        return b;
-    }
-    a
-}
-
-fn greater(a: u8, b: u8) -> u8
-    ensures { (a ≤ result) × (b ≤ result) }
-{
-    if a < b {
-        return b;
-    }
-    a
-}
-
-// The least of the sixteen bytes from i on. No byte ends the loop early: so all sixteen are compared at once.
-fn least(frame: &[u8], i: usize) -> u8
+// Whether the sixteen bytes from i on are all from LOW to HIGH. No byte ends the loop early: so all sixteen are compared at once.
+fn sixteen_from_to<const LOW: u8, const HIGH: u8>(frame: &[u8], i: usize) -> bool
     requires { i + 16 ≤ length frame.now }
-    ensures { Run (λ b. result ≤ b) frame.now i (i + 16) }
+    ensures { result ≡ true → Run (FromTo LOW HIGH) frame.now i (i + 16) }
 {
-    let mut m: u8 = 255;
-    let mut k = 0;
-    while k < 16 {
-        m = lesser(m, frame[i + k]);
-        k += 1;
+    let mut all = true;
+    for b in &frame[i..i + 16] {
+        all &= LOW <= *b && *b <= HIGH;
     }
-    m
+    all
 }
 
-// The greatest of the sixteen bytes from i on, likewise.
-fn greatest(frame: &[u8], i: usize) -> u8
-    requires { i + 16 ≤ length frame.now }
-    ensures { Run (λ b. b ≤ result) frame.now i (i + 16) }
-{
-    let mut m: u8 = 0;
-    let mut k = 0;
-    while k < 16 {
-        m = greater(m, frame[i + k]);
-        k += 1;
-    }
-    m
-}
-
-// Behind bytes from start on that are neither 0 nor 1, sixteen at a time. The step is behind a branch, so that no turn waits for the one before.
-fn past_others(frame: &[u8], start: usize) -> usize
+// Behind bytes from start on that are from LOW to HIGH, sixteen at a time. The step is behind a branch, so that no turn waits for the one before.
+// Stays: a loop, since the place where it ends is the answer.
+fn past<const LOW: u8, const HIGH: u8>(frame: &[u8], start: usize) -> usize
     requires { start ≤ length frame.now }
-    ensures { Run Other frame.now start result }
+    ensures { Run (FromTo LOW HIGH) frame.now start result }
 {
     let mut i = start;
-    loop {
-        if frame.len() - i < 16 {
-            break i;
-        }
-        if least(frame, i) < 2 {
-            break i;
-        }
+    while 16 <= frame.len() - i && sixteen_from_to::<LOW, HIGH>(frame, i) {
         i += 16;
     }
-}
-
-// Behind zeros from start on, likewise.
-fn past_sixteens(frame: &[u8], start: usize) -> usize
-    requires { start ≤ length frame.now }
-    ensures { Run Zero frame.now start result }
-{
-    let mut i = start;
-    loop {
-        if frame.len() - i < 16 {
-            break i;
-        }
-        if 0 < greatest(frame, i) {
-            break i;
-        }
-        i += 16;
-    }
+    i
 }
 
 // Behind the zeros from start on. A start code has two or three as a rule: sixteen at once are worth a look only behind those.
+// Stays: a loop, since its place also jumps over sixteen bytes at once.
 fn past_zeros(frame: &[u8], start: usize) -> usize
     requires { start ≤ length frame.now }
     ensures { ZerosEnd frame.now start result }
 {
     let mut i = start;
-    loop {
-        if frame.len() <= i {
-            break i;
-        }
-        if frame[i] != 0 {
-            break i;
-        }
+    while i < frame.len() && frame[i] == 0 {
         i += 1;
         if 3 <= i - start {
-            i = past_sixteens(frame, i);
+            i = past::<0, 0>(frame, i);
         }
     }
+    i
 }
 
 // The first of the zeros up to the one two places behind i; those before i do not count.
@@ -148,8 +78,10 @@ fn first_zero(frame: &[u8], i: usize) -> usize
     i
 }
 
-// The first start code from start on. In each turn no zero before i counts: so none ends before the byte two ahead, which says how to go on.
-// Behind last, beyond the frame's end too, there is no such byte.
+// The first start code from start on; a length of 0 says that there is none. In each turn no zero before i counts: so none ends before the
+// byte two ahead, which says how to go on. Behind last, beyond the frame's end too, there is no such byte.
+// Stays: two numbers come back in registers and an Option in memory, with which a frame of one small unit takes an eighth longer.
+// Stays: a loop with a break, as the paper has it: each byte says by how much the place jumps.
 fn find_code(frame: &[u8], start: usize) -> Code
     ensures { result ≡ code_of (next_code frame.now start) }
 {
@@ -164,7 +96,7 @@ fn find_code(frame: &[u8], start: usize) -> Code
         }
         let b = frame[i + 2];
         if 1 < b {
-            i = past_others(frame, i + 3);
+            i = past::<2, 255>(frame, i + 3);
             continue;
         }
         if b == 1 {
@@ -190,27 +122,21 @@ fn find_code(frame: &[u8], start: usize) -> Code
 }
 
 // The first start code from start on, all its zeros included.
-pub fn next_code(frame: &[u8], start: usize) -> Found
+pub fn next_code(frame: &[u8], start: usize) -> Option<Code>
     ensures { result ≡ next_code frame.now start }
 {
     let code = find_code(frame, start);
-    if code.len == 0 {
-        return Found::Nothing;
-    }
-    Found::At(code.at, code.len)
+    if code.len == 0 { None } else { Some(code) }
 }
 
 // The search by itself: too long a frame is refused, and a place beyond its end.
-pub fn next_ind(frame: &[u8], start: usize) -> Search
-    ensures { said_search result ≡ next_ind frame.now start }
+pub fn next_ind(frame: &[u8], start: usize) -> Result<Option<Code>, Error>
+    ensures { said result ≡ next_ind frame.now start }
 {
-    if 16777216 < frame.len() {
-        return Search::Refused(Error::OutsideDomain);
+    if 16777216 < frame.len() || frame.len() < start {
+        return Err(Error::OutsideDomain);
     }
-    if frame.len() < start {
-        return Search::Refused(Error::OutsideDomain);
-    }
-    Search::Yields(next_code(frame, start))
+    Ok(next_code(frame, start))
 }
 
 // Where the first unit starts: behind the first start code, or with the frame.
@@ -226,10 +152,8 @@ pub fn first_unit(frame: &[u8]) -> usize
 pub struct Piece {
     // where it ends
     pub end: usize,
-    // whether a start code follows it
-    pub more: bool,
-    // where the unit behind that start code starts; the frame's end where none follows
-    pub next: usize,
+    // where the unit behind the start code that follows it starts; none at the frame's end
+    pub next: Option<usize>,
 }
 
 // The unit that starts at start.
@@ -241,13 +165,11 @@ pub fn unit_at(frame: &[u8], start: usize) -> Piece
     if code.len == 0 {
         return Piece {
             end: frame.len(),
-            more: false,
-            next: frame.len(),
+            next: None,
         };
     }
     Piece {
         end: code.at,
-        more: true,
-        next: code.at + code.len,
+        next: Some(code.at + code.len),
     }
 }

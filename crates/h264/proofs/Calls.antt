@@ -8,17 +8,19 @@ use native.Mathlib.Omega.{arith}
 use lib.Dec.{ltb}
 use lib.ListN.{length, length-append}
 use borrow.Author.Tests.{ltb-false, le-ltb}
-use Rattle.error.specs.Said.{Said, says, refused}
+use Rattle.error.specs.Said.{Said, said, says, refused}
 use Rattle.wire.specs.Packets.{Sink, Room, whole, joined, put_all}
 use Rattle.wire.proofs.Packets.{put_all_whole, joined_append}
 use Rattle.h264_measure.specs.declared.Measure.{Measure}
 use Rattle.h264_put.specs.declared.outcome.Drops.{Drops}
-use Rattle.h264.specs.declared.send.Payloads.{Payloads}
+use Rattle.std.specs.Prelude.{Result}
+use Rattle.error.specs.declared.Error.{Error}
+use Rattle.h264.specs.declared.send.Written.{Written}
 use Rattle.annexb.specs.Units.{units, no_units, units_at}
 use Rattle.h264_put.specs.Groups.{Saved, keep, keep_all, groups_for, groups_of, packets_of}
 use Rattle.h264_put.specs.Outcomes.{outcomes_of, drops_in}
 use Rattle.h264_put.specs.Step.{empty_sink, too_long, over_limit}
-use Rattle.h264.specs.Payload.{outside_by, too_small, Counts, said, LeftIn, left_with, refused_with, sent_as, left_by, call_of, sending_of}
+use Rattle.h264.specs.Payload.{outside_by, too_small, LeftIn, left_with, refused_with, sent_as, left_by, call_of, sending_of}
 use Rattle.h264.specs.Step.{state_by}
 use Rattle.h264_measure.specs.Measured.{measured, measured_all, nothing_yet}
 use Rattle.wire.proofs.Bools.{or_false_left, or_false_right}
@@ -214,12 +216,12 @@ module _ {S : Type 0} (state : S) (laid : Saved → S) (v : Saved) (mtu : ℕ) (
       by_outcome o (over_limit us) (too_small packets out ends) (keep_all v us) packets (drops_in (outcomes_of mtu v us))
 
 -- a state that is kept beside a refusal is so too where it is said otherwise
-same_state : {S : Type 0} (state : S) (laid : Saved → S) (v v' : Saved) (a : Said Counts) → state_by a state (laid v') ≡ state_by a state (laid (state_by a v v'))
+same_state : {S : Type 0} (state : S) (laid : Saved → S) (v v' : Saved) (a : Said Written) → state_by a state (laid v') ≡ state_by a state (laid (state_by a v v'))
 same_state state laid v v' (says c) = refl
 same_state state laid v v' (refused r) = refl
 
 -- a call leaves the state that the answer asks for
-pub call_stated : {S : Type 0} (state : S) (laid : Saved → S) (o : Bool) (v : Saved) (mtu : ℕ) (frame out ends : List ℕ) (v' : Saved) (a : Payloads) (out' ends' : List ℕ) →
+pub call_stated : {S : Type 0} (state : S) (laid : Saved → S) (o : Bool) (v : Saved) (mtu : ℕ) (frame out ends : List ℕ) (v' : Saved) (a : Result Written Error) (out' ends' : List ℕ) →
     left_with (state_by (said a) v v') a out' ends' ≡ sending_of o v mtu frame out ends → (after : S) → after ≡ state_by (said a) state (laid v') →
     left_with after a out' ends' ≡ call_of o state laid v mtu frame out ends
 call_stated {S} state laid o v mtu frame out ends v' a out' ends' e after q =

@@ -3,39 +3,36 @@ use mathlib.Core.Path.{◌≡◌, refl, ap}
 use mathlib.Core.List.{List}
 use mathlib.Core.Bool.{Bool, true, false, cond}
 use Prim.Native.Nat.{ℕ}
-use Rattle.error.specs.Said.{Said, says, refused, refuse}
+use Rattle.std.specs.Prelude.{Result, Ok, Err, Option}
+use Rattle.error.specs.declared.Error.{Error}
+use Rattle.error.specs.Said.{Said, said, says, refused, refuse}
 use Rattle.error.specs.Only.{Determined}
 use Rattle.error.proofs.Inverse.{error_of, error_of_refusal_of}
 use Rattle.error.proofs.Only.{by_value, by_view}
-use Rattle.annexb.specs.declared.Found.{Found}
-use Rattle.annexb.specs.declared.Search.{Search}
-use Rattle.annexb.specs.declared.Search.TheVariants as search-variants
+use Rattle.annexb.specs.declared.Code.{Code}
 use Rattle.h264.specs.declared.send.H264Payloader.{H264Payloader}
-use Rattle.h264.specs.declared.send.Payloads.{Payloads}
-use Rattle.h264.specs.declared.send.Payloads.TheVariants.{Written, Refused}
 use Rattle.h264.specs.declared.send.Sent.{Sent}
 use Rattle.h264.specs.declared.lent.LentPayloader.{LentPayloader}
-use Rattle.h264.specs.declared.lent.LentSent.{LentSent}
-use Rattle.annexb.specs.Search.{next_code, said_search, beyond, next_ind}
+use Rattle.annexb.specs.Search.{next_code, beyond, next_ind}
 use Rattle.annexb.specs.Units.{units_at}
 use Rattle.h264_put.specs.Groups.{Saved, nothing_saved, keep_all, groups_of, packets_of}
 use Rattle.h264_put.specs.declared.outcome.Drops.{Drops}
 use Rattle.h264_put.specs.Outcomes.{outcomes_of, drops_in}
 use Rattle.h264_put.specs.Step.{over_limit}
-use Rattle.h264.specs.Payload.{lay_out, saved_in, Lent, saved_lent, lend_out, outside_by, outside, too_small, Counts, said, LeftIn, Left, left, left_lent, refused_with, sent_as, left_by, call_of, payload_of, lent_of}
+use Rattle.h264.specs.Payload.{lay_out, saved_in, Lent, saved_lent, lend_out, outside_by, outside, too_small, LeftIn, Left, left, left_lent, refused_with, sent_as, left_by, call_of, payload_of, lent_of}
 
--- an answer's values, back from what it says
-abbrev unsaid : Said Counts → Payloads
-unsaid (says c) = Written c.packets c.bytes c.units_dropped c.pairs_dropped
-unsaid (refused r) = Refused (error_of r)
+-- a result, back from what it says
+abbrev unsaid : {A : Type 0} → Said A → Result A Error
+unsaid (says x) = Ok x
+unsaid (refused r) = Err (error_of r)
 
-unsaid_said : (a : Payloads) → unsaid (said a) ≡ a
-unsaid_said (Written packets bytes units pairs) = refl
-unsaid_said (Refused e) = ap Refused (error_of_refusal_of e)
+unsaid_said : {A : Type 0} (a : Result A Error) → unsaid (said a) ≡ a
+unsaid_said (Ok x) = refl
+unsaid_said (Err e) = ap Err (error_of_refusal_of e)
 
 -- what a call hands back: its result, and the two buffers
 abbrev pub Handed : Type 0
-Handed = Sent × List ℕ × List ℕ
+Handed = Sent H264Payloader × List ℕ × List ℕ
 
 abbrev view : Handed → Left
 view x = left x.0 x.1 x.2
@@ -78,7 +75,7 @@ payload_only h mtu frame out ends =
 
 -- what a call hands back: its result, the two sets' buffers, output and table
 abbrev pub HandedLent : Type 0
-HandedLent = LentSent × List ℕ × List ℕ × List ℕ × List ℕ
+HandedLent = Sent LentPayloader × List ℕ × List ℕ × List ℕ × List ℕ
 
 abbrev view_lent : HandedLent → LeftIn Lent
 view_lent x = left_lent x.0 x.1 x.2 x.3 x.4
@@ -104,22 +101,14 @@ new_only = by_value (lay_out nothing_saved)
 
 -- ---- the search
 
-abbrev unsaid_search : Said Found → Search
-unsaid_search (says found) = search-variants.Yields found
-unsaid_search (refused r) = search-variants.Refused (error_of r)
-
-unsaid_search_lem : (a : Search) → unsaid_search (said_search a) ≡ a
-unsaid_search_lem (search-variants.Yields found) = refl
-unsaid_search_lem (search-variants.Refused e) = ap search-variants.Refused (error_of_refusal_of e)
-
-sayable_search : (b : Bool) (found : Found) →
-    let r : Said Found = cond b (refuse 8) (says found) in
-    said_search (unsaid_search r) ≡ r
+sayable_search : (b : Bool) (found : Option Code) →
+    let r : Said (Option Code) = cond b (refuse 8) (says found) in
+    said (unsaid r) ≡ r
 sayable_search true found = refl
 sayable_search false found = refl
 
-pub next_ind_only : (frame : List ℕ) (start : ℕ) → Determined (λ (r : Search). said_search r ≡ next_ind frame start)
+pub next_ind_only : (frame : List ℕ) (start : ℕ) → Determined (λ (r : Result (Option Code) Error). said r ≡ next_ind frame start)
 unfolding next_ind
 next_ind_only frame start =
-    by_view said_search unsaid_search unsaid_search_lem (unsaid_search (next_ind frame start)) (next_ind frame start)
+    by_view said unsaid unsaid_said (unsaid (next_ind frame start)) (next_ind frame start)
     (sayable_search (beyond frame start) (next_code frame start))

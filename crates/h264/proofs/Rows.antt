@@ -15,7 +15,8 @@ use Rattle.rfc6184.specs.Sending.{Each, Sending, octet, octets_of, payloads_of, 
 use Rattle.annexb.specs.Units.{units, units_at}
 use Rattle.h264_put.specs.Groups.{nothing_saved, keep, stap_a, pair_for, unit_for, groups_for, fragment}
 use Rattle.h264.specs.declared.send.H264Payloader.{H264Payloader}
-use Rattle.h264.specs.Payload.{lay_out, Counts, Left, payload_of}
+use Rattle.h264.specs.declared.send.Written.{Written}
+use Rattle.h264.specs.Payload.{lay_out, Left, payload_of}
 use Rattle.h264.specs.Conformance.{nal, part}
 
 -- units, each behind a start code
@@ -24,7 +25,7 @@ behind [] = []
 behind (u ∷ us) = 0 ∷ 0 ∷ 1 ∷ (u ++ behind us)
 
 -- what a call says: the packets, or the refusal
-abbrev said_in : Said Counts → List ℕ → List ℕ → Said (List (List ℕ))
+abbrev said_in : Said Written → List ℕ → List ℕ → Said (List (List ℕ))
 said_in (says n) out ends = says (cut out 0 (take n.packets ends))
 said_in (refused why) out ends = refused why
 

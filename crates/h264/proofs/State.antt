@@ -8,10 +8,10 @@ use native.Mathlib.Omega.{arith}
 use lib.Dec.{ltb}
 use lib.ListN.{length, replicate, length-append, length-take, length-replicate, drop_of_length-le}
 use borrow.Author.Tests.{ltb-false}
-use Rattle.error.specs.Said.{Said, says, refused}
-use Rattle.error.specs.Refusal.{Refusal}
+use Rattle.std.specs.Prelude.{None}
+use Rattle.error.specs.Said.{Said}
 use Rattle.wire.specs.Part.{splice, pad_to}
-use Rattle.wire.proofs.Part.{splice_on, splice_nothing, pad_to_nothing, take_pad_to}
+use Rattle.wire.proofs.Part.{splice_on, pad_to_nothing, take_pad_to}
 use Rattle.h264_put.specs.declared.fate.Fate.{Fate}
 use Rattle.h264_put.specs.declared.fate.Fate.TheVariants.{Empty, Dropped, Sps, Pps, Coded}
 use Rattle.h264_put.specs.Groups.{Saved, nothing_saved, both_saved, fate_of, keep, keep_by}
@@ -23,8 +23,10 @@ use Rattle.h264_walk.specs.Waiting.{bytes_of, saved_at, Lying, Waits}
 use Rattle.h264_walk.proofs.Bytes.{lying_length}
 use Rattle.h264.specs.declared.send.ParameterSet.{ParameterSet}
 use Rattle.h264.specs.declared.send.H264Payloader.{H264Payloader}
-use Rattle.h264.specs.Payload.{set_out, lay_out, held_in, saved_in, Lent, lend_out, Counts}
-use Rattle.h264.specs.Step.{state_by, NoneBeside, tail_of}
+use Rattle.h264.specs.declared.send.Written.{Written}
+use Rattle.h264.specs.declared.lent.LentPayloader.{LentPayloader}
+use Rattle.h264.specs.Payload.{set_out, lay_out, held_in, saved_in, Lent, lend_out}
+use Rattle.h264.specs.Step.{state_by}
 
 -- no set
 pub set_none : ◌≡◌ {A = ParameterSet} (record { bytes = replicate 1024 0; len = 0 }) (set_out [])
@@ -64,7 +66,7 @@ pub record Before (sps pps frame : List ℕ) (n m : ℕ) (w : Waiting) : Type 0 
   pub lengths : Lengths (held_in sps n pps m) n m
 
 pub before : (sps pps frame : List ℕ) (n m : ℕ) → n ≤ 1024 → m ≤ 1024 → n ≤ length sps → m ≤ length pps → (x y : Lies) →
-    x ≡ record { from = 0; len = n } → y ≡ record { from = 0; len = m } → Before sps pps frame n m (record { sps = x; pps = y })
+    x ≡ record { at = None; len = n } → y ≡ record { at = None; len = m } → Before sps pps frame n m (record { sps = x; pps = y })
 unfolding bytes_of
 before sps pps frame n m short-sps short-pps within-sps within-pps x y ex ey =
     subst₂ (λ (s p : Lies). Before sps pps frame n m (record { sps = s; pps = p })) (sym ex) (sym ey)
@@ -94,72 +96,39 @@ padded held s full h =
     ∙ ap (λ (t : List ℕ). (s ++ zeros) ++ t) (drop_of_length-le held {i = 0 + length (s ++ zeros)} (omega (arith, l, full)))
     ∙ append-nil (s ++ zeros)
 
--- either of two places within the array is within it
-pub either_within : (a : Said Counts) (old new : ℕ) → old ≤ 1024 → new ≤ 1024 → state_by a old new ≤ 1024
-either_within (says c) old new h k = k
-either_within (refused r) old new h k = h
+-- what the code makes of the array in which a set lay, or another before it
+abbrev pub put_back : (held frame : List ℕ) → Lies → ParameterSet
+put_back held frame l = record { bytes = splice (splice held 0 (bytes_of held frame l)) l.len (replicate (1024 - l.len) 0); len = l.len }
 
--- what the code makes of a buffer from which a set of n bytes was taken
-abbrev pub put_back : (held frame : List ℕ) → Lies → ℕ → Said Counts → ParameterSet
-put_back held frame l n a =
-    record {
-      bytes = splice (splice held 0 (bytes_of held frame l)) (tail_of a l.len) (replicate (1024 - tail_of a l.len) 0);
-      len = state_by a n l.len;
-    }
-
-answered_set : (held frame : List ℕ) (l : Lies) → Lying held frame l → length held ≡ 1024 → (n : ℕ) (c : Counts) →
-    put_back held frame l n (says c) ≡ set_out (bytes_of held frame l)
-answered_set held frame l w full n c =
+-- the set laid out anew
+pub kept_set : (held frame : List ℕ) (l : Lies) → Lying held frame l → length held ≡ 1024 → put_back held frame l ≡ set_out (bytes_of held frame l)
+kept_set held frame l w full =
     let len_is : length (bytes_of held frame l) ≡ l.len = lying_length held frame l w in
     ap (λ (k : ℕ). record { bytes = splice (splice held 0 (bytes_of held frame l)) k (replicate (1024 - k) 0); len = k }) (sym len_is)
     ∙ ap (λ (b : List ℕ). record { bytes = b; len = length (bytes_of held frame l) })
     (padded held (bytes_of held frame l) full (omega (arith, w.short)))
 
--- nothing is put where no set is
-unput : (held frame : List ℕ) → splice held 0 (bytes_of held frame (record { from = 0; len = 0 })) ≡ held
-unfolding bytes_of
-unput held frame = splice_nothing held 0
+-- both sets, as the record has them: laid out anew, or as they came
+pub put_back_lem : (sps pps frame : List ℕ) (w : Waiting) → Waits sps pps frame w → length sps ≡ 1024 → length pps ≡ 1024 → (a : Said Written) (old : H264Payloader) →
+    state_by a old (record { sps = put_back sps frame w.sps; pps = put_back pps frame w.pps }) ≡ state_by a old (lay_out (saved_at sps pps frame w))
+put_back_lem sps pps frame w t full-sps full-pps a old =
+    ap (state_by a old)
+    (ap₂ (λ (x y : ParameterSet). record { sps = x; pps = y })
+    (kept_set sps frame w.sps t.of_sps full-sps) (kept_set pps frame w.pps t.of_pps full-pps))
 
-refused_set : (held frame : List ℕ) (l : Lies) → l ≡ record { from = 0; len = 0 } → (n : ℕ) (r : Refusal) →
-    put_back held frame l n (refused r) ≡ record { bytes = held; len = n }
-refused_set held frame l e n r =
-    ap (λ (b : List ℕ). record { bytes = b; len = n })
-    (splice_nothing (splice held 0 (bytes_of held frame l)) 1024 ∙ ap (λ (x : Lies). splice held 0 (bytes_of held frame x)) e ∙ unput held frame)
-
--- ---- both sets
-
-module _ (sps pps frame : List ℕ) (w : Waiting) (t : Waits sps pps frame w) (n m : ℕ) where
-  -- as the record has them: laid out anew, or as they came
-  pub put_back_lem : length sps ≡ 1024 → length pps ≡ 1024 → (a : Said Counts) → NoneBeside a w →
-      ◌≡◌ {A = H264Payloader} (record { sps = put_back sps frame w.sps n a; pps = put_back pps frame w.pps m a })
-      (state_by a (record { sps = record { bytes = sps; len = n }; pps = record { bytes = pps; len = m } }) (lay_out (saved_at sps pps frame w)))
-  put_back_lem full-sps full-pps (says c) none =
-      ap₂ (λ (x y : ParameterSet). record { sps = x; pps = y })
-      (answered_set sps frame w.sps t.of_sps full-sps n c) (answered_set pps frame w.pps t.of_pps full-pps m c)
-  put_back_lem full-sps full-pps (refused r) none =
-      ap₂ (λ (x y : ParameterSet). record { sps = x; pps = y })
-      (refused_set sps frame w.sps (ap (λ (x : Waiting). x.sps) none) n r) (refused_set pps frame w.pps (ap (λ (x : Waiting). x.pps) none) m r)
-
-  -- what the code makes of two lent buffers
-  abbrev pub lent_back : Said Counts → Lent
-  lent_back a =
-      record {
-        sender = record { sps_len = state_by a n w.sps.len; pps_len = state_by a m w.pps.len };
-        sps = splice sps 0 (bytes_of sps frame w.sps);
-        pps = splice pps 0 (bytes_of pps frame w.pps);
-      }
-
-  -- as the buffers have them: in front, or as they came
-  pub lend_back : (a : Said Counts) → NoneBeside a w →
-      lent_back a ≡
-      (let l : Lent = record { sender = record { sps_len = n; pps_len = m }; sps = sps; pps = pps } in state_by a l (lend_out l (saved_at sps pps frame w)))
-  lend_back (says c) none =
-      ap₂ (λ (x y : ℕ). record { sender = record { sps_len = x; pps_len = y }; sps = (lent_back (says c)).sps; pps = (lent_back (says c)).pps })
-      (sym (lying_length sps frame w.sps t.of_sps)) (sym (lying_length pps frame w.pps t.of_pps))
-  lend_back (refused r) none =
-      ap (λ (x : Waiting). record {
-        sender = record { sps_len = n; pps_len = m };
-        sps = splice sps 0 (bytes_of sps frame x.sps);
-        pps = splice pps 0 (bytes_of pps frame x.pps);
-      }) none
-      ∙ ap₂ (λ (x y : List ℕ). record { sender = record { sps_len = n; pps_len = m }; sps = x; pps = y }) (unput sps frame) (unput pps frame)
+-- what the code makes of two lent buffers
+pub lent_back : (sps pps frame : List ℕ) (w : Waiting) (t : Waits sps pps frame w) (s : LentPayloader) →
+    ◌≡◌ {A = Lent}
+    (record {
+      sender = record { sps_len = w.sps.len; pps_len = w.pps.len };
+      sps = splice sps 0 (bytes_of sps frame w.sps);
+      pps = splice pps 0 (bytes_of pps frame w.pps);
+    })
+    (lend_out (record { sender = s; sps = sps; pps = pps }) (saved_at sps pps frame w))
+lent_back sps pps frame w t s =
+    ap₂ (λ (x y : ℕ). record {
+      sender = record { sps_len = x; pps_len = y };
+      sps = splice sps 0 (bytes_of sps frame w.sps);
+      pps = splice pps 0 (bytes_of pps frame w.pps);
+    })
+    (sym (lying_length sps frame w.sps t.of_sps)) (sym (lying_length pps frame w.pps t.of_pps))

@@ -13,13 +13,14 @@ use Rattle.h264_put.specs.declared.outcome.PairOutcome.TheVariants as of_pair
 use Rattle.h264_put.specs.declared.outcome.Outcome.{Outcome}
 use Rattle.h264_put.specs.Groups.{nothing_saved, keep, stap_a, pair_for, unit_for, groups_for, fragment}
 use Rattle.h264_put.specs.Outcomes.{unit_outcome, pair_outcome, without_pair, outcome_for, outcomes_of, drops_in}
-use Rattle.h264.specs.Payload.{lay_out, Counts, payload_of}
+use Rattle.h264.specs.declared.send.Written.{Written}
+use Rattle.h264.specs.Payload.{lay_out, payload_of}
 
 -- an mtu, a frame, what became of its units in order, and the answer: packets, bytes, units and pairs dropped for the mtu
 abbrev Row : Type 0
-Row = ℕ × List ℕ × List Outcome × Said Counts
+Row = ℕ × List ℕ × List Outcome × Said Written
 
-abbrev counts : ℕ → ℕ → ℕ → ℕ → Said Counts
+abbrev counts : ℕ → ℕ → ℕ → ℕ → Said Written
 counts packets bytes units pairs = says (record { packets = packets; bytes = bytes; units_dropped = units; pairs_dropped = pairs })
 
 -- the unit with the pair at it
@@ -54,13 +55,13 @@ table =
     ∷ (2, 0 ∷ 0 ∷ 1 ∷ 0x65 ∷ 1 ∷ 2 ∷ 0 ∷ 0 ∷ 1 ∷ (0x67 ∷ replicate 1024 0xAA), without_pair of_unit.DroppedForMtu ∷ without_pair of_unit.Saved ∷ [], refuse 7)
     ∷ []
 
-abbrev asked : Row → List Outcome × Said Counts
+abbrev asked : Row → List Outcome × Said Written
 asked row = (
   outcomes_of row.0 nothing_saved (units_at row.0 row.1),
   (payload_of (lay_out nothing_saved) row.0 row.1 (replicate 16 0) (replicate 4 0)).answer,
 )
 
-abbrev told : Row → List Outcome × Said Counts
+abbrev told : Row → List Outcome × Said Written
 told row = (row.2, row.3)
 
 pub drop_rows : map asked table ≡ map told table

@@ -1,17 +1,15 @@
 -- One call of `payload`, with the sets in the record or in lent buffers: its answer, the state after it, and output and table at exit.
 -- Assumes nothing.
-use Rattle.std.specs.Prelude.{List, Bool, true, false, ◌||◌, ℕ, ltb, length, take}
-use Rattle.error.specs.Said.{Said, says, refused, refuse}
-use Rattle.error.specs.Refusal.{refusal_of}
+use Rattle.std.specs.Prelude.{List, Bool, true, false, ◌||◌, ℕ, ltb, length, take, Result}
+use Rattle.error.specs.declared.Error.{Error}
+use Rattle.error.specs.Said.{Said, said, says, refuse}
 use Rattle.wire.specs.Part.{splice, pad_to}
 use Rattle.wire.specs.Packets.{Sink, whole, joined}
 use Rattle.h264.specs.declared.lent.LentPayloader.{LentPayloader}
-use Rattle.h264.specs.declared.lent.LentSent.{LentSent}
 use Rattle.h264.specs.declared.send.ParameterSet.{ParameterSet}
 use Rattle.h264.specs.declared.send.H264Payloader.{H264Payloader}
 use Rattle.h264.specs.declared.send.Sent.{Sent}
-use Rattle.h264.specs.declared.send.Payloads.{Payloads}
-use Rattle.h264.specs.declared.send.Payloads.TheVariants.{Written, Refused}
+use Rattle.h264.specs.declared.send.Written.{Written}
 use Rattle.annexb.specs.Units.{units_at}
 use Rattle.h264_put.specs.declared.outcome.Drops.{Drops}
 use Rattle.h264_put.specs.Groups.{Saved, keep_all, groups_of, packets_of}
@@ -71,22 +69,10 @@ too_small packets out ends = ltb (length out) (length (joined packets)) || ltb (
 
 -- ---- the call
 
--- how many packets and bytes were written, and how many units and pairs were dropped for the mtu
-pub record Counts : Type 0 where
-  pub packets : ℕ
-  pub bytes : ℕ
-  pub units_dropped : ℕ
-  pub pairs_dropped : ℕ
-
--- what an answer says: the counts, or the paper's number
-abbrev pub said : Payloads → Said Counts
-said (Written packets bytes units pairs) = says (record { packets = packets; bytes = bytes; units_dropped = units; pairs_dropped = pairs })
-said (Refused e) = refused (refusal_of e)
-
 -- what a call leaves: the state, what it says, output and table
 pub record LeftIn (S : Type 0) : Type 0 where
   pub sender : S
-  pub answer : Said Counts
+  pub answer : Said Written
   pub out : List ℕ
   pub ends : List ℕ
 
@@ -94,13 +80,13 @@ abbrev pub Left : Type 0
 Left = LeftIn H264Payloader
 
 -- an answer, beside the state and the buffers at exit
-abbrev pub left_with : {S : Type 0} → S → Payloads → List ℕ → List ℕ → LeftIn S
+abbrev pub left_with : {S : Type 0} → S → Result Written Error → List ℕ → List ℕ → LeftIn S
 left_with state answer out ends = record { sender = state; answer = said answer; out = out; ends = ends }
 
-abbrev pub left : Sent → List ℕ → List ℕ → Left
+abbrev pub left : Sent H264Payloader → List ℕ → List ℕ → Left
 left r out ends = left_with r.sender r.answer out ends
 
-abbrev pub left_lent : LentSent → (sps pps out ends : List ℕ) → LeftIn Lent
+abbrev pub left_lent : Sent LentPayloader → (sps pps out ends : List ℕ) → LeftIn Lent
 left_lent r sps pps out ends = left_with (record { sender = r.sender; sps = sps; pps = pps }) r.answer out ends
 
 -- "A refusal returns its number, no record, length 0, and changes no buffer and no state"

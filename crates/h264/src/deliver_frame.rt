@@ -1,11 +1,10 @@
 // What both senders do with a frame: judge it, measure it, send it. The sets that wait then are said by where they lie.
 ghost use Rattle.std.specs.Prelude.{◌≡◌, ◌||◌, ◌≤◌, ltb, length};
 ghost use Rattle.annexb.specs.Units.{no_units};
-ghost use Rattle.h264_walk.specs.Waiting.{saved_at, Waits, nothing_waits};
-ghost use Rattle.h264.specs.Payload.{held_in, outside_by, said, left_with, sending_of};
-ghost use Rattle.h264.specs.Step.{state_by, NoneBeside};
+ghost use Rattle.h264.specs.Payload.{held_in, outside_by, sending_of};
+ghost use Rattle.h264.specs.Step.{Delivers};
 
-use crate::send::Payloads;
+use crate::send::Written;
 use annexb::first_unit;
 use error::Error;
 use h264_measure::{Measure, measure_frame};
@@ -15,12 +14,13 @@ use h264_walk::{Lies, Waiting, walk};
 // What sending a frame leaves.
 #[derive(Clone, Copy)]
 pub(crate) struct Delivered {
-    // the sets that wait then, by where they lie; none beside a refusal, where all stays as it came
+    // the sets that wait then, by where they lie
     pub waiting: Waiting,
-    pub answer: Payloads,
+    pub written: Written,
 }
 
 // Sends a frame, where the first sps_len bytes of sps and the first pps_len of pps are the sets that wait.
+// Stays: a set is a buffer and a length, as in the records that C sees, and only here is it judged whether the buffer has so many bytes.
 pub(crate) fn deliver<'a>(
     sps: &'a [u8],
     sps_len: usize,
@@ -30,63 +30,45 @@ pub(crate) fn deliver<'a>(
     mtu: usize,
     out: &mut [u8],
     ends: &mut [usize],
-) -> Delivered
+) -> Result<Delivered, Error>
     requires { (1024 ≤ length sps.now) × (1024 ≤ length pps.now) }
-    ensures waits { Waits sps.now pps.now frame.now result.waiting }
-    ensures none_beside { NoneBeside (said result.answer) result.waiting }
-    ensures ends_after { left_with (state_by (said result.answer) (held_in sps.now sps_len pps.now pps_len)
-        (saved_at sps.now pps.now frame.now result.waiting)) result.answer out.new ends.new ≡
-        sending_of (outside_by sps_len pps_len mtu frame.now) (held_in sps.now sps_len pps.now pps_len) mtu
-        frame.now out.old ends.old }
+    ensures { Delivers sps.now pps.now frame.now (held_in sps.now sps_len pps.now pps_len)
+        (sending_of (outside_by sps_len pps_len mtu frame.now) (held_in sps.now sps_len pps.now pps_len) mtu
+        frame.now out.old ends.old) result out.new ends.new }
 {
     if is_outside(sps_len, pps_len, mtu, frame.len()) {
-        return refused(Error::OutsideDomain);
+        return Err(Error::OutsideDomain);
     }
     let before = Waiting {
         sps: Lies::saved(sps_len),
         pps: Lies::saved(pps_len),
     };
     if is_nothing(mtu, frame.len()) {
-        return Delivered {
+        return Ok(Delivered {
             waiting: before,
-            answer: written(Place { at: 0, n: 0 }, Drops { units: 0, pairs: 0 }),
-        };
+            written: written(Place { at: 0, n: 0 }, Drops { units: 0, pairs: 0 }),
+        });
     }
     let first = first_unit(frame);
     let m = measure_frame(frame, first, mtu, sps_len, pps_len);
     if m.long {
-        return refused(Error::OverLimits);
+        return Err(Error::OverLimits);
     }
     if is_too_small(m, out.len(), ends.len()) {
-        return refused(Error::ErrBufferTooSmall);
+        return Err(Error::ErrBufferTooSmall);
     }
     let sent = walk(before, sps, pps, frame, first, mtu, out, ends);
-    let waiting = sent.waiting;
-    let place = sent.place;
-    let drops = sent.drops;
-    Delivered {
-        waiting,
-        answer: written(place, drops),
-    }
-}
-
-fn refused(e: Error) -> Delivered
-    ensures { result ≡ record { waiting = nothing_waits; answer = Payloads.Refused e } }
-{
-    Delivered {
-        waiting: Waiting {
-            sps: Lies::saved(0),
-            pps: Lies::saved(0),
-        },
-        answer: Payloads::Refused(e),
-    }
+    Ok(Delivered {
+        waiting: sent.waiting,
+        written: written(sent.place, sent.drops),
+    })
 }
 
 // What was written up to a place, and what was dropped.
-fn written(place: Place, drops: Drops) -> Payloads
-    ensures { result ≡ Payloads.Written place.n place.at drops.units drops.pairs }
+fn written(place: Place, drops: Drops) -> Written
+    ensures { result ≡ record { packets = place.n; bytes = place.at; units_dropped = drops.units; pairs_dropped = drops.pairs } }
 {
-    Payloads::Written {
+    Written {
         packets: place.n,
         bytes: place.at,
         units_dropped: drops.units,
@@ -98,49 +80,19 @@ fn written(place: Place, drops: Drops) -> Payloads
 fn is_outside(sps: usize, pps: usize, mtu: usize, frame: usize) -> bool
     ensures { result ≡ (ltb 1024 sps || (ltb 1024 pps || (ltb 65535 mtu || ltb 16777216 frame))) }
 {
-    if 1024 < sps {
-        return true;
-    }
-    if 1024 < pps {
-        return true;
-    }
-    if 65535 < mtu {
-        return true;
-    }
-    16777216 < frame
+    1024 < sps || 1024 < pps || 65535 < mtu || 16777216 < frame
 }
 
 // No unit of the frame counts.
 fn is_nothing(mtu: usize, frame: usize) -> bool
     ensures { result ≡ no_units mtu frame }
 {
-    if frame == 0 {
-        return true;
-    }
-    mtu == 0
+    frame == 0 || mtu == 0
 }
 
 // What is measured does not fit output and table.
 fn is_too_small(m: Measure, out: usize, ends: usize) -> bool
     ensures { result ≡ (ltb out m.bytes || ltb ends m.packets) }
 {
-    if out < m.bytes {
-        return true;
-    }
-    ends < m.packets
-}
-
-// Beside a refusal a length stays what it was.
-pub(crate) fn after(answer: Payloads, new: usize, old: usize) -> usize
-    ensures { result ≡ state_by (said answer) old new }
-{
-    match answer {
-        Payloads::Written {
-            packets: _,
-            bytes: _,
-            units_dropped: _,
-            pairs_dropped: _,
-        } => new,
-        Payloads::Refused(_) => old,
-    }
+    out < m.bytes || ends < m.packets
 }

@@ -2,8 +2,8 @@
 ghost use Rattle.std.specs.Prelude.{◌≡◌};
 ghost use Rattle.h264.specs.Payload.{left_lent, lent_of};
 
-use crate::deliver_frame::{after, deliver};
-use crate::send::Payloads;
+use crate::deliver_frame::deliver;
+use crate::send::Sent;
 
 // How many bytes in front of each lent buffer are a parameter set that waits to be sent. The host leaves both buffers alone between calls.
 #[repr(C)]
@@ -13,13 +13,6 @@ pub struct LentPayloader {
     pub sps_len: usize,
     // of the picture parameter set, likewise
     pub pps_len: usize,
-}
-
-// An answer, beside the state after it.
-#[derive(Clone, Copy)]
-pub struct LentSent {
-    pub sender: LentPayloader,
-    pub answer: Payloads,
 }
 
 impl LentPayloader {
@@ -43,26 +36,28 @@ impl LentPayloader {
         frame: &[u8],
         out: &mut [u8],
         ends: &mut [usize],
-    ) -> LentSent
+    ) -> Sent<LentPayloader>
         ensures { left_lent result sps.new pps.new out.new ends.new ≡
             lent_of (record { sender = self; sps = sps.old; pps = pps.old }) mtu
             frame.now out.old ends.old }
     {
-        let sps_len = self.sps_len;
-        let pps_len = self.pps_len;
-        let delivered = deliver(sps, sps_len, pps, pps_len, frame, mtu, out, ends);
-        let answer = delivered.answer;
-        let waiting = delivered.waiting;
-        let of_sps = waiting.sps;
-        let of_pps = waiting.pps;
-        of_sps.store(frame, sps);
-        of_pps.store(frame, pps);
-        LentSent {
-            sender: LentPayloader {
-                sps_len: after(answer, of_sps.len, sps_len),
-                pps_len: after(answer, of_pps.len, pps_len),
+        match deliver(sps, self.sps_len, pps, self.pps_len, frame, mtu, out, ends) {
+            Ok(delivered) => {
+                let waiting = delivered.waiting;
+                waiting.sps.store(frame, sps);
+                waiting.pps.store(frame, pps);
+                Sent {
+                    sender: LentPayloader {
+                        sps_len: waiting.sps.len,
+                        pps_len: waiting.pps.len,
+                    },
+                    answer: Ok(delivered.written),
+                }
+            }
+            Err(e) => Sent {
+                sender: self,
+                answer: Err(e),
             },
-            answer,
         }
     }
 }

@@ -5,7 +5,7 @@ mod deliver_frame; // deliver_frame.rt: what both senders do with a frame
 mod lent; // lent.rt: the sender whose parameter sets lie in lent buffers
 mod send; // send.rt: frames to payloads
 
-pub use annexb::{Found, Search, next_ind};
+pub use annexb::{Code, next_ind};
 pub use h264_put::{AUD_NALU_TYPE, FILLER_NALU_TYPE, PPS_NALU_TYPE, SPS_NALU_TYPE};
-pub use lent::{LentPayloader, LentSent};
-pub use send::{H264Payloader, ParameterSet, Payloads, Sent};
+pub use lent::LentPayloader;
+pub use send::{H264Payloader, ParameterSet, Sent, Written};

@@ -2,15 +2,17 @@
 //
 // The state goes in by value and comes back beside the answer. What is sent goes into one output, packet behind packet, and
 // their ends into a table.
-ghost use Rattle.std.specs.Prelude.{◌≡◌, ◌-◌, ◌≤◌, replicate};
-ghost use Rattle.wire.specs.Part.{splice};
+ghost use Rattle.std.specs.Prelude.{◌≡◌};
 ghost use Rattle.h264_put.specs.Groups.{nothing_saved};
-ghost use Rattle.h264.specs.Payload.{lay_out, left, payload_of};
+ghost use Rattle.h264_walk.specs.Waiting.{bytes_of, Lying};
+ghost use Rattle.h264.specs.Payload.{set_out, lay_out, left, payload_of};
 
-use crate::deliver_frame::{after, deliver};
+use crate::deliver_frame::deliver;
 use error::Error;
+use h264_walk::Lies;
 
 // A parameter set that waits to be sent.
+// Stays: C sees the record: an array and how much of it counts.
 #[repr(C)]
 #[derive(Clone, Copy)]
 pub struct ParameterSet {
@@ -18,6 +20,18 @@ pub struct ParameterSet {
     pub bytes: [u8; 1024],
     // how many they are, 0 to 1,024; 0 for none
     pub len: usize,
+}
+
+impl ParameterSet {
+    // The set that waits then, in front, and zeros behind it.
+    fn keep(&mut self, set: Lies, frame: &[u8])
+        requires { Lying self.old.bytes frame.now set }
+        ensures { self.new ≡ set_out (bytes_of self.old.bytes frame.now set) }
+    {
+        set.store(frame, &mut self.bytes);
+        wire::fill_at(&mut self.bytes, set.len, 1024 - set.len, 0);
+        self.len = set.len;
+    }
 }
 
 #[repr(C)]
@@ -47,32 +61,33 @@ impl H264Payloader {
     }
 
     // The payloads of a frame, each of at most mtu bytes, and how much was dropped for that.
-    pub fn payload(mut self, mtu: usize, frame: &[u8], out: &mut [u8], ends: &mut [usize]) -> Sent
+    pub fn payload(
+        mut self,
+        mtu: usize,
+        frame: &[u8],
+        out: &mut [u8],
+        ends: &mut [usize],
+    ) -> Sent<H264Payloader>
         ensures { left result out.new ends.new ≡
             payload_of self mtu frame.now out.old ends.old }
     {
-        let sps_len = self.sps.len;
-        let pps_len = self.pps.len;
-        let delivered = deliver(
+        let answer = match deliver(
             &self.sps.bytes,
-            sps_len,
+            self.sps.len,
             &self.pps.bytes,
-            pps_len,
+            self.pps.len,
             frame,
             mtu,
             out,
             ends,
-        );
-        let answer = delivered.answer;
-        let waiting = delivered.waiting;
-        let sps = waiting.sps;
-        let pps = waiting.pps;
-        sps.store(frame, &mut self.sps.bytes);
-        pps.store(frame, &mut self.pps.bytes);
-        clear_from(&mut self.sps.bytes, after(answer, sps.len, 1024));
-        clear_from(&mut self.pps.bytes, after(answer, pps.len, 1024));
-        self.sps.len = after(answer, sps.len, sps_len);
-        self.pps.len = after(answer, pps.len, pps_len);
+        ) {
+            Ok(delivered) => {
+                self.sps.keep(delivered.waiting.sps, frame);
+                self.pps.keep(delivered.waiting.pps, frame);
+                Ok(delivered.written)
+            }
+            Err(e) => Err(e),
+        };
         Sent {
             sender: self,
             answer,
@@ -80,29 +95,22 @@ impl H264Payloader {
     }
 }
 
+// The payloads of a frame.
 #[derive(Clone, Copy)]
-pub enum Payloads {
-    // how many packets, how many bytes they have together, and how many units and pairs of parameter sets were dropped for the mtu
-    Written {
-        packets: usize,
-        bytes: usize,
-        units_dropped: usize,
-        pairs_dropped: usize,
-    },
-    Refused(Error),
+pub struct Written {
+    // how many packets
+    pub packets: usize,
+    // how many bytes they have together
+    pub bytes: usize,
+    // how many units were dropped for the mtu
+    pub units_dropped: usize,
+    // how many pairs of parameter sets were dropped for the mtu
+    pub pairs_dropped: usize,
 }
 
-// An answer, beside the state after it.
+// An answer, beside the state after it: of either sender.
 #[derive(Clone, Copy)]
-pub struct Sent {
-    pub sender: H264Payloader,
-    pub answer: Payloads,
-}
-
-// Zeros from a place on. A record that comes back as it came has them from 1,024 on, which is none.
-fn clear_from(bytes: &mut [u8; 1024], at: usize)
-    requires { at ≤ 1024 }
-    ensures { bytes.new ≡ splice bytes.old at (replicate (1024 - at) 0) }
-{
-    wire::fill_at(bytes, at, 1024 - at, 0);
+pub struct Sent<S> {
+    pub sender: S,
+    pub answer: Result<Written, Error>,
 }

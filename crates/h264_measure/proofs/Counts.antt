@@ -64,12 +64,12 @@ later_many head (suc fuel) size s pos some h =
 -- all fragments of a unit
 fragments_many : (size : ℕ) (u : List ℕ) → 0 < size → size + 1 < length u → Many (packets_of (fragments_of size u)) (length u - 1) size
 fragments_many size u pos h =
-    let left : length (drop (1 + size) u) ≡ length u - (1 + size) = length-drop (1 + size) u in
-    let whole : size + length (drop (1 + size) u) ≡ length u - 1 = omega arith in
+    let left : length (drop size (drop 1 u)) ≡ length u - 1 - size = length-drop size (drop 1 u) ∙ ap (λ (n : ℕ). n - size) (length-drop 1 u) in
+    let whole : size + length (drop size (drop 1 u)) ≡ length u - 1 = omega arith in
     let first : length (take size (drop 1 u)) ≡ size = length-take-le size (drop 1 u) (rw (length-drop 1 u) (omega arith)) in
     subst₂ (λ (ps : List (List ℕ)) (n : ℕ). Many ps n size) (sym (fragments_packets size u (omega arith))) whole
-    (many_more (get_or u 0 0) 128 size (length (drop (1 + size) u)) (take size (drop 1 u)) _ pos (omega arith) first
-    (later_many (get_or u 0 0) (length u - 1) size (drop (1 + size) u) pos (omega arith) (omega arith)))
+    (many_more (get_or u 0 0) 128 size (length (drop size (drop 1 u))) (take size (drop 1 u)) _ pos (omega arith) first
+    (later_many (get_or u 0 0) (length u - 1) size (drop size (drop 1 u)) pos (omega arith) (omega arith)))
 
 -- ---- a unit, in the order of the code's tests
 

@@ -7,6 +7,7 @@ use native.Mathlib.Nat.{add-zero}
 use native.Mathlib.Omega.{arith}
 use lib.Dec.{ltb}
 use lib.ListN.{length, take, drop, length-append}
+use Rattle.std.specs.Prelude.{Some, None}
 use Rattle.wire.specs.Packets.{joined}
 use Rattle.wire.proofs.Packets.{joined_append}
 use Rattle.h264_put.specs.declared.fate.Fate.{Fate}
@@ -201,25 +202,25 @@ module _
         ∙ sym (ap (measured_all m mtu (g.saved v l)) e)
         ∙ g.same v l
 
-    pub measuring_last : piece.more ≡ false → (v : Saved) → Lengths v sps pps → r ≡ measured_all (nothing_yet sps pps) mtu v (units frame)
+    pub measuring_last : piece.next ≡ None → (v : Saved) → Lengths v sps pps → r ≡ measured_all (nothing_yet sps pps) mtu v (units frame)
     unfolding unit
     measuring_last e v l =
         turned v l [] (piece_end frame start piece p e)
 
-    pub measuring_on : piece.more ≡ true → Measuring frame mtu sps pps piece.next r
+    pub measuring_on : (next : ℕ) → piece.next ≡ Some next → Measuring frame mtu sps pps next r
     unfolding unit measured
-    measuring_on e =
-        let onward : piece.end < piece.next = piece_onward frame start piece p e in
+    measuring_on next e =
+        let onward = piece_onward frame start piece p next e in
         let len : length (take (piece.end - start) (drop start frame)) ≡ piece.end - start = piece_length frame start piece p in
         record {
-          within = p.within;
-          packets = omega (arith, g.packets, grown.packets, p.from);
-          bytes = omega (arith, g.bytes, grown.bytes, p.from);
+          within = onward.1;
+          packets = omega (arith, g.packets, grown.packets, p.from, onward.0);
+          bytes = omega (arith, g.bytes, grown.bytes, p.from, onward.0);
           of_sps = grown.sps;
           of_pps = grown.pps;
           saved = λ v l. keep (g.saved v l) unit;
           lengths = λ v l.
               let q = is (g.saved v l) (g.lengths v l) in
               record { of_sps = sym (ap (λ (x : Measure). x.sps) q); of_pps = sym (ap (λ (x : Measure). x.pps) q) };
-          same = λ v l. turned v l (pieces (drop piece.next frame)) (piece_more frame start piece p e);
+          same = λ v l. turned v l (pieces (drop next frame)) (piece_more frame start piece p next e);
         }

@@ -4,13 +4,13 @@
 // a byte is written. Only proved code calls this crate, so its functions may ask that a frame is within the limits.
 #![tactic(auto)]
 
-ghost use Rattle.std.specs.Prelude.{◌≡◌, List, ℕ, ◌+◌, ◌*◌, ◌≤◌, ◌<◌, ◌||◌, ltb, length, drop};
+ghost use Rattle.std.specs.Prelude.{◌≡◌, List, ℕ, ◌+◌, ◌*◌, ◌≤◌, ◌<◌, length, drop};
 ghost use Rattle.h264_put.specs.Groups.{Saved, fate_of, unit_for, packets_of};
 ghost use Rattle.annexb.specs.Units.{units, pieces};
 ghost use Rattle.h264_measure.specs.Measured.{size_of, Lengths, Small, Grown, measured, measured_all, nothing_yet};
 
 use annexb::unit_at;
-use h264_put::{Fate, both, fate_of};
+use h264_put::{Fate, fate_of};
 
 #[derive(Clone, Copy)]
 pub struct Size {
@@ -52,9 +52,11 @@ pub struct Measure {
     pub sps: usize,
     pub pps: usize,
     // whether a set of over 1,024 bytes was among them
+    // Stays: what follows a set that is too long is measured too, as `measured_all` defines it.
     pub long: bool,
 }
 
+// Stays: the mtu is asked to be at most 65,535 by each method: a type for it would be made once and taken apart in each sum.
 impl Measure {
     // A unit of len bytes that is neither dropped nor saved.
     fn coded(self, mtu: usize, len: usize) -> Measure
@@ -65,31 +67,28 @@ impl Measure {
         let unit = unit_size(len, mtu);
         let packets = self.packets + unit.packets;
         let bytes = self.bytes + unit.bytes;
-        if both(self.sps, self.pps) {
-            let pair = 5 + self.sps + self.pps;
-            if pair <= mtu {
-                return Measure {
-                    packets: packets + 1,
-                    bytes: bytes + pair,
-                    sps: 0,
-                    pps: 0,
-                    long: self.long,
-                };
-            }
+        if self.sps == 0 || self.pps == 0 {
             return Measure {
                 packets,
                 bytes,
-                sps: 0,
-                pps: 0,
-                long: self.long,
+                ..self
             };
         }
-        Measure {
+        let behind = Measure {
             packets,
             bytes,
-            sps: self.sps,
-            pps: self.pps,
-            long: self.long,
+            sps: 0,
+            pps: 0,
+            ..self
+        };
+        let pair = 5 + self.sps + self.pps;
+        if mtu < pair {
+            return behind;
+        }
+        Measure {
+            packets: packets + 1,
+            bytes: bytes + pair,
+            ..behind
         }
     }
 
@@ -100,35 +99,20 @@ impl Measure {
             ((v : Saved) → Lengths v self.sps self.pps → result ≡ measured self mtu v unit.now) }
     {
         match fate_of(unit) {
-            Fate::Empty => self,
-            Fate::Dropped => self,
+            Fate::Empty | Fate::Dropped => self,
             Fate::Sps => Measure {
-                packets: self.packets,
-                bytes: self.bytes,
                 sps: unit.len(),
-                pps: self.pps,
-                long: over(self.long, unit.len()),
+                long: self.long || 1024 < unit.len(),
+                ..self
             },
             Fate::Pps => Measure {
-                packets: self.packets,
-                bytes: self.bytes,
-                sps: self.sps,
                 pps: unit.len(),
-                long: over(self.long, unit.len()),
+                long: self.long || 1024 < unit.len(),
+                ..self
             },
             Fate::Coded => self.coded(mtu, unit.len()),
         }
     }
-}
-
-// A set of len bytes is over the limit, or one before it was.
-fn over(long: bool, len: usize) -> bool
-    ensures { result ≡ (long || ltb 1024 len) }
-{
-    if long {
-        return true;
-    }
-    1024 < len
 }
 
 // What all units of a frame take, the first of which starts at first, where sets of these lengths are saved.
@@ -145,13 +129,14 @@ pub fn measure_frame(frame: &[u8], first: usize, mtu: usize, sps: usize, pps: us
         pps,
         long: false,
     };
+    // Stays: a loop, since where the next unit starts is found with the end of this one, in one search.
     loop {
         let piece = unit_at(frame, start);
         let end = piece.end;
         m = m.add(mtu, &frame[start..end]);
-        if !piece.more {
+        let Some(next) = piece.next else {
             break m;
-        }
-        start = piece.next;
+        };
+        start = next;
     }
 }

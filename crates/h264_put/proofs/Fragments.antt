@@ -6,7 +6,7 @@ use Prim.Native.Nat.{ℕ, zero, suc, ◌+◌, ◌-◌, ◌≤◌, ◌<◌}
 use native.Mathlib.Nat.{not-suc-le-zero}
 use native.Mathlib.Omega.{arith}
 use lib.ListN.{length, take, drop, get_or, length-drop}
-use lib.Seq.{take_all, drop-drop}
+use lib.Seq.{take_all}
 use borrow.Author.Tests.{le-leb, lt-leb}
 use Rattle.wire.specs.Packets.{Sink, Room, put, put_all}
 use Rattle.wire.proofs.Packets.{room_first, room_rest}
@@ -49,116 +49,108 @@ later_last head fuel size s h = ap (later_of head) (parts_last fuel size s h)
 
 pub fragments_packets : (size : ℕ) (unit : List ℕ) → 0 < length unit →
     packets_of (fragments_of size unit) ≡
-    fragment (get_or unit 0 0) 128 (take size (drop 1 unit)) ∷ later (get_or unit 0 0) (length unit - 1) size (drop (1 + size) unit)
+    fragment (get_or unit 0 0) 128 (take size (drop 1 unit)) ∷ later (get_or unit 0 0) (length unit - 1) size (drop size (drop 1 unit))
 fragments_packets size [] h = absurd (not-suc-le-zero h)
 fragments_packets size (b ∷ s) h =
-    let k : 1 + size ≡ suc size = omega arith in
     let l : suc (length s) - 1 ≡ length s = omega arith in
     append-nil (fragment b 128 (take size s) ∷ later b (length s) size (drop size s))
-    ∙ sym (ap₂ (λ (f i : ℕ). fragment b 128 (take size s) ∷ later b f size (drop i (b ∷ s))) l k)
+    ∙ sym (ap (λ (f : ℕ). fragment b 128 (take size s) ∷ later b f size (drop size s)) l)
 
--- ---- the loop that writes them: from the byte i of the unit on, what is still to be put leads to the goal
-
--- a part as the code lends it
-middle_part : (unit : List ℕ) (i size : ℕ) → take (i + size - i) (drop i unit) ≡ take size (drop i unit)
-middle_part unit i size = let k : i + size - i ≡ size = omega arith in ap (λ (j : ℕ). take j (drop i unit)) k
-
-last_part : (unit : List ℕ) (i : ℕ) → take (length unit - i) (drop i unit) ≡ drop i unit
-last_part unit i = take_all (length unit - i) (drop i unit) (rw (length-drop i unit) (omega arith))
+-- ---- the loop that writes them: what is still to be put of the rest of the unit leads to the goal
 
 -- room for a fragment of a part, and a place for its end
 pub record RoomFor (s : Sink) (part : List ℕ) : Type 0 where
   pub bytes : s.at + (2 + length part) ≤ length s.out
   pub place : s.n < length s.ends
 
-room_for : (s : Sink) (head bits : ℕ) (part part' : List ℕ) (ps : List (List ℕ)) → part ≡ part' → Room s (fragment head bits part' ∷ ps) → RoomFor s part
-room_for s head bits part part' ps e room =
-    let r = room_first s (fragment head bits part') ps room in
-    let f : length (fragment head bits part') ≡ 2 + length part' = length_fragment head bits part' in
-    record { bytes = rw (ap length e) (omega (arith, r.0)); place = r.1 }
+room_for : (s : Sink) (head bits : ℕ) (part : List ℕ) (ps : List (List ℕ)) → Room s (fragment head bits part ∷ ps) → RoomFor s part
+room_for s head bits part ps room =
+    let r = room_first s (fragment head bits part) ps room in
+    let f : length (fragment head bits part) ≡ 2 + length part = length_fragment head bits part in
+    record { bytes = omega (arith, r.0); place = r.1 }
 
-module _ (unit : List ℕ) (size head : ℕ) (goal : Sink) where
-  pub record Going (s : Sink) (i : ℕ) : Type 0 where
+module _ (size head : ℕ) (goal : Sink) where
+  pub record Going (s : Sink) (rest : List ℕ) : Type 0 where
     pub fuel : ℕ
-    pub enough : length unit ≤ i + fuel
-    pub within : i < length unit
-    pub room : Room s (later head fuel size (drop i unit))
-    pub same : put_all s (later head fuel size (drop i unit)) ≡ goal
+    pub enough : length rest ≤ fuel
+    pub room : Room s (later head fuel size rest)
+    pub same : put_all s (later head fuel size rest) ≡ goal
 
-  module _ (s : Sink) (i : ℕ) (g : Going s i) where
-    left : length (drop i unit) ≡ length unit - i
-    left = length-drop i unit
-
+  module _ (s : Sink) (rest : List ℕ) (g : Going s rest) where
     -- one more of `size` bytes
-    module _ (pos : 0 < size) (long : size < length unit - i) where
+    module _ (pos : 0 < size) (long : size < length rest) (part : List ℕ) (front : part ≡ take size rest) where
       then : List (List ℕ)
-      then = later head (g.fuel - 1) size (drop (i + size) unit)
+      then = later head (g.fuel - 1) size (drop size rest)
 
-      next_is : later head g.fuel size (drop i unit) ≡ fragment head 0 (take size (drop i unit)) ∷ then
+      next_is : later head g.fuel size rest ≡ fragment head 0 part ∷ then
       unfolding then
       next_is =
-          later_more head g.fuel size (drop i unit) (rw left long) (omega (arith, g.enough))
-          ∙ ap (λ (l : List ℕ). fragment head 0 (take size (drop i unit)) ∷ later head (g.fuel - 1) size l) (drop-drop size i unit)
+          later_more head g.fuel size rest long (omega (arith, g.enough))
+          ∙ sym (ap (λ (l : List ℕ). fragment head 0 l ∷ later head (g.fuel - 1) size (drop size rest)) front)
 
-      room_now : Room s (fragment head 0 (take size (drop i unit)) ∷ then)
+      room_now : Room s (fragment head 0 part ∷ then)
       room_now = subst (Room s) next_is g.room
 
-      pub room_next : RoomFor s (take (i + size - i) (drop i unit))
-      room_next = room_for s head 0 (take (i + size - i) (drop i unit)) (take size (drop i unit)) then (middle_part unit i size) room_now
+      pub room_next : RoomFor s part
+      room_next = room_for s head 0 part then room_now
 
-      pub going_on : (s' : Sink) → s' ≡ put s (fragment head 0 (take (i + size - i) (drop i unit))) → Going s' (i + size)
+      pub going_on : (s' : Sink) → s' ≡ put s (fragment head 0 part) → (behind : List ℕ) → behind ≡ drop size rest → Going s' behind
       unfolding then
-      going_on s' e =
-          let e' : s' ≡ put s (fragment head 0 (take size (drop i unit))) =
-          e ∙ ap (λ (l : List ℕ). put s (fragment head 0 l)) (middle_part unit i size) in
-          record {
+      going_on s' e behind back =
+          subst (Going s') (sym back)
+          (record {
             fuel = g.fuel - 1;
-            enough = omega (arith, g.enough);
-            within = omega (arith, g.within);
-            room = subst (λ (x : Sink). Room x then) (sym e') (room_rest s (fragment head 0 (take size (drop i unit))) then room_now);
-            same = ap (λ (x : Sink). put_all x then) e' ∙ sym (ap (put_all s) next_is) ∙ g.same;
-          }
+            enough = omega (arith, g.enough, length-drop size rest);
+            room = subst (λ (x : Sink). Room x then) (sym e) (room_rest s (fragment head 0 part) then room_now);
+            same = ap (λ (x : Sink). put_all x then) e ∙ sym (ap (put_all s) next_is) ∙ g.same;
+          })
 
     -- the last
-    module _ (short : length unit - i ≤ size) where
-      last_is : later head g.fuel size (drop i unit) ≡ fragment head 64 (drop i unit) ∷ []
-      last_is = later_last head g.fuel size (drop i unit) (rw left short)
+    module _ (short : length rest ≤ size) where
+      last_is : later head g.fuel size rest ≡ fragment head 64 rest ∷ []
+      last_is = later_last head g.fuel size rest short
 
-      pub room_last : RoomFor s (take (length unit - i) (drop i unit))
-      room_last =
-          room_for s head 64 (take (length unit - i) (drop i unit)) (drop i unit) [] (last_part unit i) (subst (Room s) last_is g.room)
+      pub room_last : RoomFor s rest
+      room_last = room_for s head 64 rest [] (subst (Room s) last_is g.room)
 
-      pub going_last : put s (fragment head 64 (take (length unit - i) (drop i unit))) ≡ goal
-      going_last = ap (λ (l : List ℕ). put s (fragment head 64 l)) (last_part unit i) ∙ sym (ap (put_all s) last_is) ∙ g.same
+      pub going_last : put s (fragment head 64 rest) ≡ goal
+      going_last = sym (ap (put_all s) last_is) ∙ g.same
+
+-- the bytes behind the first, as the code lends them
+behind_first : (unit : List ℕ) → take (length unit - 1) (drop 1 unit) ≡ drop 1 unit
+behind_first unit = take_all (length unit - 1) (drop 1 unit) (rw (length-drop 1 unit) (omega arith))
 
 -- the first, and what it leaves to be put
-module _ (unit : List ℕ) (size : ℕ) (s : Sink) (long : size + 1 < length unit) (room : Room s (packets_of (fragments_of size unit))) where
-  all_is : packets_of (fragments_of size unit) ≡
-      fragment (get_or unit 0 0) 128 (take size (drop 1 unit)) ∷ later (get_or unit 0 0) (length unit - 1) size (drop (1 + size) unit)
-  all_is = fragments_packets size unit (omega arith)
+module _
+    (unit : List ℕ) (size : ℕ) (s : Sink) (long : size + 1 < length unit) (room : Room s (packets_of (fragments_of size unit))) (part rest : List ℕ)
+    (front : part ≡ take size (take (length unit - 1) (drop 1 unit))) (back : rest ≡ drop size (take (length unit - 1) (drop 1 unit)))
+  where
+    rest_is : rest ≡ drop size (drop 1 unit)
+    rest_is = back ∙ ap (drop size) (behind_first unit)
 
-  pub room_first_part : RoomFor s (take (1 + size - 1) (drop 1 unit))
-  room_first_part =
-      room_for s (get_or unit 0 0) 128 (take (1 + size - 1) (drop 1 unit)) (take size (drop 1 unit))
-      (later (get_or unit 0 0) (length unit - 1) size (drop (1 + size) unit)) (middle_part unit 1 size) (subst (Room s) all_is room)
+    then_all : List (List ℕ)
+    then_all = later (get_or unit 0 0) (length unit - 1) size rest
 
-  module _ (s' : Sink) (e : s' ≡ put s (fragment (get_or unit 0 0) 128 (take (1 + size - 1) (drop 1 unit)))) where
-    after_first : s' ≡ put s (fragment (get_or unit 0 0) 128 (take size (drop 1 unit)))
-    after_first = e ∙ ap (λ (l : List ℕ). put s (fragment (get_or unit 0 0) 128 l)) (middle_part unit 1 size)
+    all_is : packets_of (fragments_of size unit) ≡ fragment (get_or unit 0 0) 128 part ∷ then_all
+    unfolding then_all
+    all_is =
+        fragments_packets size unit (omega arith)
+        ∙ sym (ap₂ (λ (p r : List ℕ). fragment (get_or unit 0 0) 128 p ∷ later (get_or unit 0 0) (length unit - 1) size r)
+        (front ∙ ap (take size) (behind_first unit)) rest_is)
 
-    pub going_first : Going unit size (get_or unit 0 0) (put_all s' (later (get_or unit 0 0) (length unit - 1) size (drop (1 + size) unit))) s' (1 + size)
-    going_first =
-        let then : List (List ℕ) = later (get_or unit 0 0) (length unit - 1) size (drop (1 + size) unit) in
+    room_all : Room s (fragment (get_or unit 0 0) 128 part ∷ then_all)
+    room_all = subst (Room s) all_is room
+
+    pub room_first_part : RoomFor s part
+    room_first_part = room_for s (get_or unit 0 0) 128 part then_all room_all
+
+    pub going_first : (s' : Sink) → s' ≡ put s (fragment (get_or unit 0 0) 128 part) →
+        Going size (get_or unit 0 0) (put_all s (packets_of (fragments_of size unit))) s' rest
+    unfolding then_all
+    going_first s' e =
         record {
           fuel = length unit - 1;
-          enough = omega arith;
-          within = omega arith;
-          room = subst (λ (x : Sink). Room x then) (sym after_first)
-              (room_rest s (fragment (get_or unit 0 0) 128 (take size (drop 1 unit))) then (subst (Room s) all_is room));
-          same = refl;
+          enough = omega (arith, ap length rest_is, length-drop size (drop 1 unit), length-drop 1 unit);
+          room = subst (λ (x : Sink). Room x then_all) (sym e) (room_rest s (fragment (get_or unit 0 0) 128 part) then_all room_all);
+          same = ap (λ (x : Sink). put_all x then_all) e ∙ sym (ap (put_all s) all_is);
         }
-
-    pub first_same : put_all s' (later (get_or unit 0 0) (length unit - 1) size (drop (1 + size) unit)) ≡ put_all s (packets_of (fragments_of size unit))
-    first_same =
-        ap (λ (x : Sink). put_all x (later (get_or unit 0 0) (length unit - 1) size (drop (1 + size) unit))) after_first
-        ∙ sym (ap (put_all s) all_is)

@@ -1,7 +1,8 @@
 -- What becomes of a unit and of the pair at it, by the code's tests on their sizes. Assumes nothing.
-use mathlib.Core.Path.{◌≡◌, refl, sym, ap, ap₂}
+use mathlib.Core.Path.{◌≡◌, refl, sym, ap, ap₂, ◌∙◌}
+use mathlib.Core.Logic.{◌⊎◌, inl, inr}
 use mathlib.Core.List.{List, [], ◌∷◌}
-use mathlib.Core.Bool.{Bool, true, false, cond}
+use mathlib.Core.Bool.{Bool, true, false, cond, ◌&&◌, and-false}
 use Prim.Native.Nat.{ℕ, ◌+◌, ◌≤◌, ◌<◌}
 use native.Mathlib.Nat.{zero-add, add-zero, add_assoc}
 use native.Mathlib.Omega.{arith}
@@ -45,6 +46,14 @@ module _ (mtu : ℕ) (v : Saved) where
 
   pub due_sent : both_saved v ≡ true → 5 + length v.sps + length v.pps ≤ mtu → of_pair.Sent ≡ pair_outcome mtu v
   due_sent e h = by_pair true true e (le-leb (length (stap_a v.sps v.pps)) mtu (rw (length_stap_a v.sps v.pps) h))
+
+-- whether both sets are there, by their lengths
+pub both_there : (s p : ℕ) → 0 < s → 0 < p → (ltb 0 s && ltb 0 p) ≡ true
+both_there s p h g = ap₂ ◌&&◌ (lt-ltb 0 s h) (lt-ltb 0 p g)
+
+pub one_missing : (s p : ℕ) → (s ≡ 0) ⊎ (p ≡ 0) → (ltb 0 s && ltb 0 p) ≡ false
+one_missing s p (inl e) = ap (λ (n : ℕ). ltb 0 n && ltb 0 p) e
+one_missing s p (inr e) = ap (λ (n : ℕ). ltb 0 s && ltb 0 n) e ∙ and-false (ltb 0 s)
 
 -- ---- the counts
 

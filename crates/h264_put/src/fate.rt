@@ -5,9 +5,10 @@
 // +-+-+-+-+-+-+-+-+
 // |F|NRI|  Type   |
 // +---------------+
-ghost use Rattle.std.specs.Prelude.{◌≡◌, ◌&&◌, ltb};
+ghost use Rattle.std.specs.Prelude.{◌≡◌};
 ghost use Rattle.h264_put.specs.Groups.{fate_of};
 
+// Stays: numbers of the wire, under the names that the Rust gives them.
 pub const SPS_NALU_TYPE: u8 = 7;
 
 pub const PPS_NALU_TYPE: u8 = 8;
@@ -33,7 +34,7 @@ pub enum Fate {
 pub fn fate_of(unit: &[u8]) -> Fate
     ensures { result ≡ fate_of unit.now }
 {
-    if unit.len() == 0 {
+    if unit.is_empty() {
         return Fate::Empty;
     }
     match unit[0] % 32 {
@@ -42,14 +43,4 @@ pub fn fate_of(unit: &[u8]) -> Fate
         PPS_NALU_TYPE => Fate::Pps,
         _ => Fate::Coded,
     }
-}
-
-// Both parameter sets wait, by their lengths.
-pub fn both(sps: usize, pps: usize) -> bool
-    ensures { result ≡ (ltb 0 sps && ltb 0 pps) }
-{
-    if sps == 0 {
-        return false;
-    }
-    0 < pps
 }

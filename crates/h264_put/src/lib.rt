@@ -7,8 +7,6 @@ mod fate;
 mod outcome;
 mod put;
 
-pub use fate::{
-    AUD_NALU_TYPE, FILLER_NALU_TYPE, Fate, PPS_NALU_TYPE, SPS_NALU_TYPE, both, fate_of,
-};
+pub use fate::{AUD_NALU_TYPE, FILLER_NALU_TYPE, Fate, PPS_NALU_TYPE, SPS_NALU_TYPE, fate_of};
 pub use outcome::{Drops, Outcome, PairOutcome, UnitOutcome};
 pub use put::{Place, PutUnit, put_pair, put_unit};

@@ -1,8 +1,8 @@
 // What became of a unit and of the pair that may stand before it, and how many of each were dropped for the mtu.
 ghost use Rattle.std.specs.Prelude.{◌≡◌, ◌≤◌};
-ghost use Rattle.h264_put.specs.Outcomes.{one, unit_dropped, pair_dropped, counted};
+ghost use Rattle.h264_put.specs.Outcomes.{counted};
 
-#[derive(Clone, Copy)]
+#[derive(Clone, Copy, PartialEq, Eq)]
 pub enum UnitOutcome {
     // it has no byte
     Empty,
@@ -16,7 +16,7 @@ pub enum UnitOutcome {
     DroppedForMtu,
 }
 
-#[derive(Clone, Copy)]
+#[derive(Clone, Copy, PartialEq, Eq)]
 pub enum PairOutcome {
     // no unit came that is to be sent, or one that has not both sets before it
     NotDue,
@@ -50,33 +50,9 @@ impl Drops {
         requires { (self.units ≤ 16777216) × (self.pairs ≤ 16777216) }
         ensures { result ≡ counted self outcome }
     {
-        let unit = outcome.unit;
-        let pair = outcome.pair;
         Drops {
-            units: self.units + unit_dropped(unit),
-            pairs: self.pairs + pair_dropped(pair),
+            units: self.units + usize::from(outcome.unit == UnitOutcome::DroppedForMtu),
+            pairs: self.pairs + usize::from(outcome.pair == PairOutcome::DroppedForMtu),
         }
-    }
-}
-
-fn unit_dropped(unit: UnitOutcome) -> usize
-    ensures { result ≡ one (unit_dropped unit) }
-{
-    match unit {
-        UnitOutcome::Empty => 0,
-        UnitOutcome::DroppedByType => 0,
-        UnitOutcome::Saved => 0,
-        UnitOutcome::Sent => 0,
-        UnitOutcome::DroppedForMtu => 1,
-    }
-}
-
-fn pair_dropped(pair: PairOutcome) -> usize
-    ensures { result ≡ one (pair_dropped pair) }
-{
-    match pair {
-        PairOutcome::NotDue => 0,
-        PairOutcome::Sent => 0,
-        PairOutcome::DroppedForMtu => 1,
     }
 }

@@ -12,6 +12,7 @@ ghost use Rattle.h264_put.specs.Outcomes.{unit_outcome};
 use crate::outcome::UnitOutcome;
 
 // How far output and table are written.
+// Stays: output and table of ends are two slices of the caller's, as the paper has them, and go by themselves through all that writes to them.
 #[derive(Clone, Copy)]
 pub struct Place {
     // bytes of the output
@@ -21,6 +22,7 @@ pub struct Place {
 }
 
 // A packet as it is.
+// Stays: each of the three asks for room for its own packet and writes its own head; what they share is where it ends.
 fn put_plain(packet: &[u8], out: &mut [u8], ends: &mut [usize], to: Place) -> Place
     requires { (to.at + length packet.now ≤ length out.old) × (to.n < length ends.old) }
     ensures { sink_at out.new ends.new result ≡
@@ -103,6 +105,7 @@ fn put_fragment(
 }
 
 // A unit in fragments of size bytes, the last of what is left. The unit's first byte is in none of them.
+// Stays: a loop over what is left, since the last fragment has its end bit, and no other.
 fn put_fragments(unit: &[u8], size: usize, out: &mut [u8], ends: &mut [usize], to: Place) -> Place
     requires { (0 < size) × (size + 1 < length unit.now) ×
         Room (sink_at out.old ends.old to) (packets_of (fragments_of size unit.now)) }
@@ -110,14 +113,14 @@ fn put_fragments(unit: &[u8], size: usize, out: &mut [u8], ends: &mut [usize], t
         put_all (sink_at out.old ends.old to) (packets_of (fragments_of size unit.now)) }
 {
     let head = unit[0];
-    let mut i = 1 + size;
-    let mut p = put_fragment(head, 128, &unit[1..i], out, ends, to);
-    while size < unit.len() - i {
-        let next = i + size;
-        p = put_fragment(head, 0, &unit[i..next], out, ends, p);
-        i = next;
+    let (part, mut rest) = unit[1..].split_at(size);
+    let mut p = put_fragment(head, 128, part, out, ends, to);
+    while size < rest.len() {
+        let (part, behind) = rest.split_at(size);
+        p = put_fragment(head, 0, part, out, ends, p);
+        rest = behind;
     }
-    put_fragment(head, 64, &unit[i..], out, ends, p)
+    put_fragment(head, 64, rest, out, ends, p)
 }
 
 // What putting a unit leaves.

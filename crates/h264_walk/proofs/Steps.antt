@@ -2,8 +2,9 @@
 use mathlib.Core.Path.{◌≡◌, refl, sym, ap, subst, ◌∙◌}
 use mathlib.Core.List.{List, ◌++◌}
 use mathlib.Core.Bool.{Bool, true, ◌&&◌}
-use Prim.Native.Nat.{ℕ, ◌+◌, ◌-◌, ◌≤◌}
+use Prim.Native.Nat.{ℕ, ◌-◌, ◌≤◌}
 use lib.Dec.{ltb}
+use Rattle.std.specs.Prelude.{Some}
 use lib.ListN.{length}
 use borrow.Author.Tests.{ltb-false}
 use Rattle.wire.specs.Packets.{Sink, Room, put_all}
@@ -75,12 +76,12 @@ module _ {sps pps frame : List ℕ} {w : Waiting} {start end mtu : ℕ} {s : Sin
         (sym (ap (λ (b : Bool). b && ltb 1024 (length u)) (ap is_saved e ∙ q)) ∙ r.short)
 
     -- and lies in the frame
-    lies : (k : Fate) → fate_of u ≡ k → is_saved k ≡ true → (held : List ℕ) (l : Lies) → l ≡ record { from = start + 1; len = end - start } →
+    lies : (k : Fate) → fate_of u ≡ k → is_saved k ≡ true → (held : List ℕ) (l : Lies) → l ≡ record { at = Some start; len = end - start } →
         Lying held frame l × (bytes_of held frame l ≡ u)
     unfolding u
     lies k e q held l a = lies_here held frame start end r.from r.within (short_by k e q) l a
 
-    pub done_sps : fate_of (unit_in frame start end) ≡ Sps → (l : Lies) → l ≡ record { from = start + 1; len = end - start } → w' ≡ record { sps = l; pps = w.pps } →
+    pub done_sps : fate_of (unit_in frame start end) ≡ Sps → (l : Lies) → l ≡ record { at = Some start; len = end - start } → w' ≡ record { sps = l; pps = w.pps } →
         Emits sps pps frame w start end mtu s w' s'
     unfolding u v
     done_sps e l a q =
@@ -88,7 +89,7 @@ module _ {sps pps frame : List ℕ} {w : Waiting} {start end mtu : ℕ} {s : Sin
         done_by Sps e w' s' (subst (Waits sps pps frame) (sym q) (record { of_sps = x.0; of_pps = r.waits.of_pps }))
         (ap (saved_at sps pps frame) q ∙ ap (λ (y : List ℕ). record { sps = y; pps = bytes_of pps frame w.pps }) x.1) b
 
-    pub done_pps : fate_of (unit_in frame start end) ≡ Pps → (l : Lies) → l ≡ record { from = start + 1; len = end - start } → w' ≡ record { sps = w.sps; pps = l } →
+    pub done_pps : fate_of (unit_in frame start end) ≡ Pps → (l : Lies) → l ≡ record { at = Some start; len = end - start } → w' ≡ record { sps = w.sps; pps = l } →
         Emits sps pps frame w start end mtu s w' s'
     unfolding u v
     done_pps e l a q =

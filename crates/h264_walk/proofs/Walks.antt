@@ -1,15 +1,15 @@
 -- The walk over a frame's units: what is still to be sent leads from here to the goal. Assumes nothing.
 use mathlib.Core.Path.{◌≡◌, refl, sym, ap, subst, subst₂, ◌∙◌}
-use mathlib.Core.List.{List, [], ◌∷◌, ◌++◌}
-use mathlib.Core.Bool.{Bool, true, false, cond}
+use mathlib.Core.List.{List, ◌∷◌, ◌++◌}
+use mathlib.Core.Bool.{false}
 use Prim.Native.Nat.{ℕ, ◌≤◌}
-use native.Mathlib.Omega.{arith}
 use lib.ListN.{length, drop}
+use Rattle.std.specs.Prelude.{Option, Some, None}
 use Rattle.wire.specs.Packets.{Sink, Room, put_all}
 use Rattle.wire.proofs.Bools.{or_false_left, or_false_right}
 use Rattle.wire.proofs.Packets.{put_all_append, room_front, room_behind}
 use Rattle.annexb.specs.declared.Piece.{Piece}
-use Rattle.annexb.specs.Units.{pieces, Pieced}
+use Rattle.annexb.specs.Units.{pieces, pieces_at, Pieced}
 use Rattle.h264_put.specs.declared.outcome.Outcome.{Outcome}
 use Rattle.h264_put.specs.declared.outcome.Drops.{Drops}
 use Rattle.h264_put.specs.Groups.{Saved, keep, keep_all, groups_for, groups_of, packets_of}
@@ -80,7 +80,7 @@ module _
     {mtu : ℕ} {kept : Saved} {goal : Sink} {total : Drops} (sps pps frame : List ℕ) (start : ℕ) (w : Waiting) {s : Sink} {d : Drops}
     (g : Leads mtu kept goal total (pieces (drop start frame)) (saved_at sps pps frame w) s d) {p : Piece} (q : Pieced frame start p)
   where
-    at_unit : Leads mtu kept goal total (unit_in frame start p.end ∷ cond p.more (pieces (drop p.next frame)) []) (saved_at sps pps frame w) s d
+    at_unit : Leads mtu kept goal total (unit_in frame start p.end ∷ pieces_at frame p.next) (saved_at sps pps frame w) s d
     at_unit = subst (λ (us : List (List ℕ)). Leads mtu kept goal total us (saved_at sps pps frame w) s d) q.same g
 
     pub piece_ready : Waits sps pps frame w → length frame ≤ 16777216 → Ready sps pps frame w start p.end mtu s
@@ -88,7 +88,7 @@ module _
         record {
           waits = waits;
           from = q.from;
-          within = omega (arith, q.to, q.within);
+          within = q.within;
           few = few;
           short = leads_short at_unit;
           room = leads_room at_unit;
@@ -101,15 +101,15 @@ module _
         (told : o ≡ outcome_for mtu (saved_at sps pps frame w) (unit_in frame start p.end))
         (more_counted : d' ≡ counted d o)
       where
-        behind : (more : Bool) → p.more ≡ more → Leads mtu kept goal total (cond more (pieces (drop p.next frame)) []) (saved_at sps pps frame w') s' d'
-        behind more e =
-            subst (λ (x : Saved). Leads mtu kept goal total (cond more (pieces (drop p.next frame)) []) x s' d') (sym done.state)
-            (subst₂ (λ (x : Bool) (y : Drops). Leads mtu kept goal total (cond x (pieces (drop p.next frame)) []) (keep (saved_at sps pps frame w) (unit_in frame start p.end)) s' y) e
+        behind : (next : Option ℕ) → p.next ≡ next → Leads mtu kept goal total (pieces_at frame next) (saved_at sps pps frame w') s' d'
+        behind next e =
+            subst (λ (x : Saved). Leads mtu kept goal total (pieces_at frame next) x s' d') (sym done.state)
+            (subst₂ (λ (x : Option ℕ) (y : Drops). Leads mtu kept goal total (pieces_at frame x) (keep (saved_at sps pps frame w) (unit_in frame start p.end)) s' y) e
             (sym more_counted)
             (leads_on at_unit s' o done.put told))
 
-        pub walk_on : p.more ≡ true → Leads mtu kept goal total (pieces (drop p.next frame)) (saved_at sps pps frame w') s' d'
-        walk_on e = behind true e
+        pub walk_on : (next : ℕ) → p.next ≡ Some next → Leads mtu kept goal total (pieces (drop next frame)) (saved_at sps pps frame w') s' d'
+        walk_on next e = behind (Some next) e
 
-        pub walk_end : p.more ≡ false → (saved_at sps pps frame w' ≡ kept) × (s' ≡ goal) × (d' ≡ total)
-        walk_end e = let l = behind false e in (l.state, l.same, sym (none_behind d') ∙ l.counts)
+        pub walk_end : p.next ≡ None → (saved_at sps pps frame w' ≡ kept) × (s' ≡ goal) × (d' ≡ total)
+        walk_end e = let l = behind None e in (l.state, l.same, sym (none_behind d') ∙ l.counts)

@@ -1,34 +1,33 @@
 // The parameter sets that wait to be sent, by where they lie.
-ghost use Rattle.std.specs.Prelude.{◌≡◌, cond, ◌&&◌, ◌+◌, ◌-◌, ◌≤◌, ltb};
+ghost use Rattle.std.specs.Prelude.{◌≡◌, cond, ◌&&◌, ◌-◌, ◌≤◌, ltb, Some, None};
 ghost use Rattle.wire.specs.Part.{splice};
 ghost use Rattle.h264_walk.specs.Waiting.{bytes_of, Lying, nothing_waits};
-
-use h264_put::both;
 
 // Where a parameter set lies.
 #[derive(Clone, Copy)]
 pub struct Lies {
-    // 0: in front of the set's buffer, where it was saved before this frame; else one more than its place in the frame
-    pub from: usize,
+    // its place in the frame; none where it was saved before this frame, and stands in front of its buffer
+    pub at: Option<usize>,
     // how many bytes it has, 0 to 1,024; 0 for none
+    // Stays: length 0 for none, as in the records that C sees.
     pub len: usize,
 }
 
 impl Lies {
     // A set that was saved before the frame.
     pub fn saved(len: usize) -> Lies
-        ensures { result ≡ record { from = 0; len = len } }
+        ensures { result ≡ record { at = None; len = len } }
     {
-        Lies { from: 0, len }
+        Lies { at: None, len }
     }
 
     // A unit of the frame.
     pub fn unit(start: usize, end: usize) -> Lies
-        requires { (start ≤ end) × (end ≤ 16777216) }
-        ensures { result ≡ record { from = start + 1; len = end - start } }
+        requires { start ≤ end }
+        ensures { result ≡ record { at = Some start; len = end - start } }
     {
         Lies {
-            from: start + 1,
+            at: Some(start),
             len: end - start,
         }
     }
@@ -38,14 +37,10 @@ impl Lies {
         requires { Lying held.now frame.now self }
         ensures { result.now ≡ bytes_of held.now frame.now self }
     {
-        let len = self.len;
-        let from = self.from;
-        if from == 0 {
-            return &held[0..len];
+        match self.at {
+            Some(at) => &frame[at..at + self.len],
+            None => &held[..self.len],
         }
-        let at = from - 1;
-        let end = at + len;
-        return &frame[at..end];
     }
 
     // Puts the set in front of its buffer, where it is to wait for the next frame. One that was saved before stands there already.
@@ -53,14 +48,9 @@ impl Lies {
         requires { Lying held.old frame.now self }
         ensures { held.new ≡ splice held.old 0 (bytes_of held.old frame.now self) }
     {
-        let len = self.len;
-        let from = self.from;
-        if from == 0 {
-            return;
+        if let Some(at) = self.at {
+            wire::copy_at(&frame[at..at + self.len], held, 0);
         }
-        let at = from - 1;
-        let end = at + len;
-        wire::copy_at(&frame[at..end], held, 0);
     }
 }
 
@@ -74,31 +64,22 @@ pub struct Waiting {
 }
 
 impl Waiting {
-    // A sequence parameter set is saved, in the place of one that waits.
-    pub fn with_sps(self, sps: Lies) -> Waiting
-        ensures { result ≡ record { sps = sps; pps = self.pps } }
+    // No set waits.
+    pub fn nothing() -> Waiting
+        ensures { result ≡ nothing_waits }
     {
-        let pps = self.pps;
-        Waiting { sps, pps }
-    }
-
-    // A picture parameter set, likewise.
-    pub fn with_pps(self, pps: Lies) -> Waiting
-        ensures { result ≡ record { sps = self.sps; pps = pps } }
-    {
-        let sps = self.sps;
-        Waiting { sps, pps }
+        Waiting {
+            sps: Lies::saved(0),
+            pps: Lies::saved(0),
+        }
     }
 
     // The pair is forgotten where both sets wait.
     pub fn forget(self) -> Waiting
         ensures { result ≡ cond (ltb 0 self.sps.len && ltb 0 self.pps.len) nothing_waits self }
     {
-        if both(self.sps.len, self.pps.len) {
-            return Waiting {
-                sps: Lies::saved(0),
-                pps: Lies::saved(0),
-            };
+        if 0 < self.sps.len && 0 < self.pps.len {
+            return Waiting::nothing();
         }
         self
     }

@@ -8,7 +8,7 @@ ghost use Rattle.h264_walk.specs.Waiting.{saved_at, Waits};
 ghost use Rattle.h264_walk.specs.Step.{unit_in, Ready, Done};
 
 use crate::places::{Lies, Waiting};
-use h264_put::{Fate, Outcome, PairOutcome, Place, UnitOutcome, both, fate_of, put_pair, put_unit};
+use h264_put::{Fate, Outcome, PairOutcome, Place, UnitOutcome, fate_of, put_pair, put_unit};
 
 // What the pair that waits leaves.
 #[derive(Clone, Copy)]
@@ -31,6 +31,7 @@ pub(crate) struct Emitted {
 }
 
 // The pair in a STAP-A, where both sets wait and that fits the mtu.
+// Stays: the sets' buffers are lent for reading here and for writing once all units are sent: a struct that lends them would stand between.
 fn put_waiting<'a>(
     waiting: Waiting,
     sps: &'a [u8],
@@ -50,7 +51,7 @@ fn put_waiting<'a>(
 {
     let of_sps = waiting.sps;
     let of_pps = waiting.pps;
-    if !both(of_sps.len, of_pps.len) {
+    if of_sps.len == 0 || of_pps.len == 0 {
         return PutPair {
             place: to,
             outcome: PairOutcome::NotDue,
@@ -114,24 +115,23 @@ pub(crate) fn emit<'a>(
         Fate::Empty => unsent(waiting, to, UnitOutcome::Empty),
         Fate::Dropped => unsent(waiting, to, UnitOutcome::DroppedByType),
         Fate::Sps => {
-            let set = Lies::unit(start, end);
-            unsent(waiting.with_sps(set), to, UnitOutcome::Saved)
+            let sps = Lies::unit(start, end);
+            unsent(Waiting { sps, ..waiting }, to, UnitOutcome::Saved)
         }
         Fate::Pps => {
-            let set = Lies::unit(start, end);
-            unsent(waiting.with_pps(set), to, UnitOutcome::Saved)
+            let pps = Lies::unit(start, end);
+            unsent(Waiting { pps, ..waiting }, to, UnitOutcome::Saved)
         }
         Fate::Coded => {
-            let before = put_waiting(waiting, sps, pps, frame, mtu, out, ends, to);
-            let behind = before.place;
-            let pair = before.outcome;
-            let put = put_unit(mtu, unit, out, ends, behind);
-            let place = put.place;
-            let unit = put.outcome;
+            let pair = put_waiting(waiting, sps, pps, frame, mtu, out, ends, to);
+            let put = put_unit(mtu, unit, out, ends, pair.place);
             Emitted {
                 waiting: waiting.forget(),
-                place,
-                outcome: Outcome { unit, pair },
+                place: put.place,
+                outcome: Outcome {
+                    unit: put.outcome,
+                    pair: pair.outcome,
+                },
             }
         }
     }

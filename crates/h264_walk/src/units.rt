@@ -50,20 +50,22 @@ pub fn walk<'a>(
     let mut waits = waiting;
     let mut place = Place { at: 0, n: 0 };
     let mut drops = Drops { units: 0, pairs: 0 };
+    // Stays: a loop, since where the next unit starts is found with the end of this one, in one search.
     loop {
         let piece = unit_at(frame, start);
-        let end = piece.end;
-        let e = emit(waits, sps, pps, frame, start, end, mtu, out, ends, place);
+        let e = emit(
+            waits, sps, pps, frame, start, piece.end, mtu, out, ends, place,
+        );
         waits = e.waiting;
         place = e.place;
         drops = drops.and(e.outcome);
-        if !piece.more {
+        let Some(next) = piece.next else {
             break Walked {
                 waiting: waits,
                 place,
                 drops,
             };
-        }
-        start = piece.next;
+        };
+        start = next;
     }
 }

@@ -6,7 +6,7 @@ use lib.ListN.{get_or}
 use borrow.Author.Tests.{le-leb, lt-leb}
 use Rattle.annexb.specs.Search.{ends_code, next_code, code_of}
 use Rattle.annexb.specs.Runs.{Run, Zero}
-use Rattle.annexb.proofs.Runs.{run_one, run_on}
+use Rattle.annexb.proofs.Runs.{run_one, run_on, run_as}
 use Rattle.annexb.proofs.Codes.{scan_end, no_one, few_zeros}
 use Rattle.annexb.proofs.Skips.{ahead, past_others, past_zeros, code_found, no_code, few_left, past_three, to_zeros}
 use Rattle.annexb.proofs.find_code.Goals as goal
@@ -27,7 +27,7 @@ loop-i-preserved-then-b-gt1 c =
     let frame = c.args.frame.now in
     let i = c.loop-i.i in
     sym (past_three frame i (omega arith) (λ q. omega arith) (λ p q r. omega arith)
-    ∙ past_others frame (i + 3) c.past_others-i.result c.past_others-i.ensures)
+    ∙ past_others frame (i + 3) c.past-i.result (run_as (λ b h. omega arith) c.past-i.ensures))
     ∙ c.loop-i.invariant
 
 -- a 1 two ahead, and not two zeros before it
@@ -70,17 +70,6 @@ pub returns-then-last-i : goal.returns-then-last-i
 returns-then-last-i c =
     ap code_of (sym (few_left c.args.frame.now c.loop-i.i (omega arith)) ∙ c.loop-i.invariant)
 
--- two zeros and a 1
-pub returns-then-frame-i-eq0-2 : goal.returns-then-frame-i-eq0-2
-returns-then-frame-i-eq0-2 c =
-    let frame = c.args.frame.now in
-    let i = c.loop-i.i in
-    code_found frame i (i + 2) (omega arith)
-    (run_on {b = i + 1} (run_one (omega arith) (omega arith) c.if-frame-i-eq0.true)
-    (run_one (omega arith) (omega arith) c.if-frame-i-eq0-2.true))
-    (omega arith) c.if-b-eq1.true (le-leb 2 (i + 2 - i) (omega arith))
-    ∙ ap code_of c.loop-i.invariant
-
 -- zeros to the frame's end
 pub returns-then-frame-end : goal.returns-then-frame-end
 returns-then-frame-end c =
@@ -93,6 +82,6 @@ returns-then-frame-end c =
 pub returns-then-end-first-ge2 : goal.returns-then-end-first-ge2
 returns-then-end-first-ge2 c =
     let frame = c.args.frame.now in
-    code_found frame c.first_zero-first.result c.past_zeros-end.result (omega arith) (zeros (goal.at.returns-then-end-first-ge2 c).After-past_zeros-end) (omega arith)
+    ap code_of (code_found frame c.first_zero-first.result c.past_zeros-end.result (omega arith) (zeros (goal.at.returns-then-end-first-ge2 c).After-past_zeros-end) (omega arith)
     c.if-frame-end-eq1.true (le-leb 2 (c.past_zeros-end.result - c.first_zero-first.result) c.if-end-first-ge2.true)
-    ∙ ap code_of (from_first (goal.at.returns-then-end-first-ge2 c).After-past_zeros-end)
+    ∙ from_first (goal.at.returns-then-end-first-ge2 c).After-past_zeros-end)

@@ -2,7 +2,7 @@
 use mathlib.Core.Path.{◌≡◌, refl, sym}
 use native.Mathlib.Omega.{arith}
 use Rattle.annexb.specs.declared.Code.{Code}
-use Rattle.annexb.specs.declared.Found.TheVariants.{At, Nothing}
+use Rattle.std.specs.Prelude.{Some, None}
 use Rattle.annexb.specs.Search.{next_code}
 use Rattle.annexb.proofs.Pieces.{by_code}
 use Rattle.annexb.proofs.next_code.Goals as goal
@@ -12,13 +12,5 @@ returns-then-code-eq0 c =
     let args = c.args in
     let code = c.find_code-code in
     by_code args.frame.now args.start code.result code.ensures
-    (λ (x : Code). x.len ≡ 0 → Nothing ≡ next_code args.frame.now args.start)
+    (λ (x : Code). x.len ≡ 0 → None ≡ next_code args.frame.now args.start)
     (λ p n e h z. absurd (omega arith)) (λ e z. sym e) c.if-code-eq0.true
-
-pub returns : goal.returns
-returns c =
-    let args = c.args in
-    let code = c.find_code-code in
-    by_code args.frame.now args.start code.result code.ensures
-    (λ (x : Code). (x.len ≡ 0 → ⊥) → At x.at x.len ≡ next_code args.frame.now args.start)
-    (λ p n e h z. sym e) (λ e z. absurd (z refl)) c.if-code-eq0.false

@@ -4,8 +4,8 @@ use lib.ListN.{length}
 use Rattle.h264_measure.proofs.Measures.{Measuring}
 use Rattle.h264_measure.proofs.measure_frame.Given as goal
 
-abbrev pub invariant-loop-piece : goal.invariant-loop-piece
-invariant-loop-piece l = Measuring l.frame l.mtu l.sps l.pps l.start l.m
+abbrev pub invariant-loop-next : goal.invariant-loop-next
+invariant-loop-next l = Measuring l.frame l.mtu l.sps l.pps l.start l.m
 
-abbrev pub decreases-loop-piece : goal.decreases-loop-piece
-decreases-loop-piece l = length l.frame - l.start
+abbrev pub decreases-loop-next : goal.decreases-loop-next
+decreases-loop-next l = length l.frame - l.start

@@ -7,15 +7,6 @@ use Rattle.h264_put.proofs.Sinks.{put_is, splice_two}
 use borrow.Author.Rules.{rules}
 use Rattle.h264_put.proofs.put.put_fragment.Goals as goal
 
-pub bounds-out-at-2 : goal.bounds-out-at-2
-bounds-out-at-2 c = simp length-set (omega arith)
-
-pub copy_at-requires : goal.copy_at-requires
-copy_at-requires c = simp length-set (omega arith)
-
-pub shape_of-out : goal.shape_of-out
-shape_of-out c = c.copy_at.auto.dst ∙ simp length-set
-
 pub returns : goal.returns
 unfolding fragment
 returns c =

@@ -11,20 +11,6 @@ use Rattle.h264_put.proofs.Sinks.{put_is, splice_pair, length_stap_a}
 use borrow.Author.Rules.{rules}
 use Rattle.h264_put.proofs.put.put_pair.Goals as goal
 
-pub put_set-requires : goal.put_set-requires
-put_set-requires c = simp length-set (omega arith)
-
-pub put_set-requires-2 : goal.put_set-requires-2
-put_set-requires-2 c =
-    let start = c.args in
-    let kept : length c.put_set.new.out ≡ length start.out.now
-    = c.put_set.auto.out ∙ simp length-set in
-    (omega arith, omega arith)
-
-pub shape_of-out : goal.shape_of-out
-shape_of-out c = c.put_set-2.auto.out ∙ c.put_set.auto.out ∙ simp
-    length-set
-
 pub returns : goal.returns
 returns c =
     let start = c.args in

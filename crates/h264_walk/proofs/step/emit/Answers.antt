@@ -8,15 +8,15 @@ use Rattle.h264_walk.proofs.Pairs.{forget_waits}
 use Rattle.h264_walk.proofs.Steps.{told_by, done_empty, done_dropped, done_sps, done_pps, room_pair, room_unit, done_coded}
 use Rattle.h264_walk.proofs.step.emit.Goals as goal
 
-pub put_waiting-before-requires : goal.put_waiting-before-requires
-put_waiting-before-requires c =
+pub put_waiting-pair-requires : goal.put_waiting-pair-requires
+put_waiting-pair-requires c =
     let e = sym c.fate_of.ensures ∙ c.in-Coded.is in
     (c.requires.waits, room_pair c.requires e)
 
 pub put_unit-put-requires : goal.put_unit-put-requires
 put_unit-put-requires c =
     let e = sym c.fate_of.ensures ∙ c.in-Coded.is in
-    room_unit c.requires e _ c.put_waiting-before.ensures.place_after
+    room_unit c.requires e _ c.put_waiting-pair.ensures.place_after
 
 pub returns-in-Empty : goal.returns-in-Empty
 returns-in-Empty c =
@@ -38,7 +38,7 @@ pub returns-in-Sps : goal.returns-in-Sps
 returns-in-Sps c =
     let e = sym c.fate_of.ensures ∙ c.in-Sps.is in
     let left = c.unsent-in-Sps in record {
-      done = done_sps c.requires left.result.waiting _ (ap (sink_at c.args.out.now c.args.ends.now) left.ensures.1) e _ c.unit-set.ensures (left.ensures.0 ∙ c.with_sps.ensures);
+      done = done_sps c.requires left.result.waiting _ (ap (sink_at c.args.out.now c.args.ends.now) left.ensures.1) e _ c.unit-sps.ensures left.ensures.0;
       outcome_value = told_by c.requires Sps e left.result.outcome left.ensures.2;
     }
 
@@ -46,14 +46,14 @@ pub returns-in-Pps : goal.returns-in-Pps
 returns-in-Pps c =
     let e = sym c.fate_of.ensures ∙ c.in-Pps.is in
     let left = c.unsent-in-Pps in record {
-      done = done_pps c.requires left.result.waiting _ (ap (sink_at c.args.out.now c.args.ends.now) left.ensures.1) e _ c.unit-set-in-Pps.ensures (left.ensures.0 ∙ c.with_pps.ensures);
+      done = done_pps c.requires left.result.waiting _ (ap (sink_at c.args.out.now c.args.ends.now) left.ensures.1) e _ c.unit-pps.ensures left.ensures.0;
       outcome_value = told_by c.requires Pps e left.result.outcome left.ensures.2;
     }
 
 pub returns-in-Coded : goal.returns-in-Coded
 returns-in-Coded c =
     let e = sym c.fate_of.ensures ∙ c.in-Coded.is in
-    let waiting = c.put_waiting-before in
+    let waiting = c.put_waiting-pair in
     let put = c.put_unit-put in record {
       done = done_coded c.requires e _ _ c.forget.result waiting.ensures.place_after put.ensures.place_after
           (forget_waits c.requires.waits c.forget.result c.forget.ensures);

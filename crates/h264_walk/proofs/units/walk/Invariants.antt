@@ -11,8 +11,8 @@ use Rattle.h264_walk.specs.Waiting.{saved_at, Waits}
 use Rattle.h264_walk.proofs.Walks.{Leads}
 use Rattle.h264_walk.proofs.units.walk.Given as goal
 
-abbrev pub invariant-loop-piece : goal.invariant-loop-piece
-invariant-loop-piece l = (l.start ≤ length l.frame)
+abbrev pub invariant-loop-next : goal.invariant-loop-next
+invariant-loop-next l = (l.start ≤ length l.frame)
     × Waits l.sps l.pps l.frame l.waits
     × Leads l.mtu (keep_all (saved_at l.sps l.pps l.frame l.initial.waits) (units l.frame))
     (put_all (sink_at l.initial.out l.initial.ends l.initial.place) (packets_of (groups_of l.mtu (saved_at l.sps l.pps l.frame l.initial.waits) (units l.frame))))
@@ -22,5 +22,5 @@ invariant-loop-piece l = (l.start ≤ length l.frame)
     × (l.drops.units ≤ l.start)
     × (l.drops.pairs ≤ l.start)
 
-abbrev pub decreases-loop-piece : goal.decreases-loop-piece
-decreases-loop-piece l = length l.frame - l.start
+abbrev pub decreases-loop-next : goal.decreases-loop-next
+decreases-loop-next l = length l.frame - l.start
