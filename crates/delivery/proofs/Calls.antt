@@ -20,7 +20,8 @@ use Rattle.h264_put.specs.Groups.{Saved, nothing_saved, keep, keep_all, groups_o
 use Rattle.h264_put.specs.declared.outcome.Drops.{Drops}
 use Rattle.h264_put.specs.Outcomes.{outcomes_of, drops_in}
 use Rattle.h264_put.specs.Step.{empty_sink, too_long, over_limit}
-use Rattle.h264.specs.Payload.{Counts, Left, lay_out, saved_in, outside, too_small, refused_with, sent_as, left_by, payload_of}
+use Rattle.h264.specs.declared.send.Written.{Written}
+use Rattle.h264.specs.Payload.{Left, lay_out, saved_in, outside, too_small, refused_with, sent_as, left_by, payload_of}
 use Rattle.h264.specs.Frames.{groups_from, groups_sent}
 use Rattle.wire.proofs.Bools.{or_false_left, or_false_right}
 use Rattle.h264_put.proofs.Sizes.{packets_append}
@@ -43,7 +44,7 @@ use Rattle.delivery.proofs.Sending.{same_packets, short_payloads, sent_show}
 
 -- a call that is not refused has passed its tests
 not_refused : (outside long small : Bool) (h : H264Payloader) (out ends : List ℕ) (answer : Left) →
-    (c : Counts) × ((left_by outside long small (refused_with 8 h out ends) (refused_with 7 h out ends) (refused_with 5 h out ends) answer).answer ≡ says c) →
+    (c : Written) × ((left_by outside long small (refused_with 8 h out ends) (refused_with 7 h out ends) (refused_with 5 h out ends) answer).answer ≡ says c) →
     (left_by outside long small (refused_with 8 h out ends) (refused_with 7 h out ends) (refused_with 5 h out ends) answer ≡ answer) × (small ≡ false)
 not_refused true long small h out ends answer w = absurd (not_says w.1)
 not_refused false true small h out ends answer w = absurd (not_says w.1)
@@ -107,7 +108,7 @@ module _ (mtu : ℕ) where
     leaves : payload_of (lay_out v) mtu frame out ends ≡ answered v frame out ends
     room : Room (empty_sink out ends) (sent v frame)
 
-  passed : (v : Saved) (frame out ends : List ℕ) → (c : Counts) × ((payload_of (lay_out v) mtu frame out ends).answer ≡ says c) → Passed v frame out ends
+  passed : (v : Saved) (frame out ends : List ℕ) → (c : Written) × ((payload_of (lay_out v) mtu frame out ends).answer ≡ says c) → Passed v frame out ends
   unfolding payload_of
   passed v frame out ends w =
       let t =

@@ -11,7 +11,8 @@ use Rattle.h264.specs.declared.send.H264Payloader.{H264Payloader}
 use Rattle.annexb.specs.Units.{units_at}
 use Rattle.h264_put.specs.Groups.{Saved, nothing_saved, keep_all, groups_of, packets_of}
 use Rattle.h264_put.specs.Step.{empty_sink, too_long}
-use Rattle.h264.specs.Payload.{Counts, LeftIn, Left, lay_out, payload_of, lent_of}
+use Rattle.h264.specs.declared.send.Written.{Written}
+use Rattle.h264.specs.Payload.{LeftIn, Left, lay_out, payload_of, lent_of}
 use Rattle.h264.specs.Payload as sets
 use Rattle.sequence.specs.Number.{number_of}
 use Rattle.sequence.specs.Joiner.{bytes_of}
@@ -43,7 +44,7 @@ sending_lent l mtu lent (frame ∷ frames) =
 
 -- none of them is refused
 abbrev pub NoneRefused : {S : Type 0} → List (LeftIn S) → Type 0
-NoneRefused {S} = Each (λ (l : LeftIn S). (c : Counts) × (l.answer ≡ says c))
+NoneRefused {S} = Each (λ (l : LeftIn S). (c : Written) × (l.answer ≡ says c))
 
 -- "a fresh sender"
 abbrev pub calls_for : Sending → (ℕ → Lent) → List Left
@@ -66,7 +67,7 @@ LentEnough mtu v lent (frame ∷ frames) =
 -- ---- the payloads that they wrote
 
 -- a call's output, cut at as many ends as it says that it wrote
-abbrev pub cut_by : Said Counts → List ℕ → List ℕ → List (List ℕ)
+abbrev pub cut_by : Said Written → List ℕ → List ℕ → List (List ℕ)
 cut_by (says c) out ends = cut out 0 (take c.packets ends)
 cut_by (refused r) out ends = []
 

@@ -6,8 +6,10 @@ use mathlib.Core.List.{List}
 use Prim.Native.Nat.{ℕ, ◌/◌, ◌%◌}
 use lib.Dec.{ltb, eqb}
 use lib.ListN.{length, get_or}
+use Rattle.std.specs.Prelude.{Result, Ok, Err}
+use Rattle.error.specs.declared.Error.{Error}
 use Rattle.error.specs.Refusal.{Refusal}
-use Rattle.error.specs.Said.{Said, says, refused, refuse}
+use Rattle.error.specs.Said.{Said, says, refused, refuse, said}
 use Rattle.error.specs.Only.{Determined}
 use Rattle.error.proofs.Inverse.{error_of, error_of_refusal_of}
 use Rattle.error.proofs.Only.{by_value, by_view, Sayable, known, tested}
@@ -22,14 +24,10 @@ use Rattle.nal.proofs.Sayable.{handing_sayable, run_sayable}
 use Rattle.h264_packet.specs.declared.H264Packet.{H264Packet}
 use Rattle.h264_packet.specs.declared.Shown.{Shown}
 use Rattle.h264_packet.specs.declared.Shown.TheVariants as shown
-use Rattle.h264_packet.specs.declared.Depacketize.{Depacketize}
-use Rattle.h264_packet.specs.declared.Depacketize.TheVariants as dep
 use Rattle.h264_packet.specs.declared.Depacketized.{Depacketized}
-use Rattle.h264_packet.specs.declared.Head.{Head}
-use Rattle.h264_packet.specs.declared.Head.TheVariants as head
 use Rattle.h264_packet.specs.Run.{Run, gathered, run_of, recorded}
 use Rattle.h264_packet.specs.Depacketize.{read_by, read_payload, outside, depacketized, Showing, nowhere, in_packet, in_gather, shown_of, body_of, head_test}
-use Rattle.h264_packet.specs.Said.{said_shown, said_depacketize, Heard, heard, reading_heard, depacketized_heard, said_head}
+use Rattle.h264_packet.specs.Said.{said_shown, Heard, heard, reading_heard, depacketized_heard}
 
 -- ---- the definitions say no other refusal
 
@@ -50,13 +48,17 @@ read_sayable avc n payload gather out =
 
 -- ---- depacketize
 
-abbrev answer_of : Said ℕ → Depacketize
-answer_of (says n) = dep.Bytes n
-answer_of (refused r) = dep.Refused (error_of r)
+abbrev answer_of : {A : Type 0} → Said A → Result A Error
+answer_of (says x) = Ok x
+answer_of (refused r) = Err (error_of r)
 
-answer_of_said : (a : Depacketize) → answer_of (said_depacketize a) ≡ a
-answer_of_said (dep.Bytes n) = refl
-answer_of_said (dep.Refused e) = ap dep.Refused (error_of_refusal_of e)
+answer_of_said : {A : Type 0} (a : Result A Error) → answer_of (said a) ≡ a
+answer_of_said (Ok x) = refl
+answer_of_said (Err e) = ap Err (error_of_refusal_of e)
+
+said_answer_of : {A : Type 0} (x : Said A) → Sayable x → said (answer_of x) ≡ x
+said_answer_of (says x) e = refl
+said_answer_of (refused r) e = e
 
 abbrev shown_by : Showing → Shown
 shown_by nowhere = shown.Nowhere
@@ -112,18 +114,6 @@ depacketize_only p payload gather out =
 pub body_only : (s : Shown) (packet gather : List ℕ) → Determined (λ (r : List ℕ). r ≡ body_of (said_shown s) packet gather)
 body_only s packet gather = by_value (body_of (said_shown s) packet gather)
 
-abbrev head_by : Said Bool → Head
-head_by (says b) = head.Is b
-head_by (refused r) = head.Refused (error_of r)
-
-head_by_said : (a : Head) → head_by (said_head a) ≡ a
-head_by_said (head.Is b) = refl
-head_by_said (head.Refused e) = ap head.Refused (error_of_refusal_of e)
-
-said_head_by : (x : Said Bool) → Sayable x → said_head (head_by x) ≡ x
-said_head_by (says b) e = refl
-said_head_by (refused r) e = e
-
 head_sayable : (s : List ℕ) → Sayable (head_test s)
 unfolding head_test
 head_sayable s =
@@ -134,9 +124,9 @@ head_sayable s =
     (tested (λ (x : Said Bool). x) (says false) typed (ltb (length s) 2) refl
     (tested (λ (x : Said Bool). x) start (says true) (eqb t 28 || eqb t 29) refl refl))
 
-pub is_partition_head_only : (s : List ℕ) → Determined (λ (r : Head). said_head r ≡ head_test s)
+pub is_partition_head_only : (s : List ℕ) → Determined (λ (r : Result Bool Error). said r ≡ head_test s)
 is_partition_head_only s =
-    by_view said_head head_by head_by_said (head_by (head_test s)) (head_test s) (said_head_by (head_test s) (head_sayable s))
+    by_view said answer_of answer_of_said (answer_of (head_test s)) (head_test s) (said_answer_of (head_test s) (head_sayable s))
 
 pub is_partition_tail_only : (marker : Bool) → Determined (λ (r : Bool). r ≡ marker)
 is_partition_tail_only marker = by_value marker

@@ -11,6 +11,7 @@ pub use partition::{is_partition_head, is_partition_tail};
 pub use view::body;
 
 // The state of a reader.
+// Stays: C sees the record, so that a flag stands for the prefix and length 0 for no run.
 #[repr(C)]
 #[derive(Clone, Copy)]
 pub struct H264Packet {
@@ -30,36 +31,21 @@ pub enum Shown {
 }
 
 #[derive(Clone, Copy)]
-pub enum Depacketize {
-    // how many bytes were handed out
-    Bytes(usize),
-    Refused(Error),
-}
-
-#[derive(Clone, Copy)]
 pub struct Depacketized {
     // as it came beside a refusal
     pub packet: H264Packet,
-    pub answer: Depacketize,
+    // how many bytes were handed out
+    pub answer: Result<usize, Error>,
     pub shown: Shown,
 }
 
-// What became of a payload.
+// What became of a payload that was read.
 #[derive(Clone, Copy)]
-enum Ran {
-    // the run that is now open has `gathered` bytes, 0 for none, `bytes` bytes were handed out, and the body of the unit that
-    // was completed is shown
-    On {
-        gathered: usize,
-        bytes: usize,
-        shown: Shown,
-    },
-    Refused(Error),
-}
-
-// Whether a payload begins a partition.
-#[derive(Clone, Copy)]
-pub enum Head {
-    Is(bool),
-    Refused(Error),
+struct Ran {
+    // how many bytes the run has that is now open; 0 for none
+    gathered: usize,
+    // how many bytes were handed out
+    bytes: usize,
+    // the body of the unit that was completed
+    shown: Shown,
 }

@@ -10,20 +10,10 @@ pub fn body<'a>(shown: Shown, packet: &'a [u8], gather: &'a [u8]) -> &'a [u8]
     ensures { result.now ≡ body_of (said_shown shown) packet.now gather.now }
 {
     match shown {
-        Shown::Nowhere => {
-            return &packet[0..0];
-        }
-        Shown::Packet => {
-            if packet.len() == 0 {
-                return &packet[0..0];
-            }
-            return &packet[1..];
-        }
-        Shown::Gather(len) => {
-            if len <= gather.len() {
-                return &gather[0..len];
-            }
-            return &gather[0..0];
-        }
+        Shown::Nowhere => &packet[..0],
+        Shown::Packet if packet.is_empty() => packet,
+        Shown::Packet => &packet[1..],
+        Shown::Gather(len) if len <= gather.len() => &gather[..len],
+        Shown::Gather(_) => &gather[..0],
     }
 }

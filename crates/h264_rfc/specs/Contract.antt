@@ -1,11 +1,11 @@
 -- The code's calls, one after the other, by `depacketize`'s contract alone. Assumes nothing.
 use Rattle.std.specs.Prelude.{◌≡◌, Bool, List, [], ◌∷◌, map, ℕ, suc, take}
-use Rattle.error.specs.Said.{Said, says, refused}
+use Rattle.error.specs.Said.{Said, says, refused, said}
 use Rattle.wire.specs.Each.{Each}
 use Rattle.h264_packet.specs.declared.H264Packet.{H264Packet}
 use Rattle.h264_packet.specs.declared.Depacketized.{Depacketized}
 use Rattle.h264_packet.specs.Depacketize.{depacketized}
-use Rattle.h264_packet.specs.Said.{said_depacketize, heard, depacketized_heard}
+use Rattle.h264_packet.specs.Said.{heard, depacketized_heard}
 
 -- what a call hands back: its result, and both buffers at exit
 pub record Result : Type 0 where
@@ -31,11 +31,11 @@ taken_from (says n) out = take n out
 taken_from (refused r) out = []
 
 abbrev pub handed_out : Result → List ℕ
-handed_out r = taken_from (said_depacketize r.answer.answer) r.out
+handed_out r = taken_from (said r.answer.answer) r.out
 
 -- a call that is not refused
 abbrev pub AnsweredCall : Result → Type 0
-AnsweredCall r = (n : ℕ) × (said_depacketize r.answer.answer ≡ says n)
+AnsweredCall r = (n : ℕ) × (said r.answer.answer ≡ says n)
 
 -- the record behind the last call
 abbrev pub record_behind : H264Packet → List Result → H264Packet

@@ -4,6 +4,8 @@ use mathlib.Core.Path.{◌≡◌, refl, ap, ◌∙◌}
 use mathlib.Core.Bool.{Bool}
 use mathlib.Core.List.{List}
 use Prim.Native.Nat.{ℕ}
+use Rattle.std.specs.Prelude.{Result, Ok, Err}
+use Rattle.error.specs.declared.Error.{Error}
 use Rattle.error.specs.Said.{Said, says, refused}
 use Rattle.error.specs.Only.{Determined}
 use Rattle.error.proofs.Inverse.{error_of, error_of_refusal_of}
@@ -20,7 +22,6 @@ use Rattle.joiner.specs.declared.Joined.{Joined}
 use Rattle.joiner.specs.declared.Joined.TheVariants as joined
 use Rattle.joiner.specs.declared.Step.{Step}
 use Rattle.joiner.specs.declared.Closed.{Closed}
-use Rattle.joiner.specs.declared.Closed.TheVariants as closed
 use Rattle.joiner.specs.declared.Closing.{Closing}
 use Rattle.joiner.specs.Join.{kept_of, Stepped, ClosingStepped, as_closing, arrived_in, choice, avc_of, choice_of, join_step, close_step, opened}
 use Rattle.joiner.specs.Said.{said_joined, step_heard, place_heard, said_closed, closing_heard}
@@ -62,15 +63,15 @@ join_fine j gather out packet = step_sayable (choice_of j) (speaks (avc_of j)) (
 
 -- ---- joining
 
-abbrev joined_of : Said Answer → Joined
-joined_of (says (accepted a)) = joined.Accepted a.first a.count a.bytes
-joined_of (says late) = joined.Late
-joined_of (refused r) = joined.Refused (error_of r)
+abbrev joined_of : Said Answer → Result Joined Error
+joined_of (says (accepted a)) = Ok (joined.Accepted a.first a.count a.bytes)
+joined_of (says late) = Ok joined.Late
+joined_of (refused r) = Err (error_of r)
 
-joined_of_said : (a : Joined) → joined_of (said_joined a) ≡ a
-joined_of_said (joined.Accepted first count bytes) = refl
-joined_of_said joined.Late = refl
-joined_of_said (joined.Refused e) = ap joined.Refused (error_of_refusal_of e)
+joined_of_said : (a : Result Joined Error) → joined_of (said_joined a) ≡ a
+joined_of_said (Ok (joined.Accepted first count bytes)) = refl
+joined_of_said (Ok joined.Late) = refl
+joined_of_said (Err e) = ap Err (error_of_refusal_of e)
 
 said_joined_of : (x : Said Answer) → said_joined (joined_of x) ≡ spoken x
 said_joined_of (says (accepted a)) = refl
@@ -86,7 +87,7 @@ heard_left a = step_heard a.0 a.1 a.2
 
 -- the same where the record is lent
 abbrev pub Placed : Type 0
-Placed = Joiner × Joined × List ℕ × List ℕ
+Placed = Joiner × Result Joined Error × List ℕ × List ℕ
 
 abbrev pub heard_placed : Placed → Stepped
 heard_placed a = place_heard a.0 a.1 a.2 a.3
@@ -95,7 +96,7 @@ abbrev placed_of : Stepped → Placed
 placed_of st = (st.joiner, joined_of st.answer, st.gather, st.out)
 
 placed_of_heard : (a : Placed) → placed_of (heard_placed a) ≡ a
-placed_of_heard a = ap (λ (r : Joined). (a.0, r, a.2, a.3)) (joined_of_said a.1)
+placed_of_heard a = ap (λ (r : Result Joined Error). (a.0, r, a.2, a.3)) (joined_of_said a.1)
 
 heard_placed_of : (st : Stepped) → Fine st → heard_placed (placed_of st) ≡ st
 heard_placed_of st s =
@@ -107,7 +108,7 @@ left_of st = (record { joiner = st.joiner; answer = joined_of st.answer }, st.ga
 
 left_of_heard : (a : Left) → left_of (heard_left a) ≡ a
 left_of_heard a =
-    ap (λ (r : Joined). (record { joiner = a.0.joiner; answer = r }, a.1, a.2)) (joined_of_said a.0.answer)
+    ap (λ (r : Result Joined Error). (record { joiner = a.0.joiner; answer = r }, a.1, a.2)) (joined_of_said a.0.answer)
 
 module _ (j : Joiner) (packet gather out : List ℕ) where
   pub join_only : Determined (λ (a : Left). heard_left a ≡ join_step j packet gather out)
@@ -125,19 +126,19 @@ module _ (j : Joiner) (packet gather out : List ℕ) where
 
 -- ---- closing
 
-abbrev closed_of : Said Accepted → Closed
-closed_of (says a) = closed.Closed a.first a.count
-closed_of (refused r) = closed.Refused (error_of r)
+abbrev closed_of : Said Accepted → Result Closed Error
+closed_of (says a) = Ok (record { first = a.first; count = a.count })
+closed_of (refused r) = Err (error_of r)
 
-closed_of_said : (a : Closed) → closed_of (said_closed a) ≡ a
-closed_of_said (closed.Closed first count) = refl
-closed_of_said (closed.Refused e) = ap closed.Refused (error_of_refusal_of e)
+closed_of_said : (a : Result Closed Error) → closed_of (said_closed a) ≡ a
+closed_of_said (Ok c) = refl
+closed_of_said (Err e) = ap Err (error_of_refusal_of e)
 
 abbrev closing_of : ClosingStepped → Closing
 closing_of st = record { joiner = st.joiner; answer = closed_of st.answer }
 
 closing_of_heard : (a : Closing) → closing_of (closing_heard a) ≡ a
-closing_of_heard a = ap (λ (c : Closed). record { joiner = a.joiner; answer = c }) (closed_of_said a.answer)
+closing_of_heard a = ap (λ (c : Result Closed Error). record { joiner = a.joiner; answer = c }) (closed_of_said a.answer)
 
 heard_closing_of : (j : Joiner) (number : ℕ) → closing_heard (closing_of (close_step j number)) ≡ close_step j number
 unfolding close_step

@@ -1,25 +1,15 @@
 // The joiner's calls.
-ghost use Rattle.std.specs.Prelude.{◌≡◌, true, false, ◌+◌, ◌≤◌, length};
-ghost use Rattle.error.specs.Refusal.{refusal_of};
-ghost use Rattle.error.specs.Said.{refused};
+ghost use Rattle.std.specs.Prelude.{◌≡◌, false, ◌+◌, ◌≤◌, length};
+ghost use Rattle.error.specs.Said.{said};
 ghost use Rattle.joiner_step.specs.Step.{by_source, stray};
-ghost use Rattle.joiner_feed.specs.Ran.{ran_said};
 ghost use Rattle.joiner.specs.Join.{kept_of, as_step, known, choice_of, opened, join_step, close_step};
-ghost use Rattle.joiner.specs.Said.{said_joined, step_heard, held_at, accepted_joiner, accepted_answer, closing_heard};
+ghost use Rattle.joiner.specs.Said.{step_heard, moved_heard, held_at, with_run, missed_said, live_said, shut_heard, closing_heard};
 
-use crate::{Closed, Closing, Joined, Joiner, Step};
+use crate::{Closed, Closing, Joined, Joiner, Moved, Step};
 use error::Error;
-use joiner_feed::{Ran, Run, feed, no_run};
+use joiner_feed::{Run, feed};
 use joiner_read::{Arrival, arrive};
-
-// "handed out as Annex B": behind a start code, and not behind a 4-byte length.
-const IS_AVC: bool = false;
-
-fn sum(n: u32, d: u16) -> u64
-    ensures { result ≡ n + d }
-{
-    n as u64 + d as u64
-}
+use nal::Prefix;
 
 impl Joiner {
     pub fn open(ssrc: u32, first: u16) -> Self
@@ -41,170 +31,167 @@ impl Joiner {
     fn strays(self) -> bool
         ensures { result ≡ stray (choice_of self) (kept_of self).run }
     {
-        if self.running {
-            return false;
-        }
-        if self.gathered != 0 {
-            return true;
-        }
-        if self.marked {
-            return true;
-        }
-        self.time != 0
+        !self.running && (self.gathered != 0 || self.marked || self.time != 0)
     }
 
-    // "A refusal .. changes no buffer and no state"; nor does Late.
-    fn unchanged(self, answer: Joined) -> Step
-        ensures { result ≡ record { joiner = self; answer = answer } }
+    // 22 for a joiner that is closed, then 8 for a record that contradicts itself.
+    fn live(self) -> Result<(), Error>
+        ensures { said result ≡ live_said self }
     {
-        Step {
-            joiner: self,
-            answer,
+        if self.closed {
+            return Err(Error::AlreadyClosed);
         }
+        if 16777215 < self.gathered || self.strays() {
+            return Err(Error::OutsideDomain);
+        }
+        Ok(())
+    }
+
+    // The missed total after `d` numbers more: 24 where it would pass 4,294,967,295.
+    fn missed_after(self, d: u16) -> Result<u32, Error>
+        ensures { said result ≡ missed_said self d }
+    {
+        self.missed
+            .checked_add(u32::from(d))
+            .ok_or(Error::MissedTotalFull)
     }
 
     // "d > 0 drops the open run"
-    fn run_at(self, d: u16) -> Run
+    fn run_at(self, d: u16) -> Option<Run>
         ensures { result ≡ held_at self d }
     {
-        if d == 0 {
-            return Run {
-                running: self.running,
+        if d == 0 && self.running {
+            Some(Run {
                 gathered: self.gathered,
-                time: self.time,
                 marked: self.marked,
-            };
+                time: self.time,
+            })
+        } else {
+            None
         }
-        no_run()
     }
 
-    // A packet of the sender's was accepted after `d` numbers were passed over.
-    fn accept(self, d: u16, number: u16, missed: u32, ran: Ran) -> Step
-        ensures { (result.joiner ≡ accepted_joiner self number missed (ran_said ran)) × (said_joined result.answer ≡ accepted_answer self d (ran_said ran)) }
+    fn with_run(self, run: Option<Run>) -> Self
+        ensures { result ≡ with_run self run }
     {
-        match ran {
-            Ran::On { run, bytes } => Step {
-                joiner: Joiner {
-                    source: self.source,
-                    awaited: sequence::after(number),
-                    missed,
-                    running: run.running,
-                    gathered: run.gathered,
-                    time: run.time,
-                    marked: run.marked,
-                    closed: false,
-                },
-                answer: Joined::Accepted {
-                    first: self.awaited,
-                    count: d,
-                    bytes,
-                },
+        match run {
+            Some(run) => Joiner {
+                running: true,
+                gathered: run.gathered,
+                time: run.time,
+                marked: run.marked,
+                ..self
             },
-            Ran::Refused(e) => self.unchanged(Joined::Refused(e)),
+            None => Joiner {
+                running: false,
+                gathered: 0,
+                time: 0,
+                marked: false,
+                ..self
+            },
         }
     }
 
-    // A packet that was read, by its source, number and timestamp.
+    // A packet that was read.
+    // Stays: packet, gather buffer and output by themselves, as the caller lends them: a struct of the three would be made in the one call that takes it.
     fn arrived(
         self,
-        source: u32,
-        number: u16,
-        time: u32,
+        arrival: Arrival,
         payload: &[u8],
         gather: &mut [u8],
         out: &mut [u8],
-    ) -> Step
+    ) -> Result<Moved, Error>
         requires { (length payload.now ≤ 65535) × (self.gathered ≤ length gather.old) × (self.closed ≡ false) }
-        ensures { step_heard result gather.new out.new ≡ as_step (by_source (choice_of self) (kept_of self) (record { source = source; number = number; known = known time payload.now }) gather.old out.old) }
+        ensures { moved_heard self result gather.new out.new ≡ as_step (by_source (choice_of self) (kept_of self) (record { source = arrival.source; number = arrival.number; known = known arrival.time payload.now }) gather.old out.old) }
     {
-        if source != self.source {
-            return self.unchanged(Joined::Refused(Error::OtherSource));
+        if arrival.source != self.source {
+            return Err(Error::OtherSource);
         }
-        let d = sequence::distance(number, self.awaited);
+        let d = sequence::distance(arrival.number, self.awaited);
         if 32768 <= d {
-            return self.unchanged(Joined::Late);
+            return Ok(Moved {
+                joiner: self,
+                joined: Joined::Late,
+            });
         }
-        let missed = sum(self.missed, d);
-        if 4294967295 < missed {
-            return self.unchanged(Joined::Refused(Error::MissedTotalFull));
+        let missed = self.missed_after(d)?;
+        // "handed out as Annex B"
+        let prefix = Prefix::StartCode;
+        let ran = feed(self.run_at(d), prefix, arrival.time, payload, gather, out)?;
+        Ok(Moved {
+            joiner: Joiner {
+                awaited: sequence::after(arrival.number),
+                missed,
+                ..self.with_run(ran.run)
+            },
+            joined: Joined::Accepted {
+                first: self.awaited,
+                count: d,
+                bytes: ran.bytes,
+            },
+        })
+    }
+
+    fn moved(self, packet: &[u8], gather: &mut [u8], out: &mut [u8]) -> Result<Moved, Error>
+        ensures { moved_heard self result gather.new out.new ≡ join_step self packet.now gather.old out.old }
+    {
+        self.live()?;
+        if gather.len() < self.gathered {
+            return Err(Error::OutsideDomain);
         }
-        let ran = feed(self.run_at(d), IS_AVC, time, payload, gather, out);
-        self.accept(d, number, missed as u32, ran)
+        let arrival = arrive(packet)?;
+        let payload = &packet[arrival.at..arrival.at + arrival.len];
+        self.arrived(arrival, payload, gather, out)
     }
 
     pub fn join(self, packet: &[u8], gather: &mut [u8], out: &mut [u8]) -> Step
         ensures { step_heard result gather.new out.new ≡ join_step self packet.now gather.old out.old }
     {
-        if self.closed {
-            return self.unchanged(Joined::Refused(Error::AlreadyClosed));
+        match self.moved(packet, gather, out) {
+            Ok(moved) => Step {
+                joiner: moved.joiner,
+                answer: Ok(moved.joined),
+            },
+            // "A refusal .. changes no buffer and no state"
+            Err(e) => Step {
+                joiner: self,
+                answer: Err(e),
+            },
         }
-        let gathered = self.gathered;
-        if gather.len() < gathered {
-            return self.unchanged(Joined::Refused(Error::OutsideDomain));
+    }
+
+    // The joiner closed by the number after the last sent.
+    fn shut(self, number: u16) -> Result<Joiner, Error>
+        ensures { shut_heard self number result ≡ close_step self number }
+    {
+        self.live()?;
+        let d = sequence::distance(number, self.awaited);
+        if 32768 <= d {
+            return Err(Error::ClosingTooFar);
         }
-        if 16777215 < gathered {
-            return self.unchanged(Joined::Refused(Error::OutsideDomain));
-        }
-        if self.strays() {
-            return self.unchanged(Joined::Refused(Error::OutsideDomain));
-        }
-        let arrival = arrive(packet);
-        match arrival {
-            Arrival::Packet {
-                source,
-                number,
-                time,
-                at,
-                len,
-            } => self.arrived(source, number, time, &packet[at..at + len], gather, out),
-            Arrival::Refused(e) => self.unchanged(Joined::Refused(e)),
-        }
+        let missed = self.missed_after(d)?;
+        Ok(Joiner {
+            missed,
+            closed: true,
+            ..self.with_run(None)
+        })
     }
 
     pub fn close(self, number: u16) -> Closing
         ensures { closing_heard result ≡ close_step self number }
     {
-        if self.closed {
-            return still_open(self, Error::AlreadyClosed);
-        }
-        if 16777215 < self.gathered {
-            return still_open(self, Error::OutsideDomain);
-        }
-        if self.strays() {
-            return still_open(self, Error::OutsideDomain);
-        }
-        let d = sequence::distance(number, self.awaited);
-        if 32768 <= d {
-            return still_open(self, Error::ClosingTooFar);
-        }
-        let missed = sum(self.missed, d);
-        if 4294967295 < missed {
-            return still_open(self, Error::MissedTotalFull);
-        }
-        Closing {
-            joiner: Joiner {
-                source: self.source,
-                awaited: self.awaited,
-                missed: missed as u32,
-                running: false,
-                gathered: 0,
-                time: 0,
-                marked: false,
-                closed: true,
+        match self.shut(number) {
+            Ok(joiner) => Closing {
+                joiner,
+                answer: Ok(Closed {
+                    first: self.awaited,
+                    count: sequence::distance(number, self.awaited),
+                }),
             },
-            answer: Closed::Closed {
-                first: self.awaited,
-                count: d,
+            Err(e) => Closing {
+                joiner: self,
+                answer: Err(e),
             },
         }
-    }
-}
-
-fn still_open(joiner: Joiner, e: Error) -> Closing
-    ensures { closing_heard result ≡ record { joiner = joiner; answer = refused (refusal_of e) } }
-{
-    Closing {
-        joiner,
-        answer: Closed::Refused(e),
     }
 }

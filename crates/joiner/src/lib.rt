@@ -9,6 +9,7 @@ mod place;
 pub use place::{join_by_value, join_in_place};
 
 // The state of a joiner, which a host keeps for the whole show.
+// Stays: C sees the record, so that a flag and three values stand for a run or none.
 #[repr(C)]
 #[derive(Clone, Copy)]
 pub struct Joiner {
@@ -30,6 +31,7 @@ pub struct Joiner {
     pub closed: bool,
 }
 
+// Stays: Late is an answer of its own by the paper, and no absence: so this is no Option.
 #[derive(Clone, Copy)]
 pub enum Joined {
     // The packet was accepted. Before it `count` numbers were passed over, `first` the first of them; `bytes` bytes were handed
@@ -41,24 +43,31 @@ pub enum Joined {
     },
     // Its number is 32,768 or more ahead: nothing was done with it.
     Late,
-    Refused(Error),
 }
 
 #[derive(Clone, Copy)]
 pub struct Step {
     pub joiner: Joiner,
-    pub answer: Joined,
+    pub answer: Result<Joined, Error>,
 }
 
+// Closed, after `count` numbers from `first` on never came.
 #[derive(Clone, Copy)]
-pub enum Closed {
-    // Closed, after `count` numbers from `first` on never came.
-    Closed { first: u16, count: u16 },
-    Refused(Error),
+pub struct Closed {
+    pub first: u16,
+    pub count: u16,
 }
 
+// Stays: no `Step<A>` for this and `Step`, since `typed_step` (proofs/Records.antt) says how the one record `Step` lies in memory.
 #[derive(Clone, Copy)]
 pub struct Closing {
     pub joiner: Joiner,
-    pub answer: Closed,
+    pub answer: Result<Closed, Error>,
+}
+
+// Where a packet leads that is not refused.
+#[derive(Clone, Copy)]
+struct Moved {
+    joiner: Joiner,
+    joined: Joined,
 }

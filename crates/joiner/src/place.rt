@@ -4,14 +4,19 @@ ghost use Rattle.joiner.specs.Join.{join_step};
 ghost use Rattle.joiner.specs.Said.{step_heard, place_heard};
 
 use crate::{Joined, Joiner, Step};
+use error::Error;
 
-pub fn join_in_place(j: &mut Joiner, packet: &[u8], gather: &mut [u8], out: &mut [u8]) -> Joined
+pub fn join_in_place(
+    j: &mut Joiner,
+    packet: &[u8],
+    gather: &mut [u8],
+    out: &mut [u8],
+) -> Result<Joined, Error>
     ensures { place_heard j.new result gather.new out.new ≡ join_step j.old packet.now gather.old out.old }
 {
-    let old = *j;
-    let s = old.join(packet, gather, out);
-    *j = s.joiner;
-    s.answer
+    let step = j.join(packet, gather, out);
+    *j = step.joiner;
+    step.answer
 }
 
 // By value through it, for callers that keep no reference.

@@ -11,13 +11,14 @@ use lib.Dec.{ltb}
 use lib.ListN.{length, take, drop, length-append, length-drop}
 use lib.Seq.{length-take-le, take_all}
 use borrow.Author.Tests.{lt-ltb, le-ltb}
-use Rattle.error.specs.Said.{says, refuse}
+use Rattle.error.specs.Refusal.{Refusal}
+use Rattle.error.specs.Said.{Said, says, refused, refuse}
 use Rattle.error.proofs.Refusing.{not_says, same_answer}
 use Rattle.wire.specs.Part.{splice}
 use Rattle.wire.specs.Packets.{joined}
 use Rattle.wire.proofs.Net.{length_be32}
 use Rattle.wire.proofs.Part.{splice_behind, take_through}
-use Rattle.nal.specs.Fed.{prefix_for, prefix_of, prefixed, OutLaid, lay_bytes, too_long, lay_gather, gather_after, Laid, lay_both}
+use Rattle.nal.specs.Fed.{prefix_for, prefix_of, prefixed, OutLaid, lay_bytes, end_of, too_long, lay_gather, gather_after, Laid, lay_both}
 
 pub length_prefix_for : (avc : Bool) (n : ℕ) → length (prefix_for avc n) ≡ 4
 length_prefix_for false n = refl
@@ -78,6 +79,26 @@ pub gather_fits : (gather kept : List ℕ) → length kept ≤ length gather →
     lay_gather gather kept ≡ record { answer = says 0; gather = splice gather 0 kept }
 unfolding lay_gather
 gather_fits gather kept h g = rw (not_long gather kept h g)
+
+-- what the test of how long the run is tells, by its answer: `n` is where the run ends
+pub end_long : (gather kept : List ℕ) (n : ℕ) (r : Refusal) → length kept ≡ n → refused r ≡ end_of (length gather) n →
+    (◌≡◌ {A = Said ℕ} (refused r) (refuse 6)) × ((length gather < length kept) ⊎ (16777215 < length kept))
+end_long gather kept n r l e = by (dec_le n (length gather)) (dec_le n 16777215)
+  where
+    by : Dec (n ≤ length gather) → Dec (n ≤ 16777215) → (◌≡◌ {A = Said ℕ} (refused r) (refuse 6)) × ((length gather < length kept) ⊎ (16777215 < length kept))
+    by (yes h) (yes g) = absurd (not_says {x = n} (e ∙ rw (le-ltb (length gather) n h, le-ltb 16777215 n g)))
+    by (yes h) (no g) = (e ∙ rw (le-ltb (length gather) n h, lt-ltb 16777215 n (lt_of_not-le g)), inr (omega (arith, l, lt_of_not-le g)))
+    by (no h) g = (e ∙ rw (lt-ltb (length gather) n (lt_of_not-le h)), inl (omega (arith, l, lt_of_not-le h)))
+
+pub end_fits : (gather kept : List ℕ) (n m : ℕ) → length kept ≡ n → says m ≡ end_of (length gather) n →
+    (m ≡ n) × (length kept ≤ length gather) × (length kept ≤ 16777215)
+end_fits gather kept n m l e = by (dec_le n (length gather)) (dec_le n 16777215)
+  where
+    by : Dec (n ≤ length gather) → Dec (n ≤ 16777215) → (m ≡ n) × (length kept ≤ length gather) × (length kept ≤ 16777215)
+    by (yes h) (yes g) =
+        (same_answer _ m n (sym e) (rw (le-ltb (length gather) n h, le-ltb 16777215 n g)), omega (arith, l, h), omega (arith, l, g))
+    by (yes h) (no g) = absurd (not_says {r = record { number = 6; carried = [] }} (sym (e ∙ rw (le-ltb (length gather) n h, lt-ltb 16777215 n (lt_of_not-le g)))))
+    by (no h) g = absurd (not_says {r = record { number = 6; carried = [] }} (sym (e ∙ rw (lt-ltb (length gather) n (lt_of_not-le h)))))
 
 module _ (avc : Bool) (gather out kept : List ℕ) (handed : List (List ℕ)) where
   pub both_long : (length gather < length kept) ⊎ (16777215 < length kept) →

@@ -17,7 +17,8 @@ use Rattle.wire.specs.Turns.{more, done, after, run}
 use Rattle.wire.proofs.Packets.{joined_append}
 use Rattle.wire.proofs.Part.{drop_front, drop_two}
 use Rattle.wire.proofs.Turns.{run_more, run_done}
-use Rattle.nal.specs.Said.{Measure, measure_of}
+use Rattle.nal.specs.declared.Measured.{Measured}
+use Rattle.nal.specs.Said.{measure_of}
 use Rattle.nal.specs.Unpack.{Unpacked, right, past, lone, Unpacking, sized, unpack_by, unpack_turn, unpack, units_in, sized_units, Sized}
 
 abbrev pub Units : Type 0
@@ -224,7 +225,7 @@ unpack_bound s all e =
     omega (arith, w)
 
 -- a measure is that of the units
-pub measured : (s : List ℕ) (m : Measure) → measure_of (unpack s) ≡ right m →
+pub measured : (s : List ℕ) (m : Measured) → measure_of (unpack s) ≡ right m →
     (unpack s ≡ right (units_in (unpack s))) × (m.count ≡ length (units_in (unpack s))) × (m.bytes ≡ length (joined (units_in (unpack s))))
 measured s m e = go (unpack s) e
   where
@@ -233,7 +234,7 @@ measured s m e = go (unpack s) e
     go (right us) f =
         let g : right m ≡ right (record { count = length us; bytes = length (joined us) }) = sym f in
         let same : m ≡ record { count = length us; bytes = length (joined us) } = cc in
-        (refl, ap (λ (x : Measure). x.count) same, ap (λ (x : Measure). x.bytes) same)
+        (refl, ap (λ (x : Measured). x.count) same, ap (λ (x : Measured). x.bytes) same)
     go (past size left) f = absurd (past_not_right f)
     go lone f = absurd (lone_not_right f)
 

@@ -65,6 +65,10 @@ pub record Laid (A : Type 0) : Type 0 where
 abbrev pub is_over : (room n : ℕ) → Bool
 is_over room n = ltb room n || ltb 16777215 n
 
+-- where a run ends that is not over
+abbrev pub end_of : (room n : ℕ) → Said ℕ
+end_of room n = cond (is_over room n) (refuse 6) (says n)
+
 abbrev pub too_long : (gather kept : List ℕ) → Bool
 too_long gather kept = is_over (length gather) (length kept)
 

@@ -1,42 +1,39 @@
 -- What the answers inside say. Assumes nothing.
-use Rattle.std.specs.Prelude.{◌≡◌, Bool, List, ℕ, ◌≤◌, length}
-use Rattle.error.specs.Refusal.{refusal_of}
-use Rattle.error.specs.Said.{Said, says, refused}
+use Rattle.std.specs.Prelude.{◌≡◌, Bool, true, false, List, ℕ, ◌≤◌, length, Result, Ok, Err}
+use Rattle.error.specs.declared.Error.{Error}
+use Rattle.error.specs.Said.{said}
 use Rattle.wire.specs.Packets.{joined}
-use Rattle.nal.specs.declared.Handed.{Handed}
-use Rattle.nal.specs.declared.Handed.TheVariants as handed
 use Rattle.nal.specs.declared.Measured.{Measured}
-use Rattle.nal.specs.declared.Measured.TheVariants as measured
+use Rattle.nal.specs.declared.Prefix.{Prefix}
+use Rattle.nal.specs.declared.Prefix.TheVariants as prefix
+use Rattle.nal.specs.declared.WrongSize.{WrongSize}
+use Rattle.nal.specs.declared.WrongSize.TheVariants as wrong
 use Rattle.nal.specs.Fed.{prefixed, OutLaid, GatherLaid, Laid}
 use Rattle.nal.specs.Unpack.{Unpacked, right, past, lone, unpack}
 
--- how many bytes were handed out
-abbrev pub said_handed : Handed → Said ℕ
-said_handed (handed.Bytes n) = says n
-said_handed (handed.Refused e) = refused (refusal_of e)
+-- whether units are handed out behind their lengths
+abbrev pub is_avc : Prefix → Bool
+is_avc prefix.Length = true
+is_avc prefix.StartCode = false
 
-abbrev pub out_heard : Handed → List ℕ → OutLaid
-out_heard r out = record { answer = said_handed r; out = out }
+-- the answer is how many bytes were handed out
+abbrev pub out_heard : Result ℕ Error → List ℕ → OutLaid
+out_heard r out = record { answer = said r; out = out }
 
-abbrev pub gather_heard : Handed → List ℕ → GatherLaid
-gather_heard r gather = record { answer = said_handed r; gather = gather }
+abbrev pub gather_heard : Result ℕ Error → List ℕ → GatherLaid
+gather_heard r gather = record { answer = said r; gather = gather }
 
-abbrev pub heard : Handed → List ℕ → List ℕ → Laid ℕ
-heard r gather out = record { answer = said_handed r; gather = gather; out = out }
+abbrev pub heard : Result ℕ Error → List ℕ → List ℕ → Laid ℕ
+heard r gather out = record { answer = said r; gather = gather; out = out }
 
 -- ---- an aggregation packet
 
--- how many units, and of how many bytes in all
-pub record Measure : Type 0 where
-  pub count : ℕ
-  pub bytes : ℕ
+abbrev pub measure_said : Result Measured WrongSize → Unpacked Measured
+measure_said (Ok m) = right m
+measure_said (Err (wrong.Past size left)) = past size left
+measure_said (Err wrong.Lone) = lone
 
-abbrev pub measure_said : Measured → Unpacked Measure
-measure_said (measured.Units count bytes) = right (record { count = count; bytes = bytes })
-measure_said (measured.Past size left) = past size left
-measure_said measured.Lone = lone
-
-abbrev pub measure_of : Unpacked (List (List ℕ)) → Unpacked Measure
+abbrev pub measure_of : Unpacked (List (List ℕ)) → Unpacked Measured
 measure_of (right units) = right (record { count = length units; bytes = length (joined units) })
 measure_of (past size left) = past size left
 measure_of lone = lone

@@ -4,11 +4,14 @@ use mathlib.Core.List.{List}
 use Prim.Native.Nat.{ℕ, ◌-◌}
 use lib.ListN.{length, take, drop}
 use Rattle.error.specs.Refusal.{Refusal}
-use Rattle.error.specs.Said.{Said, says, refused}
+use Rattle.error.specs.Said.{Said, says, refused, said}
 use Rattle.error.proofs.Refusing.{not_says}
 use Rattle.wire.specs.Packets.{joined}
+use Rattle.std.specs.Prelude.{Result, Ok, Err, MatchResult, IsErrAnd}
+use Rattle.std.proofs.lemmas.Result.{err_from_is_err_and}
+use Rattle.error.specs.declared.Error.{Error}
 use Rattle.nal.specs.declared.Measured.{Measured}
-use Rattle.nal.specs.Said.{Measure}
+use Rattle.nal.specs.declared.WrongSize.{WrongSize}
 use Rattle.nal.specs.Said as sizes
 use Rattle.nal.specs.Unpack.{Unpacked, right, past, lone, units_in}
 use Rattle.nal.specs.Unpack as any
@@ -23,7 +26,7 @@ measure_by (past size left) = refl
 measure_by lone = refl
 
 -- from what the sizes behind the first byte give
-pub measure_said_lem : (s : List ℕ) (m : Measured) → sizes.measure_said m ≡ sizes.measure_of (any.unpack (take (length s - 1) (drop 1 s))) →
+pub measure_said_lem : (s : List ℕ) (m : Result Measured WrongSize) → sizes.measure_said m ≡ sizes.measure_of (any.unpack (take (length s - 1) (drop 1 s))) →
     stap_said (sizes.measure_said m) ≡ measure_of (unpack s)
 unfolding unpack
 measure_said_lem s m e =
@@ -31,10 +34,17 @@ measure_said_lem s m e =
     ∙ ap (λ (l : List ℕ). stap_said (sizes.measure_of (any.unpack l))) (rest_of 1 s)
     ∙ measure_by (any.unpack (drop 1 s))
 
+-- with the refusals in place of what is wrong
+pub with_refusals : (m : Result Measured WrongSize) (r : Result Measured Error) →
+    MatchResult m (λ x. r ≡ Ok x) (λ w. IsErrAnd r (λ e. said {A = Measured} (Err e) ≡ stap_said (sizes.measure_said (Err w)))) →
+    said r ≡ stap_said (sizes.measure_said m)
+with_refusals (Ok x) r e = rw e
+with_refusals (Err w) r e = let p = err_from_is_err_and r e in rw p.1 p.2
+
 -- ---- back
 
 -- a measure is that of the sizes, which are then right
-measured_by : (x : Unpacked Units) (m : Measure) → measure_of (stap_said x) ≡ says m → (sizes.measure_of x ≡ right m) × (stap_said x ≡ says (units_in x))
+measured_by : (x : Unpacked Units) (m : Measured) → measure_of (stap_said x) ≡ says m → (sizes.measure_of x ≡ right m) × (stap_said x ≡ says (units_in x))
 measured_by (right us) m e =
     let f : says (record { count = length us; bytes = length (joined us) }) ≡ says m = e in
     let same : record { count = length us; bytes = length (joined us) } ≡ m = cc in
@@ -42,7 +52,7 @@ measured_by (right us) m e =
 measured_by (past size left) m e = absurd (not_says e)
 measured_by lone m e = absurd (not_says e)
 
-pub measured : (s : List ℕ) (m : Measure) → measure_of (unpack s) ≡ says m →
+pub measured : (s : List ℕ) (m : Measured) → measure_of (unpack s) ≡ says m →
     (sizes.measure_of (any.unpack (take (length s - 1) (drop 1 s))) ≡ right m)
     × (unpack s ≡ says (units_in (any.unpack (take (length s - 1) (drop 1 s)))))
 unfolding unpack

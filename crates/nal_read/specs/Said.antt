@@ -1,13 +1,10 @@
 -- What the answers inside say. Assumes nothing.
 use Rattle.std.specs.Prelude.{List, ℕ, length}
-use Rattle.error.specs.Refusal.{refusal_of}
 use Rattle.error.specs.Said.{Said, says, refused}
 use Rattle.wire.specs.Packets.{joined}
-use Rattle.nal.specs.Said.{Measure}
+use Rattle.nal.specs.declared.Measured.{Measured}
 use Rattle.nal_read.specs.declared.Kind.{Kind}
 use Rattle.nal_read.specs.declared.Kind.TheVariants as kind
-use Rattle.nal_read.specs.declared.Measured.{Measured}
-use Rattle.nal_read.specs.declared.Measured.TheVariants as measured
 use Rattle.nal_read.specs.Kind.{Shape, short, unknown, plain, aggregate, fragment}
 
 abbrev pub shape_said : Kind → Shape
@@ -19,10 +16,6 @@ shape_said (kind.Fragment first last head) = fragment first last head
 
 -- ---- a STAP-A
 
-abbrev pub measure_said : Measured → Said Measure
-measure_said (measured.Units count bytes) = says (record { count = count; bytes = bytes })
-measure_said (measured.Refused e) = refused (refusal_of e)
-
-abbrev pub measure_of : Said (List (List ℕ)) → Said Measure
+abbrev pub measure_of : Said (List (List ℕ)) → Said Measured
 measure_of (says units) = says (record { count = length units; bytes = length (joined units) })
 measure_of (refused r) = refused r

@@ -1,13 +1,23 @@
 // The units of a STAP-A.
-ghost use Rattle.std.specs.Prelude.{◌≡◌, ◌≤◌, length};
+ghost use Rattle.std.specs.Prelude.{◌≡◌, ◌≤◌, length, Err};
+ghost use Rattle.error.specs.Said.{said};
 ghost use Rattle.nal.specs.Fed.{lay_units};
-ghost use Rattle.nal.specs.Said.{out_heard};
-ghost use Rattle.nal_read.specs.Said.{measure_said, measure_of};
-ghost use Rattle.nal_read.specs.Unpack.{unpack};
+ghost use Rattle.nal.specs.Said.{is_avc, measure_said, out_heard};
+ghost use Rattle.nal_read.specs.Said.{measure_of};
+ghost use Rattle.nal_read.specs.Unpack.{stap_said, unpack};
 
-use crate::Measured;
 use error::Error;
-use nal::Handed;
+use nal::{Measured, Prefix, WrongSize};
+
+// A wrong size's refusal.
+fn refusal(wrong: WrongSize) -> Error
+    ensures { said (Err result) ≡ stap_said (measure_said (Err wrong)) }
+{
+    match wrong {
+        WrongSize::Past { size, left } => Error::StapASizeLargerThanBuffer(size, left),
+        WrongSize::Lone => Error::StapASizeCut,
+    }
+}
 
 // Whether every size lies within the packet; nothing is written.
 //
@@ -18,30 +28,18 @@ use nal::Handed;
 // +-+-+-+-+-+-+-+-+-+-+-+-+-+-+-+-+-+-+-+-+-+-+-+-+-+-+-+-+-+-+-+-+
 // |STAP-A NAL HDR |         NALU 1 Size           | NALU 1 HDR    |
 // +-+-+-+-+-+-+-+-+-+-+-+-+-+-+-+-+-+-+-+-+-+-+-+-+-+-+-+-+-+-+-+-+
-pub fn measure(payload: &[u8]) -> Measured
+pub fn measure(payload: &[u8]) -> Result<Measured, Error>
     requires { 1 ≤ length payload.now }
-    ensures { measure_said result ≡ measure_of (unpack payload.now) }
+    ensures { said result ≡ measure_of (unpack payload.now) }
 {
-    let measured = nal::measure(&payload[1..]);
-    match measured {
-        nal::Measured::Units { count, bytes } => Measured::Units { count, bytes },
-        nal::Measured::Past { size, left } => {
-            Measured::Refused(Error::StapASizeLargerThanBuffer(size, left))
-        }
-        nal::Measured::Lone => Measured::Refused(Error::StapASizeCut),
-    }
+    nal::measure(&payload[1..]).map_err(refusal)
 }
 
 // Hands out the units of a STAP-A.
-pub fn hand_stap_a(payload: &[u8], avc: bool, out: &mut [u8]) -> Handed
+pub fn hand_stap_a(payload: &[u8], prefix: Prefix, out: &mut [u8]) -> Result<usize, Error>
     requires { (1 ≤ length payload.now) × (length payload.now ≤ 65535) }
-    ensures { out_heard result out.new ≡ lay_units avc out.old (unpack payload.now) }
+    ensures { out_heard result out.new ≡ lay_units (is_avc prefix) out.old (unpack payload.now) }
 {
-    let measured = measure(payload);
-    match measured {
-        Measured::Units { count, bytes } => {
-            nal::hand_units(&payload[1..], count, bytes, avc, out)
-        }
-        Measured::Refused(e) => Handed::Refused(e),
-    }
+    let units = measure(payload)?;
+    nal::hand_units(&payload[1..], units, prefix, out)
 }

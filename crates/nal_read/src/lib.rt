@@ -1,8 +1,6 @@
 // What an H.264 payload is, for the reader and the joiner: its kind, and the units of a STAP-A.
 #![tactic(auto)]
 
-use error::Error;
-
 mod aggregate;
 mod payload;
 
@@ -21,11 +19,4 @@ pub enum Kind {
     Aggregate,
     // an FU-A: its start and end bits, and the first byte of the unit it belongs to
     Fragment { first: bool, last: bool, head: u8 },
-}
-
-// The units of a STAP-A: how many, and of how many bytes in all; or why it has none.
-#[derive(Clone, Copy)]
-pub enum Measured {
-    Units { count: usize, bytes: usize },
-    Refused(Error),
 }

@@ -5,6 +5,7 @@ ghost use Rattle.nal_read.specs.Said.{shape_said};
 
 use crate::Kind;
 
+// Stays: numbers of the wire, under the names that the Rust gives them; of type 9 `h264_put` has its own, since neither crate uses the other.
 pub const AUD_NALU_TYPE: u8 = 9;
 
 pub const STAPA_NALU_TYPE: u8 = 24;
@@ -18,6 +19,7 @@ pub const FUA_NALU_TYPE: u8 = 28;
 // +-+-+-+-+-+-+-+-+   +-+-+-+-+-+-+-+-+
 // |F|NRI|  Type   |   |S|E|R|  Type   |
 // +---------------+   +---------------+
+#[tactic(auto, unfolding(crate::specs::Kind::shape))]
 pub fn kind_of(payload: &[u8]) -> Kind
     ensures { shape_said result ≡ shape payload.now }
 {
@@ -32,22 +34,17 @@ pub fn kind_of(payload: &[u8]) -> Kind
         }
         return Kind::Short;
     }
-    if nalu_type == STAPA_NALU_TYPE {
-        return Kind::Aggregate;
+    match nalu_type {
+        STAPA_NALU_TYPE => Kind::Aggregate,
+        FUA_NALU_TYPE => {
+            let b1 = payload[1];
+            Kind::Fragment {
+                first: b1 / 128 % 2 == 1,
+                last: b1 / 64 % 2 == 1,
+                head: b0 / 32 % 4 * 32 + b1 % 32,
+            }
+        }
+        1..=23 => Kind::Plain,
+        _ => Kind::Unknown(nalu_type),
     }
-    if nalu_type == FUA_NALU_TYPE {
-        let b1 = payload[1];
-        return Kind::Fragment {
-            first: b1 / 128 % 2 == 1,
-            last: b1 / 64 % 2 == 1,
-            head: b0 / 32 % 4 * 32 + b1 % 32,
-        };
-    }
-    if nalu_type == 0 {
-        return Kind::Unknown(nalu_type);
-    }
-    if nalu_type <= 23 {
-        return Kind::Plain;
-    }
-    Kind::Unknown(nalu_type)
 }

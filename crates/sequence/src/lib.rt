@@ -8,12 +8,12 @@ ghost use Rattle.sequence.specs.Number.{distance_of, next_of};
 pub fn distance(number: u16, awaited: u16) -> u16
     ensures { result ≡ distance_of number awaited }
 {
-    std::num::wrapping_sub_u16(number, awaited)
+    number.wrapping_sub(awaited)
 }
 
 // The number after `number`.
 pub fn after(number: u16) -> u16
     ensures { result ≡ next_of number }
 {
-    std::num::wrapping_add_u16(number, 1)
+    number.wrapping_add(1)
 }

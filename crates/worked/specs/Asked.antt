@@ -12,7 +12,8 @@ use Rattle.packet.specs.Write.{write_packet}
 use Rattle.vp8_read.specs.declared.Vp8Packet.{Vp8Packet}
 use Rattle.vp8_read.specs.Read as reader
 use Rattle.h264_put.specs.Groups.{nothing_saved}
-use Rattle.h264.specs.Payload.{Counts, Left, payload_of}
+use Rattle.h264.specs.declared.send.Written.{Written}
+use Rattle.h264.specs.Payload.{Left, payload_of}
 use Rattle.h264.specs.Payload as sender
 use Rattle.nal.specs.Fed.{Laid}
 use Rattle.nal.specs.Ran.{RanOn}
@@ -83,7 +84,7 @@ cut_at from (end ∷ ends) out = take (end - from) out ∷ cut_at end ends (drop
 abbrev pub sent_says : Left → Says
 sent_says l = counted l.answer
   where
-    counted : Said Counts → Says
+    counted : Said Written → Says
     counted (says n) = packets (cut_at 0 (take n.packets l.ends) l.out)
     counted (refused r) = refusing r
 

@@ -1,10 +1,14 @@
 -- By the payload's kind, each as its own function has it.
 use mathlib.Core.Path.{◌≡◌, sym, ap, ◌∙◌}
 use mathlib.Core.List.{[], ◌∷◌}
+use Prim.Native.Nat.{ℕ}
 use native.Mathlib.Omega.{arith}
 use borrow.Author.Rules.{rules}
-use Rattle.error.specs.Said.{says}
+use Rattle.std.specs.Prelude.{Option, Ok, Err}
+use Rattle.std.proofs.lemmas.Result.{err_from_is_err_and}
+use Rattle.error.specs.Said.{says, said}
 use Rattle.nal.specs.Fed.{Laid}
+use Rattle.nal.specs.Said.{is_avc}
 use Rattle.nal.specs.Ran.{RanOn}
 use Rattle.nal_read.specs.declared.Kind.{Kind}
 use Rattle.nal_read.specs.Kind.{Shape, shape}
@@ -20,15 +24,15 @@ use Rattle.joiner_feed.proofs.feed.Goals as goal
 use Rattle.joiner_feed.proofs.feed.Goals.{Start}
 
 -- what a payload of this shape does, laid into both buffers
-abbrev laid : Start → Shape → Laid (RanOn Run)
+abbrev laid : Start → Shape → Laid (RanOn (Option Run))
 laid c shape =
-    lay_does c.args.avc c.args.gather.now c.args.out.now
+    lay_does (is_avc c.args.prefix) c.args.gather.now c.args.out.now
     (fed_after (run_of c.args.run c.args.gather.now) c.args.time (check_by shape c.args.payload.now))
 
 -- the shape that the code goes by is the payload's
 by_shape : (s : Start) (result k : Kind) → shape_said result ≡ shape s.args.payload.now → result ≡ k →
     laid s (shape_said k)
-    ≡ lay_does s.args.avc s.args.gather.now s.args.out.now
+    ≡ lay_does (is_avc s.args.prefix) s.args.gather.now s.args.out.now
     (fed_after (run_of s.args.run s.args.gather.now) s.args.time (check s.args.payload.now))
 unfolding check
 by_shape s result k e f = ap (laid s) (sym (sym e ∙ ap shape_said f))
@@ -51,19 +55,33 @@ pub returns-in-Unknown : goal.returns-in-Unknown
 returns-in-Unknown c = by_shape (goal.at.returns-in-Unknown c).Start _ _ c.kind_of-kind.ensures c.in-Unknown.is
 
 -- ---- units, behind which no run is open
-pub returns-in-Plain : goal.returns-in-Plain
-returns-in-Plain c =
+pub returns-in_err-bytes-in-Plain : goal.returns-in_err-bytes-in-Plain
+returns-in_err-bytes-in-Plain c =
     let a = c.args in
-    units_alone a.avc a.run a.time a.gather.now a.out.now (says (a.payload.now ∷ [])) _ _ _ _
-    c.with_run.ensures c.no_run-none.ensures c.hand_plain.ensures
-    ∙ by_shape (goal.at.returns-in-Plain c).Start _ _ c.kind_of-kind.ensures c.in-Plain.is
+    let p = err_from_is_err_and c.from_residual.result c.from_residual.ensures.1 in
+    rw (p.1, p.2)
+    (units_alone (is_avc a.prefix) a.run a.time a.gather.now a.out.now (says (a.payload.now ∷ [])) (said {A = ℕ} (Err _)) _ c.in_err-bytes-in-Plain.ensures
+    ∙ by_shape (goal.at.returns-in_err-bytes-in-Plain c).Start _ _ c.kind_of-kind.ensures c.in-Plain.is)
 
-pub returns-in-Aggregate : goal.returns-in-Aggregate
-returns-in-Aggregate c =
+pub returns-in_ok-bytes-in-Plain : goal.returns-in_ok-bytes-in-Plain
+returns-in_ok-bytes-in-Plain c =
     let a = c.args in
-    units_alone a.avc a.run a.time a.gather.now a.out.now (unpack a.payload.now) _ _ _ _
-    c.with_run-in-Aggregate.ensures c.no_run-none.ensures c.hand_stap_a.ensures
-    ∙ by_shape (goal.at.returns-in-Aggregate c).Start _ _ c.kind_of-kind.ensures c.in-Aggregate.is
+    units_alone (is_avc a.prefix) a.run a.time a.gather.now a.out.now (says (a.payload.now ∷ [])) (said (Ok _)) _ c.in_ok-bytes-in-Plain.ensures
+    ∙ by_shape (goal.at.returns-in_ok-bytes-in-Plain c).Start _ _ c.kind_of-kind.ensures c.in-Plain.is
+
+pub returns-in_err-bytes-in-Aggregate : goal.returns-in_err-bytes-in-Aggregate
+returns-in_err-bytes-in-Aggregate c =
+    let a = c.args in
+    let p = err_from_is_err_and c.from_residual-in_err-bytes-in-Aggregate.result c.from_residual-in_err-bytes-in-Aggregate.ensures.1 in
+    rw (p.1, p.2)
+    (units_alone (is_avc a.prefix) a.run a.time a.gather.now a.out.now (unpack a.payload.now) (said {A = ℕ} (Err _)) _ c.in_err-bytes-in-Aggregate.ensures
+    ∙ by_shape (goal.at.returns-in_err-bytes-in-Aggregate c).Start _ _ c.kind_of-kind.ensures c.in-Aggregate.is)
+
+pub returns-in_ok-bytes-in-Aggregate : goal.returns-in_ok-bytes-in-Aggregate
+returns-in_ok-bytes-in-Aggregate c =
+    let a = c.args in
+    units_alone (is_avc a.prefix) a.run a.time a.gather.now a.out.now (unpack a.payload.now) (said (Ok _)) _ c.in_ok-bytes-in-Aggregate.ensures
+    ∙ by_shape (goal.at.returns-in_ok-bytes-in-Aggregate c).Start _ _ c.kind_of-kind.ensures c.in-Aggregate.is
 
 pub returns-in-Fragment : goal.returns-in-Fragment
 returns-in-Fragment c =

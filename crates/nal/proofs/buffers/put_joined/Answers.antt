@@ -5,6 +5,7 @@ use Prim.Native.Nat.{ℕ, ◌+◌}
 use lib.ListN.{length}
 use borrow.Author.Rules.{rules}
 use Rattle.wire.specs.Part.{splice}
+use Rattle.nal.specs.Said.{is_avc}
 use Rattle.nal.proofs.Handing.{joined_unit}
 use Rattle.nal.proofs.buffers.put_joined.Goals as goal
 
@@ -16,4 +17,4 @@ returns c =
     c.copy_at-2.ensures
     ∙ ap (λ (l : List ℕ). splice l (4 + length head) body) c.copy_at.ensures
     ∙ ap (λ (l : List ℕ). splice (splice l 4 head) (4 + length head) body) c.put_prefix.ensures
-    ∙ joined_unit a.avc a.out.now head body (search rules)
+    ∙ joined_unit (is_avc a.prefix) a.out.now head body (search rules)
