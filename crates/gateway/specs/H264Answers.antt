@@ -4,7 +4,8 @@ use Rattle.wire.specs.Part.{part}
 use Rattle.error.specs.Said.{Said}
 use Rattle.h264.specs.declared.send.H264Payloader.{H264Payloader}
 use Rattle.h264.specs.declared.lent.LentPayloader.{LentPayloader}
-use Rattle.h264.specs.Payload.{Counts, Lent, LeftIn, Left}
+use Rattle.h264.specs.declared.send.Written.{Written}
+use Rattle.h264.specs.Payload.{Lent, LeftIn, Left}
 use Rattle.h264_packet.specs.Depacketize.{Showing, nowhere, in_packet, in_gather}
 use Rattle.h264_packet.specs.Said.{Heard}
 use Rattle.gateway.specs.declared.rtp_h264.Counted.{Counted}
@@ -15,14 +16,14 @@ use Rattle.gateway.specs.declared.rtp_h264.RtpH264Read.{RtpH264Read}
 use Rattle.gateway.specs.Refused.{refused_in, number_in}
 
 -- a refusal, or the counts: what the records of both senders begin with
-abbrev pub counted_as : Said Counts → Counted
+abbrev pub counted_as : Said Written → Counted
 counted_as x =
     record {
       refused = refused_in x;
-      packets = number_in (λ (c : Counts). c.packets) x;
-      bytes = number_in (λ (c : Counts). c.bytes) x;
-      units_dropped = number_in (λ (c : Counts). c.units_dropped) x;
-      pairs_dropped = number_in (λ (c : Counts). c.pairs_dropped) x;
+      packets = number_in (λ (c : Written). c.packets) x;
+      bytes = number_in (λ (c : Written). c.bytes) x;
+      units_dropped = number_in (λ (c : Written). c.units_dropped) x;
+      pairs_dropped = number_in (λ (c : Written). c.pairs_dropped) x;
     }
 
 -- the counts, beside the sender
@@ -81,7 +82,7 @@ h264_read_as h p g =
     }
 
 -- how a caller reads the counts, in the order of either record
-abbrev pub counts_by : (packets bytes units pairs : ℕ) → Counts
+abbrev pub counts_by : (packets bytes units pairs : ℕ) → Written
 counts_by packets bytes units pairs = record { packets = packets; bytes = bytes; units_dropped = units; pairs_dropped = pairs }
 
 -- how a caller finds the body: a part of the payload, or of the gather buffer, or nothing

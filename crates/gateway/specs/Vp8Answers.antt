@@ -1,5 +1,6 @@
 -- How the answers about VP8 stand in their records. Assumes nothing.
-use Rattle.vp8_send.specs.Send.{Sent, Sending}
+use Rattle.vp8_send.specs.declared.Vp8Sent.{Vp8Sent}
+use Rattle.vp8_send.specs.Send.{Sending}
 use Rattle.vp8_read.specs.Read.{Reading}
 use Rattle.gateway.specs.declared.rtp_vp8.RtpVp8Sent.{RtpVp8Sent}
 use Rattle.gateway.specs.declared.rtp_vp8.RtpVp8Read.{RtpVp8Read}
@@ -10,8 +11,8 @@ abbrev pub vp8_sent_as : Sending → RtpVp8Sent
 vp8_sent_as s =
     record {
       refused = refused_in s.said;
-      packets = number_in (λ (c : Sent). c.packets) s.said;
-      bytes = number_in (λ (c : Sent). c.bytes) s.said;
+      packets = number_in (λ (c : Vp8Sent). c.packets) s.said;
+      bytes = number_in (λ (c : Vp8Sent). c.bytes) s.said;
       payloader = s.payloader;
     }
 

@@ -2,6 +2,7 @@
 //
 // Each makes one call of the library and lays its answer out in a record: a refusal's number and what it carries, or 0, then
 // the values, and beside them the state or the header. A slice is a pointer and a count. include/rtp_rattle.h declares them all.
+// Stays: each function and each record has its own name and shape for C, also where two are alike; a flag stands beside its value, an array beside its count.
 #![tactic(auto)]
 
 pub mod refused; // refused.rt: a refusal in a record

@@ -1,7 +1,7 @@
 // A refusal in a record that C and Rust can read.
 ghost use Rattle.std.specs.Prelude.{◌≡◌};
 ghost use Rattle.error.specs.Refusal.{carried_by, refusal_of};
-ghost use Rattle.error.specs.Said.{says, refused};
+ghost use Rattle.error.specs.Said.{says, refused, said};
 ghost use Rattle.gateway.specs.Refused.{carried_as, refused_as, not_refused, test_as};
 
 use error::Error;
@@ -15,44 +15,18 @@ pub struct Refused {
     pub carried: [usize; 2],
 }
 
-fn carried(e: Error) -> [usize; 2]
-    ensures { result ≡ carried_as (carried_by e) }
-{
-    match e {
-        Error::ErrHeaderSizeInsufficient => [0, 0],
-        Error::ErrHeaderSizeInsufficientForExtension => [0, 0],
-        Error::ElementPastPacket => [0, 0],
-        Error::ErrShortPacket => [0, 0],
-        Error::ErrBufferTooSmall => [0, 0],
-        Error::GatherTooSmall => [0, 0],
-        Error::OverLimits => [0, 0],
-        Error::OutsideDomain => [0, 0],
-        Error::HeaderExtensionPayloadNot32BitWords => [0, 0],
-        Error::ErrRfc3550headerIdrange => [0, 0],
-        Error::ErrRfc8285oneByteHeaderIdrange => [0, 0],
-        Error::ErrRfc8285oneByteHeaderSize => [0, 0],
-        Error::ErrRfc8285twoByteHeaderIdrange => [0, 0],
-        Error::ErrRfc8285twoByteHeaderSize => [0, 0],
-        Error::ErrHeaderExtensionNotFound => [0, 0],
-        Error::ErrHeaderExtensionsNotEnabled => [0, 0],
-        Error::StapASizeLargerThanBuffer(size, left) => [size, left],
-        Error::StapASizeCut => [0, 0],
-        Error::NaluTypeIsNotHandled(nalu_type) => [wire::wide(nalu_type), 0],
-        Error::OtherSource => [0, 0],
-        Error::StartAndEnd => [0, 0],
-        Error::AlreadyClosed => [0, 0],
-        Error::ClosingTooFar => [0, 0],
-        Error::MissedTotalFull => [0, 0],
-        Error::OtherTime => [0, 0],
-    }
-}
+impl From<Error> for Refused {
+    ghost from_gives = { λ e r. r ≡ refused_as (refusal_of e) };
 
-pub(crate) fn refusal(e: Error) -> Refused
-    ensures { result ≡ refused_as (refusal_of e) }
-{
-    Refused {
-        number: e.number(),
-        carried: carried(e),
+    fn from(e: Error) -> Refused {
+        Refused {
+            number: e.number(),
+            carried: match e {
+                Error::StapASizeLargerThanBuffer(size, left) => [size, left],
+                Error::NaluTypeIsNotHandled(nalu_type) => [usize::from(nalu_type), 0],
+                _ => [0, 0],
+            },
+        }
     }
 }
 
@@ -74,20 +48,19 @@ pub struct RtpTest {
     pub holds: bool,
 }
 
-pub(crate) fn tested(holds: bool) -> RtpTest
-    ensures { result ≡ test_as (says holds) }
-{
-    RtpTest {
-        refused: answered(),
-        holds,
-    }
-}
+impl From<Result<bool, Error>> for RtpTest {
+    ghost from_gives = { λ x r. r ≡ test_as (said x) };
 
-pub(crate) fn untested(e: Error) -> RtpTest
-    ensures { result ≡ test_as (refused (refusal_of e)) }
-{
-    RtpTest {
-        refused: refusal(e),
-        holds: false,
+    fn from(answer: Result<bool, Error>) -> RtpTest {
+        match answer {
+            Ok(holds) => RtpTest {
+                refused: answered(),
+                holds,
+            },
+            Err(e) => RtpTest {
+                refused: Refused::from(e),
+                holds: false,
+            },
+        }
     }
 }

@@ -4,8 +4,9 @@ ghost use Rattle.header.specs.Extension.{set_extension, del_extension, get_exten
 ghost use Rattle.header.specs.Said.{heard_change, change_heard, said_got, heard_ids, ids_heard};
 ghost use Rattle.gateway.specs.HeaderAnswers.{header_changed_as, element_as, ids_as};
 
-use crate::refused::{Refused, answered, refusal};
-use header::{Change, Changed, Got, Header, IdCount, Ids};
+use crate::refused::{Refused, answered};
+use error::Error;
+use header::{Changed, Data, Header, Ids};
 
 // A header after an element was set or deleted.
 #[repr(C)]
@@ -29,6 +30,7 @@ pub struct RtpElement {
     pub len: usize,
 }
 
+// Stays: C sees the record: an array beside its count.
 #[repr(C)]
 #[derive(Clone, Copy)]
 pub struct RtpIds {
@@ -39,64 +41,70 @@ pub struct RtpIds {
     pub ids: [u8; 32],
 }
 
-fn changed(answer: Changed) -> RtpHeaderChanged
-    ensures { result ≡ header_changed_as (heard_change answer) }
-{
-    let change = answer.change;
-    let header = answer.header;
-    match change {
-        Change::Made => RtpHeaderChanged {
-            refused: answered(),
-            header,
-        },
-        Change::Refused(e) => RtpHeaderChanged {
-            refused: refusal(e),
-            header,
-        },
+impl From<Changed> for RtpHeaderChanged {
+    ghost from_gives = { λ answer r. r ≡ header_changed_as (heard_change answer) };
+
+    fn from(answer: Changed) -> RtpHeaderChanged {
+        let change = answer.change;
+        let header = answer.header;
+        match change {
+            Ok(()) => RtpHeaderChanged {
+                refused: answered(),
+                header,
+            },
+            Err(e) => RtpHeaderChanged {
+                refused: Refused::from(e),
+                header,
+            },
+        }
     }
 }
 
-pub(crate) fn element(answer: Got) -> RtpElement
-    ensures { result ≡ element_as (said_got answer) }
-{
-    match answer {
-        Got::Data { at, len } => RtpElement {
-            refused: answered(),
-            present: true,
-            at,
-            len,
-        },
-        Got::Absent => RtpElement {
-            refused: answered(),
-            present: false,
-            at: 0,
-            len: 0,
-        },
-        Got::Refused(e) => RtpElement {
-            refused: refusal(e),
-            present: false,
-            at: 0,
-            len: 0,
-        },
+impl From<Result<Option<Data>, Error>> for RtpElement {
+    ghost from_gives = { λ answer r. r ≡ element_as (said_got answer) };
+
+    fn from(answer: Result<Option<Data>, Error>) -> RtpElement {
+        match answer {
+            Ok(Some(Data { at, len })) => RtpElement {
+                refused: answered(),
+                present: true,
+                at,
+                len,
+            },
+            Ok(None) => RtpElement {
+                refused: answered(),
+                present: false,
+                at: 0,
+                len: 0,
+            },
+            Err(e) => RtpElement {
+                refused: Refused::from(e),
+                present: false,
+                at: 0,
+                len: 0,
+            },
+        }
     }
 }
 
-pub(crate) fn listed(answer: Ids) -> RtpIds
-    ensures { result ≡ ids_as (heard_ids answer) }
-{
-    let n = answer.count;
-    let ids = answer.ids;
-    match n {
-        IdCount::Ids(count) => RtpIds {
-            refused: answered(),
-            count,
-            ids,
-        },
-        IdCount::Refused(e) => RtpIds {
-            refused: refusal(e),
-            count: 0,
-            ids,
-        },
+impl From<Ids> for RtpIds {
+    ghost from_gives = { λ answer r. r ≡ ids_as (heard_ids answer) };
+
+    fn from(answer: Ids) -> RtpIds {
+        let n = answer.count;
+        let ids = answer.ids;
+        match n {
+            Ok(count) => RtpIds {
+                refused: answered(),
+                count,
+                ids,
+            },
+            Err(e) => RtpIds {
+                refused: Refused::from(e),
+                count: 0,
+                ids,
+            },
+        }
     }
 }
 
@@ -108,26 +116,26 @@ pub extern "C" fn rtp_header_set_extension(
 ) -> RtpHeaderChanged
     ensures { result ≡ header_changed_as (change_heard header (set_extension header id payload.now)) }
 {
-    changed(header.set_extension(id, payload))
+    RtpHeaderChanged::from(header.set_extension(id, payload))
 }
 
 #[unsafe(no_mangle)]
 pub extern "C" fn rtp_header_del_extension(header: Header, id: u8) -> RtpHeaderChanged
     ensures { result ≡ header_changed_as (change_heard header (del_extension header id)) }
 {
-    changed(header.del_extension(id))
+    RtpHeaderChanged::from(header.del_extension(id))
 }
 
 #[unsafe(no_mangle)]
 pub extern "C" fn rtp_header_get_extension(header: Header, id: u8) -> RtpElement
     ensures { result ≡ element_as (get_extension header id) }
 {
-    element(header.get_extension(id))
+    RtpElement::from(header.get_extension(id))
 }
 
 #[unsafe(no_mangle)]
 pub extern "C" fn rtp_header_get_extension_ids(header: Header) -> RtpIds
     ensures { result ≡ ids_as (ids_heard (get_extension_ids header)) }
 {
-    listed(header.get_extension_ids())
+    RtpIds::from(header.get_extension_ids())
 }

@@ -1,15 +1,17 @@
 // H.264: frames sent, payloads read, the partition tests.
 ghost use Rattle.std.specs.Prelude.{◌≡◌, [], ℕ, ◌≤◌, length};
 ghost use Rattle.h264_put.specs.Groups.{nothing_saved};
-ghost use Rattle.h264.specs.Payload.{lay_out, said, left, left_lent, payload_of, lent_of};
+ghost use Rattle.error.specs.Said.{said};
+ghost use Rattle.h264.specs.Payload.{lay_out, left, left_lent, payload_of, lent_of};
 ghost use Rattle.h264_packet.specs.Depacketize.{depacketized, in_packet, Lies, head_test};
-ghost use Rattle.h264_packet.specs.Said.{said_shown, heard, depacketized_heard, said_head};
+ghost use Rattle.h264_packet.specs.Said.{said_shown, heard, depacketized_heard};
 ghost use Rattle.gateway.specs.Refused.{test_as};
 ghost use Rattle.gateway.specs.H264Answers.{counted_as, h264_sent_as, lent, h264_lent_sent_as, body_nowhere, body_as, h264_read_as};
 
-use crate::refused::{Refused, RtpTest, answered, refusal, tested, untested};
-use h264::{H264Payloader, LentPayloader, LentSent, Payloads, Sent};
-use h264_packet::{Depacketize, Depacketized, H264Packet, Head, Shown};
+use crate::refused::{Refused, RtpTest, answered};
+use error::Error;
+use h264::{H264Payloader, LentPayloader, Sent, Written};
+use h264_packet::{Depacketized, H264Packet, Shown};
 
 // The payloads of a frame.
 #[repr(C)]
@@ -29,6 +31,7 @@ pub struct RtpH264Sent {
 }
 
 // The payloads of a frame, where the parameter sets lie in lent buffers.
+// Stays: a record of its own, since no struct with type arguments stands in an exported signature, and C has none.
 #[repr(C)]
 #[derive(Clone, Copy)]
 pub struct RtpH264LentSent {
@@ -82,63 +85,58 @@ pub struct RtpH264Read {
     pub packet: H264Packet,
 }
 
-fn counts(answer: Payloads) -> Counted
-    ensures { result ≡ counted_as (said answer) }
-{
-    match answer {
-        Payloads::Written {
-            packets,
-            bytes,
-            units_dropped,
-            pairs_dropped,
-        } => Counted {
-            refused: answered(),
-            packets,
-            bytes,
-            units_dropped,
-            pairs_dropped,
-        },
-        Payloads::Refused(e) => Counted {
-            refused: refusal(e),
-            packets: 0,
-            bytes: 0,
-            units_dropped: 0,
-            pairs_dropped: 0,
-        },
+impl From<Result<Written, Error>> for Counted {
+    ghost from_gives = { λ x r. r ≡ counted_as (said x) };
+
+    fn from(answer: Result<Written, Error>) -> Counted {
+        match answer {
+            Ok(written) => Counted {
+                refused: answered(),
+                packets: written.packets,
+                bytes: written.bytes,
+                units_dropped: written.units_dropped,
+                pairs_dropped: written.pairs_dropped,
+            },
+            Err(e) => Counted {
+                refused: Refused::from(e),
+                packets: 0,
+                bytes: 0,
+                units_dropped: 0,
+                pairs_dropped: 0,
+            },
+        }
     }
 }
 
-fn h264_sent(answer: Sent) -> RtpH264Sent
-    ensures { result ≡ h264_sent_as (left answer [] []) }
-{
-    let payloads = answer.answer;
-    let counted = counts(payloads);
-    let refused = counted.refused;
-    let sender = answer.sender;
-    RtpH264Sent {
-        refused,
-        packets: counted.packets,
-        bytes: counted.bytes,
-        units_dropped: counted.units_dropped,
-        pairs_dropped: counted.pairs_dropped,
-        sender,
+impl From<Sent<H264Payloader>> for RtpH264Sent {
+    ghost from_gives = { λ sent r. r ≡ h264_sent_as (left sent [] []) };
+
+    fn from(sent: Sent<H264Payloader>) -> RtpH264Sent {
+        let counted = Counted::from(sent.answer);
+        RtpH264Sent {
+            refused: counted.refused,
+            packets: counted.packets,
+            bytes: counted.bytes,
+            units_dropped: counted.units_dropped,
+            pairs_dropped: counted.pairs_dropped,
+            sender: sent.sender,
+        }
     }
 }
 
-fn h264_lent_sent(answer: LentSent) -> RtpH264LentSent
-    ensures { result ≡ h264_lent_sent_as (left_lent answer [] [] [] []) }
-{
-    let payloads = answer.answer;
-    let counted = counts(payloads);
-    let refused = counted.refused;
-    let sender = answer.sender;
-    RtpH264LentSent {
-        refused,
-        packets: counted.packets,
-        bytes: counted.bytes,
-        units_dropped: counted.units_dropped,
-        pairs_dropped: counted.pairs_dropped,
-        sender,
+impl From<Sent<LentPayloader>> for RtpH264LentSent {
+    ghost from_gives = { λ sent r. r ≡ h264_lent_sent_as (left_lent sent [] [] [] []) };
+
+    fn from(sent: Sent<LentPayloader>) -> RtpH264LentSent {
+        let counted = Counted::from(sent.answer);
+        RtpH264LentSent {
+            refused: counted.refused,
+            packets: counted.packets,
+            bytes: counted.bytes,
+            units_dropped: counted.units_dropped,
+            pairs_dropped: counted.pairs_dropped,
+            sender: sent.sender,
+        }
     }
 }
 
@@ -180,27 +178,18 @@ fn h264_read(answer: Depacketized, payload: usize) -> RtpH264Read
     let shown = answer.shown;
     let packet = answer.packet;
     match read {
-        Depacketize::Bytes(bytes) => RtpH264Read {
+        Ok(bytes) => RtpH264Read {
             refused: answered(),
             bytes,
             body: body(shown, payload),
             packet,
         },
-        Depacketize::Refused(e) => RtpH264Read {
-            refused: refusal(e),
+        Err(e) => RtpH264Read {
+            refused: Refused::from(e),
             bytes: 0,
             body: body(shown, payload),
             packet,
         },
-    }
-}
-
-fn head_test(answer: Head) -> RtpTest
-    ensures { result ≡ test_as (said_head answer) }
-{
-    match answer {
-        Head::Is(holds) => tested(holds),
-        Head::Refused(e) => untested(e),
     }
 }
 
@@ -226,7 +215,7 @@ pub extern "C" fn rtp_h264_payload(
     ensures out_after { out.new ≡ (payload_of sender mtu frame.now out.old ends.old).out }
     ensures ends_after { ends.new ≡ (payload_of sender mtu frame.now out.old ends.old).ends }
 {
-    h264_sent(sender.payload(mtu, frame, out, ends))
+    RtpH264Sent::from(sender.payload(mtu, frame, out, ends))
 }
 
 // The same with the parameter sets in two lent buffers, so that nothing of their size goes by value: for hosts that send a frame a call.
@@ -246,7 +235,7 @@ pub extern "C" fn rtp_h264_lent_payload(
     ensures out_after { out.new ≡ (lent_of (lent sender sps.old pps.old) mtu frame.now out.old ends.old).out }
     ensures ends_after { ends.new ≡ (lent_of (lent sender sps.old pps.old) mtu frame.now out.old ends.old).ends }
 {
-    h264_lent_sent(sender.payload(sps, pps, mtu, frame, out, ends))
+    RtpH264LentSent::from(sender.payload(sps, pps, mtu, frame, out, ends))
 }
 
 // Reads a payload: fragments are gathered in gather, whole units handed out in out.
@@ -268,7 +257,7 @@ pub extern "C" fn rtp_h264_depacketize(
 pub extern "C" fn rtp_h264_is_partition_head(payload: &[u8]) -> RtpTest
     ensures { result ≡ test_as (head_test payload.now) }
 {
-    head_test(h264_packet::is_partition_head(payload))
+    RtpTest::from(h264_packet::is_partition_head(payload))
 }
 
 #[unsafe(no_mangle)]

@@ -1,15 +1,16 @@
 // The header: read, sized, written.
 ghost use Rattle.std.specs.Prelude.{◌≡◌, length};
+ghost use Rattle.error.specs.Said.{said};
 ghost use Rattle.header.specs.Fields.{blank};
 ghost use Rattle.header.specs.Read.{read_header};
 ghost use Rattle.header.specs.Size.{size_asked, length_asked};
 ghost use Rattle.header.specs.Write.{write_header};
-ghost use Rattle.header_write.specs.Said.{said_length};
 ghost use Rattle.header.specs.Said.{heard, reading_heard, written};
 ghost use Rattle.gateway.specs.HeaderAnswers.{header_read_as, length_as};
 
-use crate::refused::{Refused, answered, refusal};
-use header::{Header, HeaderRead, Length, Unmarshalled};
+use crate::refused::{Refused, answered};
+use error::Error;
+use header::{Header, Unmarshalled};
 
 // A header that was read.
 #[repr(C)]
@@ -31,37 +32,41 @@ pub struct RtpLength {
     pub bytes: usize,
 }
 
-fn header_read(answer: Unmarshalled) -> RtpHeaderRead
-    ensures { result ≡ header_read_as (heard answer) }
-{
-    let read = answer.read;
-    let header = answer.header;
-    match read {
-        HeaderRead::Payload(at) => RtpHeaderRead {
-            refused: answered(),
-            at,
-            header,
-        },
-        HeaderRead::Refused(e) => RtpHeaderRead {
-            refused: refusal(e),
-            at: 0,
-            header,
-        },
+impl From<Unmarshalled> for RtpHeaderRead {
+    ghost from_gives = { λ answer r. r ≡ header_read_as (heard answer) };
+
+    fn from(answer: Unmarshalled) -> RtpHeaderRead {
+        let read = answer.read;
+        let header = answer.header;
+        match read {
+            Ok(at) => RtpHeaderRead {
+                refused: answered(),
+                at,
+                header,
+            },
+            Err(e) => RtpHeaderRead {
+                refused: Refused::from(e),
+                at: 0,
+                header,
+            },
+        }
     }
 }
 
-pub(crate) fn measured(answer: Length) -> RtpLength
-    ensures { result ≡ length_as (said_length answer) }
-{
-    match answer {
-        Length::Bytes(bytes) => RtpLength {
-            refused: answered(),
-            bytes,
-        },
-        Length::Refused(e) => RtpLength {
-            refused: refusal(e),
-            bytes: 0,
-        },
+impl From<Result<usize, Error>> for RtpLength {
+    ghost from_gives = { λ answer r. r ≡ length_as (said answer) };
+
+    fn from(answer: Result<usize, Error>) -> RtpLength {
+        match answer {
+            Ok(bytes) => RtpLength {
+                refused: answered(),
+                bytes,
+            },
+            Err(e) => RtpLength {
+                refused: Refused::from(e),
+                bytes: 0,
+            },
+        }
     }
 }
 
@@ -77,14 +82,14 @@ pub extern "C" fn rtp_header_default() -> Header
 pub extern "C" fn rtp_header_unmarshal(packet: &[u8]) -> RtpHeaderRead
     ensures { result ≡ header_read_as (reading_heard (read_header packet.now)) }
 {
-    header_read(Header::unmarshal(packet))
+    RtpHeaderRead::from(Header::unmarshal(packet))
 }
 
 #[unsafe(no_mangle)]
 pub extern "C" fn rtp_header_marshal_size(header: Header) -> RtpLength
     ensures { result ≡ length_as (size_asked header) }
 {
-    measured(header.marshal_size())
+    RtpLength::from(header.marshal_size())
 }
 
 #[unsafe(no_mangle)]
@@ -92,12 +97,12 @@ pub extern "C" fn rtp_header_marshal_to(header: Header, buf: &mut [u8]) -> RtpLe
     ensures value { result ≡ length_as (written buf.old (write_header header (length buf.old))).answer }
     ensures buf_after { buf.new ≡ (written buf.old (write_header header (length buf.old))).buffer }
 {
-    measured(header.marshal_to(buf))
+    RtpLength::from(header.marshal_to(buf))
 }
 
 #[unsafe(no_mangle)]
 pub extern "C" fn rtp_header_get_extension_payload_len(header: Header) -> RtpLength
     ensures { result ≡ length_as (length_asked header) }
 {
-    measured(header.get_extension_payload_len())
+    RtpLength::from(header.get_extension_payload_len())
 }

@@ -4,7 +4,8 @@ ghost use Rattle.joiner.specs.Join.{opened, join_step, close_step};
 ghost use Rattle.joiner.specs.Said.{said_joined, closing_heard};
 ghost use Rattle.gateway.specs.JoinerAnswers.{joined_as, closed_as};
 
-use crate::refused::{Refused, answered, refusal};
+use crate::refused::{Refused, answered};
+use error::Error;
 use joiner::{Closed, Closing, Joined, Joiner};
 
 // What became of a packet.
@@ -35,56 +36,62 @@ pub struct RtpClosed {
     pub joiner: Joiner,
 }
 
-fn joined(answer: Joined) -> RtpJoined
-    ensures { result ≡ joined_as (said_joined answer) }
-{
-    match answer {
-        Joined::Accepted {
-            first,
-            count,
-            bytes,
-        } => RtpJoined {
-            refused: answered(),
-            late: false,
-            first,
-            count,
-            bytes,
-        },
-        Joined::Late => RtpJoined {
-            refused: answered(),
-            late: true,
-            first: 0,
-            count: 0,
-            bytes: 0,
-        },
-        Joined::Refused(e) => RtpJoined {
-            refused: refusal(e),
-            late: false,
-            first: 0,
-            count: 0,
-            bytes: 0,
-        },
+impl From<Result<Joined, Error>> for RtpJoined {
+    ghost from_gives = { λ answer r. r ≡ joined_as (said_joined answer) };
+
+    fn from(answer: Result<Joined, Error>) -> RtpJoined {
+        match answer {
+            Ok(
+                Joined::Accepted {
+                    first,
+                    count,
+                    bytes,
+                },
+            ) => RtpJoined {
+                refused: answered(),
+                late: false,
+                first,
+                count,
+                bytes,
+            },
+            Ok(Joined::Late) => RtpJoined {
+                refused: answered(),
+                late: true,
+                first: 0,
+                count: 0,
+                bytes: 0,
+            },
+            Err(e) => RtpJoined {
+                refused: Refused::from(e),
+                late: false,
+                first: 0,
+                count: 0,
+                bytes: 0,
+            },
+        }
     }
 }
 
-fn closed(closing: Closing) -> RtpClosed
-    ensures { result ≡ closed_as (closing_heard closing) }
-{
-    let answer = closing.answer;
-    let joiner = closing.joiner;
-    match answer {
-        Closed::Closed { first, count } => RtpClosed {
-            refused: answered(),
-            first,
-            count,
-            joiner,
-        },
-        Closed::Refused(e) => RtpClosed {
-            refused: refusal(e),
-            first: 0,
-            count: 0,
-            joiner,
-        },
+impl From<Closing> for RtpClosed {
+    ghost from_gives = { λ closing r. r ≡ closed_as (closing_heard closing) };
+
+    fn from(closing: Closing) -> RtpClosed {
+        let answer = closing.answer;
+        let joiner = closing.joiner;
+        match answer {
+            Ok(Closed { first, count }) => RtpClosed {
+                refused: answered(),
+                first,
+                count,
+                joiner,
+            },
+            Err(e) => RtpClosed {
+                refused: Refused::from(e),
+                first: 0,
+                count: 0,
+                joiner,
+            },
+        }
     }
 }
 
@@ -108,7 +115,7 @@ pub extern "C" fn rtp_joiner_join(
         × (gather.new ≡ (join_step j.old packet.now gather.old out.old).gather)
         × (out.new ≡ (join_step j.old packet.now gather.old out.old).out) }
 {
-    joined(joiner::join_in_place(j, packet, gather, out))
+    RtpJoined::from(joiner::join_in_place(j, packet, gather, out))
 }
 
 // Closes it with the number after the last sent.
@@ -116,5 +123,5 @@ pub extern "C" fn rtp_joiner_join(
 pub extern "C" fn rtp_joiner_close(joiner: Joiner, number: u16) -> RtpClosed
     ensures { result ≡ closed_as (close_step joiner number) }
 {
-    closed(joiner.close(number))
+    RtpClosed::from(joiner.close(number))
 }

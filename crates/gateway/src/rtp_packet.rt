@@ -7,10 +7,10 @@ ghost use Rattle.packet.specs.Said.{heard, reading_heard};
 ghost use Rattle.gateway.specs.HeaderAnswers.{length_as};
 ghost use Rattle.gateway.specs.PacketAnswers.{packet_read_as};
 
-use crate::refused::{Refused, answered, refusal};
-use crate::rtp_header::{RtpLength, measured};
+use crate::refused::{Refused, answered};
+use crate::rtp_header::RtpLength;
 use header::Header;
-use packet::{PacketRead, Unmarshalled};
+use packet::{Payload, Unmarshalled};
 
 // A packet that was read: its payload is `len` bytes of it from `at` on.
 #[repr(C)]
@@ -25,24 +25,26 @@ pub struct RtpPacketRead {
     pub header: Header,
 }
 
-fn packet_read(answer: Unmarshalled) -> RtpPacketRead
-    ensures { result ≡ packet_read_as (heard answer) }
-{
-    let read = answer.read;
-    let header = answer.header;
-    match read {
-        PacketRead::Payload { at, len } => RtpPacketRead {
-            refused: answered(),
-            at,
-            len,
-            header,
-        },
-        PacketRead::Refused(e) => RtpPacketRead {
-            refused: refusal(e),
-            at: 0,
-            len: 0,
-            header,
-        },
+impl From<Unmarshalled> for RtpPacketRead {
+    ghost from_gives = { λ answer r. r ≡ packet_read_as (heard answer) };
+
+    fn from(answer: Unmarshalled) -> RtpPacketRead {
+        let read = answer.read;
+        let header = answer.header;
+        match read {
+            Ok(Payload { at, len }) => RtpPacketRead {
+                refused: answered(),
+                at,
+                len,
+                header,
+            },
+            Err(e) => RtpPacketRead {
+                refused: Refused::from(e),
+                at: 0,
+                len: 0,
+                header,
+            },
+        }
     }
 }
 
@@ -50,14 +52,14 @@ fn packet_read(answer: Unmarshalled) -> RtpPacketRead
 pub extern "C" fn rtp_packet_unmarshal(packet: &[u8]) -> RtpPacketRead
     ensures { result ≡ packet_read_as (reading_heard (read_packet packet.now)) }
 {
-    packet_read(packet::unmarshal(packet))
+    RtpPacketRead::from(packet::unmarshal(packet))
 }
 
 #[unsafe(no_mangle)]
 pub extern "C" fn rtp_packet_marshal_size(header: Header, payload: &[u8]) -> RtpLength
     ensures { result ≡ length_as (packet_size_asked header payload.now) }
 {
-    measured(packet::marshal_size(header, payload))
+    RtpLength::from(packet::marshal_size(header, payload))
 }
 
 #[unsafe(no_mangle)]
@@ -65,5 +67,5 @@ pub extern "C" fn rtp_packet_marshal_to(header: Header, payload: &[u8], buf: &mu
     ensures value { result ≡ length_as (written buf.old (write_packet header payload.now (length buf.old))).answer }
     ensures buf_after { buf.new ≡ (written buf.old (write_packet header payload.now (length buf.old))).buffer }
 {
-    measured(packet::marshal_to(header, payload, buf))
+    RtpLength::from(packet::marshal_to(header, payload, buf))
 }

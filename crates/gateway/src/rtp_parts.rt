@@ -1,12 +1,12 @@
 // Headers and packets in parts: what is small of a header's record by value, its arrays lent, so that no record is copied.
 ghost use Rattle.std.specs.Prelude.{◌≡◌, length};
+ghost use Rattle.error.specs.Said.{said};
 ghost use Rattle.header.specs.Read.{read_header};
 ghost use Rattle.header.specs.Size.{size_asked, length_asked};
 ghost use Rattle.header.specs.Write.{write_header};
 ghost use Rattle.header.specs.Extension.{get_extension, get_extension_ids};
 ghost use Rattle.header.specs.Said.{written, ids_heard, reading_heard as header_heard};
 ghost use Rattle.header.specs.Parts.{together, bare, heard_front as heard_header, front_heard as header_front, lent_read as header_lent};
-ghost use Rattle.header_write.specs.Said.{said_length};
 ghost use Rattle.packet.specs.Read.{read_packet};
 ghost use Rattle.packet.specs.Write.{packet_size_asked, write_packet};
 ghost use Rattle.packet.specs.Said.{reading_heard as packet_heard};
@@ -14,9 +14,10 @@ ghost use Rattle.packet.specs.Fronts.{heard_front as heard_packet, front_heard a
 ghost use Rattle.gateway.specs.HeaderAnswers.{element_as, ids_as};
 ghost use Rattle.gateway.specs.PartsAnswers.{bytes_as, header_front_as, packet_front_as};
 
-use crate::rtp_extension::{RtpElement, RtpIds, element, listed};
-use header::{Fixed, Front, HeaderRead, Length};
-use packet::PacketRead;
+use crate::rtp_extension::{RtpElement, RtpIds};
+use error::Error;
+use header::{Fixed, Front, Parts};
+use packet::Payload;
 
 // A number of bytes. The refusals of these calls carry nothing.
 #[repr(C)]
@@ -54,55 +55,61 @@ pub struct RtpPacketFront {
     pub front: Front,
 }
 
-fn counted(answer: Length) -> RtpBytes
-    ensures { result ≡ bytes_as (said_length answer) }
-{
-    match answer {
-        Length::Bytes(bytes) => RtpBytes { number: 0, bytes },
-        Length::Refused(e) => RtpBytes {
-            number: wire::wide(e.number()),
-            bytes: 0,
-        },
+impl From<Result<usize, Error>> for RtpBytes {
+    ghost from_gives = { λ answer r. r ≡ bytes_as (said answer) };
+
+    fn from(answer: Result<usize, Error>) -> RtpBytes {
+        match answer {
+            Ok(bytes) => RtpBytes { number: 0, bytes },
+            Err(e) => RtpBytes {
+                number: usize::from(e.number()),
+                bytes: 0,
+            },
+        }
     }
 }
 
-fn header_front(answer: header::FrontRead) -> RtpHeaderFront
-    ensures { result ≡ header_front_as (heard_header answer) }
-{
-    let read = answer.read;
-    let front = answer.front;
-    match read {
-        HeaderRead::Payload(at) => RtpHeaderFront {
-            number: 0,
-            at,
-            front,
-        },
-        HeaderRead::Refused(e) => RtpHeaderFront {
-            number: wire::wide(e.number()),
-            at: 0,
-            front,
-        },
+impl From<header::FrontRead> for RtpHeaderFront {
+    ghost from_gives = { λ answer r. r ≡ header_front_as (heard_header answer) };
+
+    fn from(answer: header::FrontRead) -> RtpHeaderFront {
+        let read = answer.read;
+        let front = answer.front;
+        match read {
+            Ok(at) => RtpHeaderFront {
+                number: 0,
+                at,
+                front,
+            },
+            Err(e) => RtpHeaderFront {
+                number: usize::from(e.number()),
+                at: 0,
+                front,
+            },
+        }
     }
 }
 
-fn packet_front(answer: packet::FrontRead) -> RtpPacketFront
-    ensures { result ≡ packet_front_as (heard_packet answer) }
-{
-    let read = answer.read;
-    let front = answer.front;
-    match read {
-        PacketRead::Payload { at, len } => RtpPacketFront {
-            number: 0,
-            at,
-            len,
-            front,
-        },
-        PacketRead::Refused(e) => RtpPacketFront {
-            number: wire::wide(e.number()),
-            at: 0,
-            len: 0,
-            front,
-        },
+impl From<packet::FrontRead> for RtpPacketFront {
+    ghost from_gives = { λ answer r. r ≡ packet_front_as (heard_packet answer) };
+
+    fn from(answer: packet::FrontRead) -> RtpPacketFront {
+        let read = answer.read;
+        let front = answer.front;
+        match read {
+            Ok(Payload { at, len }) => RtpPacketFront {
+                number: 0,
+                at,
+                len,
+                front,
+            },
+            Err(e) => RtpPacketFront {
+                number: usize::from(e.number()),
+                at: 0,
+                len: 0,
+                front,
+            },
+        }
     }
 }
 
@@ -123,9 +130,18 @@ pub extern "C" fn rtp_header_marshal_parts<'a>(
     ensures value { result ≡ bytes_as (written buf.old (write_header (together fixed csrc_count csrc.now profile (record { count = count; ids = ids.now; lens = lens.now; bytes = bytes.now }) padding) (length buf.old))).answer }
     ensures buf_after { buf.new ≡ (written buf.old (write_header (together fixed csrc_count csrc.now profile (record { count = count; ids = ids.now; lens = lens.now; bytes = bytes.now }) padding) (length buf.old))).buffer }
 {
-    counted(header::marshal_parts(
-        fixed, csrc_count, csrc, profile, count, ids, lens, bytes, padding, buf,
-    ))
+    let parts = Parts {
+        fixed,
+        csrc_count,
+        csrc,
+        profile,
+        count,
+        ids,
+        lens,
+        bytes,
+        padding,
+    };
+    RtpBytes::from(header::marshal_parts(parts, buf))
 }
 
 // Writes a header without CSRCs and elements.
@@ -139,7 +155,7 @@ pub extern "C" fn rtp_header_marshal_bare(
     ensures value { result ≡ bytes_as (written buf.old (write_header (bare fixed profile padding) (length buf.old))).answer }
     ensures buf_after { buf.new ≡ (written buf.old (write_header (bare fixed profile padding) (length buf.old))).buffer }
 {
-    counted(header::marshal_bare(fixed, profile, padding, buf))
+    RtpBytes::from(header::marshal_bare(fixed, profile, padding, buf))
 }
 
 // Writes a packet, its header's record in parts.
@@ -160,9 +176,18 @@ pub extern "C" fn rtp_packet_marshal_parts<'a>(
     ensures value { result ≡ bytes_as (written buf.old (write_packet (together fixed csrc_count csrc.now profile (record { count = count; ids = ids.now; lens = lens.now; bytes = bytes.now }) padding) payload.now (length buf.old))).answer }
     ensures buf_after { buf.new ≡ (written buf.old (write_packet (together fixed csrc_count csrc.now profile (record { count = count; ids = ids.now; lens = lens.now; bytes = bytes.now }) padding) payload.now (length buf.old))).buffer }
 {
-    counted(packet::marshal_parts(
-        fixed, csrc_count, csrc, profile, count, ids, lens, bytes, padding, payload, buf,
-    ))
+    let parts = Parts {
+        fixed,
+        csrc_count,
+        csrc,
+        profile,
+        count,
+        ids,
+        lens,
+        bytes,
+        padding,
+    };
+    RtpBytes::from(packet::marshal_parts(parts, payload, buf))
 }
 
 // Writes a packet whose header has no CSRCs and elements.
@@ -177,7 +202,7 @@ pub extern "C" fn rtp_packet_marshal_bare(
     ensures value { result ≡ bytes_as (written buf.old (write_packet (bare fixed profile padding) payload.now (length buf.old))).answer }
     ensures buf_after { buf.new ≡ (written buf.old (write_packet (bare fixed profile padding) payload.now (length buf.old))).buffer }
 {
-    counted(packet::marshal_bare(fixed, profile, padding, payload, buf))
+    RtpBytes::from(packet::marshal_bare(fixed, profile, padding, payload, buf))
 }
 
 // The size of a header.
@@ -195,9 +220,18 @@ pub extern "C" fn rtp_header_marshal_size_parts<'a>(
 ) -> RtpBytes
     ensures { result ≡ bytes_as (size_asked (together fixed csrc_count csrc.now profile (record { count = count; ids = ids.now; lens = lens.now; bytes = bytes.now }) padding)) }
 {
-    counted(header::marshal_size_parts(
-        fixed, csrc_count, csrc, profile, count, ids, lens, bytes, padding,
-    ))
+    let parts = Parts {
+        fixed,
+        csrc_count,
+        csrc,
+        profile,
+        count,
+        ids,
+        lens,
+        bytes,
+        padding,
+    };
+    RtpBytes::from(header::marshal_size_parts(parts))
 }
 
 // How long a header's elements are with their heads.
@@ -215,9 +249,18 @@ pub extern "C" fn rtp_header_get_extension_payload_len_parts<'a>(
 ) -> RtpBytes
     ensures { result ≡ bytes_as (length_asked (together fixed csrc_count csrc.now profile (record { count = count; ids = ids.now; lens = lens.now; bytes = bytes.now }) padding)) }
 {
-    counted(header::get_extension_payload_len_parts(
-        fixed, csrc_count, csrc, profile, count, ids, lens, bytes, padding,
-    ))
+    let parts = Parts {
+        fixed,
+        csrc_count,
+        csrc,
+        profile,
+        count,
+        ids,
+        lens,
+        bytes,
+        padding,
+    };
+    RtpBytes::from(header::get_extension_payload_len_parts(parts))
 }
 
 // An element's data, as a part of `bytes`.
@@ -236,9 +279,18 @@ pub extern "C" fn rtp_header_get_extension_parts<'a>(
 ) -> RtpElement
     ensures { result ≡ element_as (get_extension (together fixed csrc_count csrc.now profile (record { count = count; ids = ids.now; lens = lens.now; bytes = bytes.now }) padding) id) }
 {
-    element(header::get_extension_parts(
-        fixed, csrc_count, csrc, profile, count, ids, lens, bytes, padding, id,
-    ))
+    let parts = Parts {
+        fixed,
+        csrc_count,
+        csrc,
+        profile,
+        count,
+        ids,
+        lens,
+        bytes,
+        padding,
+    };
+    RtpElement::from(header::get_extension_parts(parts, id))
 }
 
 // The ids of all elements.
@@ -256,9 +308,18 @@ pub extern "C" fn rtp_header_get_extension_ids_parts<'a>(
 ) -> RtpIds
     ensures { result ≡ ids_as (ids_heard (get_extension_ids (together fixed csrc_count csrc.now profile (record { count = count; ids = ids.now; lens = lens.now; bytes = bytes.now }) padding))) }
 {
-    listed(header::get_extension_ids_parts(
-        fixed, csrc_count, csrc, profile, count, ids, lens, bytes, padding,
-    ))
+    let parts = Parts {
+        fixed,
+        csrc_count,
+        csrc,
+        profile,
+        count,
+        ids,
+        lens,
+        bytes,
+        padding,
+    };
+    RtpIds::from(header::get_extension_ids_parts(parts))
 }
 
 // The size of a packet.
@@ -277,9 +338,18 @@ pub extern "C" fn rtp_packet_marshal_size_parts<'a>(
 ) -> RtpBytes
     ensures { result ≡ bytes_as (packet_size_asked (together fixed csrc_count csrc.now profile (record { count = count; ids = ids.now; lens = lens.now; bytes = bytes.now }) padding) payload.now) }
 {
-    counted(packet::marshal_size_parts(
-        fixed, csrc_count, csrc, profile, count, ids, lens, bytes, padding, payload,
-    ))
+    let parts = Parts {
+        fixed,
+        csrc_count,
+        csrc,
+        profile,
+        count,
+        ids,
+        lens,
+        bytes,
+        padding,
+    };
+    RtpBytes::from(packet::marshal_size_parts(parts, payload))
 }
 
 // Reads a header without its arrays.
@@ -287,7 +357,7 @@ pub extern "C" fn rtp_packet_marshal_size_parts<'a>(
 pub extern "C" fn rtp_header_unmarshal_front(packet: &[u8]) -> RtpHeaderFront
     ensures { result ≡ header_front_as (header_front (header_heard (read_header packet.now))) }
 {
-    header_front(header::unmarshal_front(packet))
+    RtpHeaderFront::from(header::unmarshal_front(packet))
 }
 
 // Reads a header; its arrays are lent.
@@ -303,7 +373,7 @@ pub extern "C" fn rtp_header_unmarshal_parts(
     ensures bytes_after { record { csrc = csrc.new; ids = ids.new; lens = lens.new; bytes = bytes.new }
         ≡ header_lent (record { csrc = csrc.old; ids = ids.old; lens = lens.old; bytes = bytes.old }) (read_header packet.now) }
 {
-    header_front(header::unmarshal_parts(packet, csrc, ids, lens, bytes))
+    RtpHeaderFront::from(header::unmarshal_parts(packet, csrc, ids, lens, bytes))
 }
 
 // Reads a packet without its header's arrays.
@@ -311,7 +381,7 @@ pub extern "C" fn rtp_header_unmarshal_parts(
 pub extern "C" fn rtp_packet_unmarshal_front(packet: &[u8]) -> RtpPacketFront
     ensures { result ≡ packet_front_as (packet_front (packet_heard (read_packet packet.now))) }
 {
-    packet_front(packet::unmarshal_front(packet))
+    RtpPacketFront::from(packet::unmarshal_front(packet))
 }
 
 // Reads a packet; its header's arrays are lent.
@@ -327,5 +397,5 @@ pub extern "C" fn rtp_packet_unmarshal_parts(
     ensures bytes_after { record { csrc = csrc.new; ids = ids.new; lens = lens.new; bytes = bytes.new }
         ≡ packet_lent (record { csrc = csrc.old; ids = ids.old; lens = lens.old; bytes = bytes.old }) (read_packet packet.now) }
 {
-    packet_front(packet::unmarshal_parts(packet, csrc, ids, lens, bytes))
+    RtpPacketFront::from(packet::unmarshal_parts(packet, csrc, ids, lens, bytes))
 }
