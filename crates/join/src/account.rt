@@ -1,10 +1,14 @@
 // The account of a show: what became of the packets, and what was handed out. All counts run modulo 2^64.
-ghost use Rattle.std.specs.Prelude.{◌≡◌, ◌+◌, ◌%◌, ◌^◌};
-ghost use Rattle.join.specs.Account.{nothing_yet, counted, accepted_by, came_late, refused_by};
+ghost use Rattle.std.specs.Prelude.{◌≡◌, Some};
+ghost use Rattle.join.specs.Jump.{jump_text};
+ghost use Rattle.join.specs.Account.{nothing_yet, accepted_by, came_late, refused_by};
 
 use crate::units::Units;
 use error::Error;
-use stream::{Text, status};
+use std::alloc::{AllocError, Global};
+use std::fmt;
+use std::fmt::Write;
+use stream::status::Status;
 
 #[derive(Clone, Copy)]
 pub struct Account {
@@ -24,12 +28,6 @@ pub struct Account {
     pub bytes: u64,
 }
 
-fn more(n: u64, k: u64) -> u64
-    ensures { result ≡ counted n k }
-{
-    std::num::wrapping_add_u64(n, k)
-}
-
 impl Account {
     pub fn new() -> Account
         ensures { result ≡ nothing_yet }
@@ -46,89 +44,85 @@ impl Account {
         }
     }
 
+    #[tactic(auto, unfolding(crate::specs::Account::accepted_by))]
     pub fn accept(mut self, units: Units, bytes: usize) -> Account
         ensures { result ≡ accepted_by units bytes self }
     {
-        self.packets = more(self.packets, 1);
-        self.accepted = more(self.accepted, 1);
-        self.units = more(self.units, units.count as u64);
-        self.marked = more(self.marked, units.marked as u64);
-        self.bytes = more(self.bytes, bytes as u64);
+        self.packets = self.packets.wrapping_add(1);
+        self.accepted = self.accepted.wrapping_add(1);
+        self.units = self.units.wrapping_add(units.count as u64);
+        self.marked = self.marked.wrapping_add(units.marked as u64);
+        self.bytes = self.bytes.wrapping_add(bytes as u64);
         self
     }
 
+    #[tactic(auto, unfolding(crate::specs::Account::came_late))]
     pub fn come_late(mut self) -> Account
         ensures { result ≡ came_late self }
     {
-        self.packets = more(self.packets, 1);
-        self.late = more(self.late, 1);
+        self.packets = self.packets.wrapping_add(1);
+        self.late = self.late.wrapping_add(1);
         self
     }
 
     pub fn refuse(mut self, e: Error) -> Account
         ensures { result ≡ refused_by e self }
     {
-        self.packets = more(self.packets, 1);
-        let n = e.number() as usize;
+        self.packets = self.packets.wrapping_add(1);
+        let n = usize::from(e.number());
+        // Stays: by its number, as the definition of the account has it (`refused_by`).
         if n == 20 {
-            self.others = more(self.others, 1);
+            self.others = self.others.wrapping_add(1);
             return self;
         }
-        let mut refused = self.refused;
-        refused[n] = more(refused[n], 1);
-        self.refused = refused;
+        self.refused[n] = self.refused[n].wrapping_add(1);
         self
     }
 
-    // The totals, a line each, behind other text.
-    pub fn text(self, before: Text, missed: u32) -> Text {
-        let refused = self.refused;
-        let text = before
-            .number(b"packets ", self.packets)
-            .number(b"\naccepted ", self.accepted)
-            .number(b"\nlate ", self.late)
-            .number(b"\nother sources ", self.others);
-        refusals(text, refused)
-            .number(b"\nmissed ", missed as u64)
-            .number(b"\nunits ", self.units)
-            .number(b"\nmarked units ", self.marked)
-            .number(b"\nbytes ", self.bytes)
-            .word(b"\n")
+    // The totals, a line each, behind those of the jump at the end.
+    pub fn text(&self, alloc: Global, jump: Jump, missed: u32) -> Result<String, AllocError> {
+        let mut text = format!(in alloc; "{jump}")?;
+        writeln!(text, "packets {}", self.packets)?;
+        writeln!(text, "accepted {}", self.accepted)?;
+        writeln!(text, "late {}", self.late)?;
+        writeln!(text, "other sources {}", self.others)?;
+        for (number, n) in self.refused.iter().enumerate() {
+            if *n != 0 {
+                writeln!(text, "refused {number}: {n}")?;
+            }
+        }
+        writeln!(text, "missed {missed}")?;
+        writeln!(text, "units {}", self.units)?;
+        writeln!(text, "marked units {}", self.marked)?;
+        writeln!(text, "bytes {}", self.bytes)?;
+        Ok(text)
     }
 
     // A show that handed out nothing leaves no clip.
-    pub fn status(self) -> u8 {
+    pub fn outcome(&self) -> Result<(), Status> {
         if self.bytes == 0 {
-            return status::NOTHING;
+            return Err(Status::Nothing);
         }
-        status::DONE
+        Ok(())
     }
 }
 
-fn refusal(text: Text, number: usize, n: u64) -> Text {
-    if n == 0 {
-        return text;
-    }
-    text.number(b"\nrefused ", number as u64).number(b": ", n)
+// The numbers that never came before a packet, or before the end: `count` of them from `first` on.
+#[derive(Clone, Copy)]
+pub struct Jump {
+    pub first: u16,
+    pub count: u16,
 }
 
-fn refusals(before: Text, refused: [u64; 256]) -> Text {
-    let mut text = before;
-    let mut i = 0;
-    while i < 256 {
-        text = refusal(text, i, refused[i]);
-        i += 1;
-    }
-    text
-}
+// A line, where there are any.
+impl fmt::Display for Jump {
+    ghost output = { λ j. Some (jump_text j.first j.count) };
 
-// The numbers of a jump, if there are any: `count` of them from `first` on.
-pub fn jump(text: Text, first: u16, count: u16) -> Text {
-    if count == 0 {
-        return text;
+    fn fmt<W: fmt::Write>(&self, f: &mut fmt::Formatter<W>) -> fmt::Result {
+        if self.count == 0 {
+            return Ok(());
+        }
+        let last = self.first.wrapping_add(self.count - 1);
+        writeln!(f, "jump from {} to {last}", self.first)
     }
-    let last = std::num::wrapping_add_u16(first, count - 1);
-    text.number(b"jump from ", first as u64)
-        .number(b" to ", last as u64)
-        .word(b"\n")
 }

@@ -5,74 +5,67 @@ mod account;
 mod show;
 mod units;
 
-use account::Account;
+use account::{Account, Jump};
 use joiner::{Closed, Joiner};
 use show::Show;
+use std::io::Error;
 use std::process::ExitCode;
-use stream::{Record, Text, Window, argument, status};
+use stream::status::Status;
+use stream::{Record, Window, argument, status};
 
-// What the arguments say, or the status where they are wrong or a file is not opened.
-fn first(rt: &HostRuntime) -> Result<Show, u8> {
-    let source = argument(rt, true, 3, 0, 4294967295, 0);
-    let first = argument(rt, source.ok, 4, 0, 65535, 0);
-    let end = argument(rt, first.ok, 5, 0, 65535, 0);
-    let files = stream::open_files(rt, end.ok);
-    match (files.from, files.to) {
-        (Some(from), Some(to)) => Ok(Show {
-            joiner: Joiner::open(source.value as u32, first.value as u16),
-            opened: stream::is_given(rt, 4),
-            account: Account::new(),
-            from,
-            to,
-            status: files.status,
-        }),
-        _ => Err(files.status),
-    }
+// What the arguments say; an error where they are wrong or a file is not opened.
+fn first(rt: &HostRuntime) -> Result<Show, Status> {
+    let source = argument(rt, 3, 0, 4294967295)?.unwrap_or(0);
+    let first = argument(rt, 4, 0, 65535)?;
+    argument(rt, 5, 0, 65535)?;
+    let files = stream::open_files(rt)?;
+    Ok(Show {
+        joiner: first.map(|number| Joiner::open(source as u32, number as u16)),
+        account: Account::new(),
+        from: files.from,
+        to: files.to,
+    })
 }
 
+// A proved loop has to end, and nothing says that a file does: no file has as many packets as this one has turns.
+#[tactic(auto, using(stream::proofs::Steps::new_inside))]
 fn play(
     rt: &HostRuntime,
     first: Show,
     buf: &mut [u8; 131072],
     gather: &mut [u8; 3145728],
     out: &mut [u8; 3211264],
-) -> Show {
+) -> Result<Show, Status> {
     let mut w = Window::new();
     let mut show = first;
-    let mut turns = u64::MAX;
-    loop {
-        if stream::is_over(show.status, turns) {
-            break show;
-        }
-        turns -= 1;
+    for _ in 0..u64::MAX {
         let next = stream::next_packet(&mut show.from, buf, w);
-        let found = next.found;
-        let Record::Packet { at, len } = found else {
-            break show.ended(stream::ending(rt, next));
+        let Record::Packet { at, len } = next.found else {
+            stream::ending(rt, next)?;
+            break;
         };
-        show = show.join(rt, stream::part(buf, at, len), gather, out);
+        show = show.join(rt, stream::part(buf, at, len), gather, out)?;
         w = next.window;
     }
+    Ok(show)
 }
 
-// Closes at END, or right behind the last packet where END is not given, and writes the account.
-fn close(rt: &HostRuntime, show: Show) -> u8 {
-    if show.status != status::DONE {
-        return show.status;
-    }
-    let joiner = show.joiner;
-    let account = show.account;
-    let end = argument(rt, true, 5, 0, 65535, joiner.awaited as u64);
-    let closing = joiner.close(end.value as u16);
+// Closes at END, or right behind the last packet where END is not given, and writes the account. Where no packet was read, nothing is
+// missed.
+fn close(rt: &HostRuntime, show: Show) -> Result<(), Status> {
+    let joiner = show.joiner.unwrap_or(Joiner::open(0, 0));
+    let end = argument(rt, 5, 0, 65535)?.unwrap_or(u64::from(joiner.awaited));
+    let closing = joiner.close(end as u16);
     let answer = closing.answer;
-    let Closed::Closed { first, count } = answer else {
-        return status::WRONG_END;
+    let Ok(Closed { first, count }) = answer else {
+        return Err(Status::WrongEnd);
     };
-    let text = account.text(
-        account::jump(Text::new(), first, count),
-        closing.joiner.missed,
-    );
-    stream::finish(rt, text, show.to, account.status())
+    let text = show
+        .account
+        .text(rt.alloc(), Jump { first, count }, closing.joiner.missed)
+        .map_err(|e| status::unwritten(rt, Error::from(e)))?;
+    stream::finish(rt, text.as_str(), show.to)?;
+    show.account.outcome()
 }
 
 fn run(
@@ -80,11 +73,9 @@ fn run(
     buf: &mut [u8; 131072],
     gather: &mut [u8; 3145728],
     out: &mut [u8; 3211264],
-) -> u8 {
-    match first(rt) {
-        Ok(show) => close(rt, play(rt, show, buf, gather, out)),
-        Err(status) => status,
-    }
+) -> Result<(), Status> {
+    let show = first(rt)?;
+    close(rt, play(rt, show, buf, gather, out)?)
 }
 
 fn main(rt: HostRuntime) -> ExitCode {

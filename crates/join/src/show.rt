@@ -1,110 +1,104 @@
 // A show: the packets of a file, joined.
-use crate::account;
-use crate::account::Account;
+use crate::account::{Account, Jump};
 use crate::units::units_of;
 use error::Error;
 use joiner::{Joined, Joiner, Step};
-use packet::PacketRead;
 use std::fs::File;
-use stream::{Output, Text, status};
+use std::io;
+use stream::status::Status;
+use stream::{Output, status};
 
 #[derive(Drop)]
 pub struct Show {
-    // what was accepted so far
-    pub joiner: Joiner,
-    // whether the joiner is opened: by the arguments, or by the first packet that is read
-    pub opened: bool,
+    // opened by the arguments, or by the first packet that is read
+    pub joiner: Option<Joiner>,
     // of the packets so far
     pub account: Account,
     // the packets and the clip
     pub from: File,
     pub to: Output,
-    // DONE while all goes well
-    pub status: u8,
 }
 
-// A refusal that says that a unit has no room.
-fn status_of(e: Error) -> u8 {
+// A refusal that says that a unit has no room ends the show.
+fn outcome_of(e: Error) -> Result<(), Status> {
     match e {
-        Error::ErrBufferTooSmall => status::LONG,
-        Error::GatherTooSmall => status::LONG,
-        _ => status::DONE,
+        Error::ErrBufferTooSmall => Err(Status::Long),
+        Error::GatherTooSmall => Err(Status::Long),
+        _ => Ok(()),
     }
 }
 
 // Writes the numbers of a jump, if any, and the bytes that were handed out.
-fn write(rt: &HostRuntime, to: &mut Output, first: u16, count: u16, bytes: &[u8]) -> u8 {
-    let mut account = stream::account_to(to);
-    if let Err(e) = account::jump(Text::new(), first, count).write(rt, &mut account) {
-        return status::unwritten(rt, e);
-    }
-    if let Err(e) = to.write_all(rt, bytes) {
-        return status::unwritten(rt, e);
-    }
-    status::DONE
+fn write(rt: &HostRuntime, to: &mut Output, jump: Jump, bytes: &[u8]) -> io::Result<()> {
+    let text = format!(in rt.alloc(); "{jump}")?;
+    stream::account_to(to).write_all(rt, text.as_bytes())?;
+    to.write_all(rt, bytes)
 }
 
 impl Show {
-    // It goes on only where the status is DONE.
-    pub fn ended(mut self, status: u8) -> Show {
-        self.status = status;
-        self
-    }
-
-    // Opens the joiner by the first packet that is read.
-    fn open(mut self, packet: &[u8]) -> Show {
-        if self.opened {
-            return self;
+    // The joiner: one that a packet opens, where none is open yet.
+    fn opened(&self, packet: &[u8]) -> Result<Joiner, Error> {
+        if let Some(joiner) = self.joiner {
+            return Ok(joiner);
         }
         let answer = packet::unmarshal(packet);
-        let read = answer.read;
-        let PacketRead::Payload { at: _, len: _ } = read else {
-            return self;
-        };
-        self.joiner = Joiner::open(answer.header.ssrc, answer.header.sequence_number);
-        self.opened = true;
-        self
+        answer.read?;
+        Ok(Joiner::open(answer.header.ssrc, answer.header.sequence_number))
+    }
+
+    fn refused(mut self, e: Error) -> Result<Show, Status> {
+        self.account = self.account.refuse(e);
+        outcome_of(e)?;
+        Ok(self)
     }
 
     // What became of a packet: `out` is as the joiner left it.
-    fn note<'a>(mut self, rt: &HostRuntime, packet: &'a [u8], step: Step, out: &'a [u8]) -> Show {
-        let joiner = step.joiner;
-        self.joiner = joiner;
-        let account = self.account;
+    fn note<'a>(
+        mut self,
+        rt: &HostRuntime,
+        packet: &'a [u8],
+        step: Step,
+        out: &'a [u8],
+    ) -> Result<Show, Status> {
+        self.joiner = Some(step.joiner);
         let answer = step.answer;
         match answer {
-            Joined::Accepted {
-                first,
-                count,
-                bytes,
-            } => {
+            Ok(
+                Joined::Accepted {
+                    first,
+                    count,
+                    bytes,
+                },
+            ) => {
                 let handed = stream::front(out, bytes);
-                self.account = account.accept(units_of(packet, handed), bytes);
-                let status = write(rt, &mut self.to, first, count, handed);
-                self.ended(status)
+                self.account = self.account.accept(units_of(packet, handed), bytes);
+                write(rt, &mut self.to, Jump { first, count }, handed).map_err(
+                    |e| status::unwritten(rt, e),
+                )?;
+                Ok(self)
             }
-            Joined::Late => {
-                self.account = account.come_late();
-                self
+            Ok(Joined::Late) => {
+                self.account = self.account.come_late();
+                Ok(self)
             }
-            Joined::Refused(e) => {
-                self.account = account.refuse(e);
-                self.ended(status_of(e))
-            }
+            Err(e) => self.refused(e),
         }
     }
 
-    // One packet more.
+    // One packet more. One that cannot be read is refused alike by the reader and by a joiner.
     pub fn join(
         self,
         rt: &HostRuntime,
         packet: &[u8],
         gather: &mut [u8; 3145728],
         out: &mut [u8; 3211264],
-    ) -> Show {
-        let show = self.open(packet);
-        let joiner = show.joiner;
-        let step = joiner.join(packet, gather, out);
-        show.note(rt, packet, step, out)
+    ) -> Result<Show, Status> {
+        match self.opened(packet) {
+            Ok(joiner) => {
+                let step = joiner.join(packet, gather, out);
+                self.note(rt, packet, step, out)
+            }
+            Err(e) => self.refused(e),
+        }
     }
 }

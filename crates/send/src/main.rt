@@ -5,92 +5,86 @@ mod access;
 mod frames;
 mod packets;
 
+ghost use Rattle.std.specs.Prelude.{◌≡◌, IfOk, string_bytes};
+ghost use Rattle.send.specs.Account.{account_text};
+
 use frames::Frame;
 use h264::H264Payloader;
 use packets::Sending;
+use std::alloc::{AllocError, Global};
+use std::io::Error;
 use std::process::ExitCode;
-use stream::{NONE, Text, Window, argument, status};
+use stream::status::Status;
+use stream::{Window, argument, needed, status};
 
-// What the arguments say, or the status where they are wrong or a file is not opened.
-fn first(rt: &HostRuntime) -> Result<Sending, u8> {
-    let mtu = argument(rt, true, 3, 3, 65523, NONE);
-    let source = argument(rt, mtu.ok, 4, 0, 4294967295, NONE);
-    let first = argument(rt, source.ok, 5, 0, 65535, NONE);
-    let payload_type = argument(rt, first.ok, 6, 0, 127, NONE);
-    let ticks = argument(rt, payload_type.ok, 7, 0, 4294967295, 3000);
-    let files = stream::open_files(rt, ticks.ok);
-    match (files.from, files.to) {
-        (Some(from), Some(to)) => Ok(Sending {
-            mtu: mtu.value as usize,
-            source: source.value as u32,
-            payload_type: payload_type.value as u8,
-            ticks: ticks.value as u32,
-            from,
-            to,
-            sender: H264Payloader::new(),
-            number: first.value as u16,
-            time: 0,
-            frames: 0,
-            packets: 0,
-            units_dropped: 0,
-            pairs_dropped: 0,
-            sets: status::NO_SETS,
-            status: files.status,
-        }),
-        _ => Err(files.status),
-    }
+// What the arguments say; an error where they are wrong or a file is not opened.
+fn first(rt: &HostRuntime) -> Result<Sending, Status> {
+    let mtu = needed(rt, 3, 3, 65523)?;
+    let source = needed(rt, 4, 0, 4294967295)?;
+    let first = needed(rt, 5, 0, 65535)?;
+    let payload_type = needed(rt, 6, 0, 127)?;
+    let ticks = argument(rt, 7, 0, 4294967295)?.unwrap_or(3000);
+    let files = stream::open_files(rt)?;
+    Ok(Sending {
+        mtu: mtu as usize,
+        source: source as u32,
+        payload_type: payload_type as u8,
+        ticks: ticks as u32,
+        from: files.from,
+        to: files.to,
+        sender: H264Payloader::new(),
+        number: first as u16,
+        time: 0,
+        frames: 0,
+        packets: 0,
+        units_dropped: 0,
+        pairs_dropped: 0,
+        pair_sent: false,
+    })
 }
 
+// A proved loop has to end, and nothing says that a file does: no file has as many access units as this one has turns.
+#[tactic(auto, using(stream::proofs::Steps::new_inside))]
 fn play(
     rt: &HostRuntime,
     first: Sending,
     buf: &mut [u8; 3145728],
     out: &mut [u8; 3407872],
     ends: &mut [usize; 65536],
-) -> Sending {
+) -> Result<Sending, Status> {
     let mut w = Window::new();
     let mut sending = first;
-    let mut turns = u64::MAX;
-    loop {
-        if stream::is_over(sending.status, turns) {
-            break sending;
-        }
-        turns -= 1;
+    for _ in 0..u64::MAX {
         let next = frames::next_frame(&mut sending.from, buf, w);
-        let frame = next.frame;
-        let Frame::Bytes { at, len } = frame else {
-            break sending.ended(frames::ending(rt, next));
+        let Some(Frame { at, len }) = next.found else {
+            frames::ending(rt, next.window)?;
+            break;
         };
-        sending = sending.send(rt, stream::part(buf, at, len), out, ends);
+        sending = sending.send(rt, stream::part(buf, at, len), out, ends)?;
         w = next.window;
     }
+    Ok(sending)
 }
 
-// What is told where all went well.
-fn told(s: &Sending) -> u8 {
-    if s.units_dropped != 0 || s.pairs_dropped != 0 {
-        return status::DROPPED;
-    }
-    s.sets
+// What was sent, what was dropped, and the number after the last, by which a joiner is closed.
+#[tactic(auto, unfolding(crate::specs::Account::account_text))]
+fn text(alloc: Global, s: &Sending) -> Result<String, AllocError>
+    ensures { IfOk result (λ text. string_bytes text ≡ account_text s.now) }
+{
+    format!(in alloc;
+        "access units {}\npackets {}\nunits dropped for the mtu {}\npairs dropped for the mtu {}\nend {}\n",
+        s.frames, s.packets, s.units_dropped, s.pairs_dropped, s.number
+    )
 }
 
-// The account: what was sent, what was dropped, and the number after the last, by which a joiner is closed.
-fn account(rt: &HostRuntime, s: Sending) -> u8 {
-    if s.status != status::DONE {
-        return s.status;
-    }
+fn account(rt: &HostRuntime, s: Sending) -> Result<(), Status> {
     if s.packets == 0 {
-        return status::NOTHING;
+        return Err(Status::Nothing);
     }
-    let text = Text::new()
-        .number(b"access units ", s.frames)
-        .number(b"\npackets ", s.packets)
-        .number(b"\nunits dropped for the mtu ", s.units_dropped)
-        .number(b"\npairs dropped for the mtu ", s.pairs_dropped)
-        .number(b"\nend ", u64::from(s.number))
-        .word(b"\n");
-    let status = told(&s);
-    stream::finish(rt, text, s.to, status)
+    let text = text(rt.alloc(), &s).map_err(|e| status::unwritten(rt, Error::from(e)))?;
+    let outcome = s.outcome();
+    stream::finish(rt, text.as_str(), s.to)?;
+    outcome
 }
 
 fn run(
@@ -98,11 +92,9 @@ fn run(
     buf: &mut [u8; 3145728],
     out: &mut [u8; 3407872],
     ends: &mut [usize; 65536],
-) -> u8 {
-    match first(rt) {
-        Ok(sending) => account(rt, play(rt, sending, buf, out, ends)),
-        Err(status) => status,
-    }
+) -> Result<(), Status> {
+    let sending = first(rt)?;
+    account(rt, play(rt, sending, buf, out, ends)?)
 }
 
 fn main(rt: HostRuntime) -> ExitCode {

@@ -1,11 +1,12 @@
 // The packets of access units, written to a file.
-ghost use Rattle.std.specs.Prelude.{◌≡◌, ◌≤◌, length};
+ghost use Rattle.std.specs.Prelude.{◌≡◌, length};
 
 use error::Error;
-use h264::{H264Payloader, Payloads};
-use header::{Header, Length};
+use h264::H264Payloader;
+use header::Header;
 use std::fs::File;
 use std::io;
+use stream::status::Status;
 use stream::{Output, status};
 
 #[derive(Drop)]
@@ -33,10 +34,8 @@ pub struct Sending {
     pub units_dropped: u64,
     // how many pairs of parameter sets were dropped for the mtu
     pub pairs_dropped: u64,
-    // NO_SETS until a pair was among the packets
-    pub sets: u8,
-    // DONE while all goes well
-    pub status: u8,
+    // whether a pair was among the packets
+    pub pair_sent: bool,
 }
 
 // Writes the record of one packet, or fails.
@@ -51,47 +50,40 @@ fn write_packet(
 {
     let length = packet::marshal_to(h, payload, &mut record[2..]);
     match length {
-        Length::Bytes(n) => {
+        Ok(n) => {
             let size = stream::frame(record, n);
             to.write_all(rt, stream::front(record, size))
         }
-        Length::Refused(_) => Err(io::Error::from(io::ErrorKind::InvalidData)),
+        Err(_) => Err(io::Error::from(io::ErrorKind::InvalidData)),
     }
 }
 
 // Whether a payload is a STAP-A, in which the sender puts a pair of parameter sets.
 fn is_pair(payload: &[u8]) -> bool {
-    stream::front(payload, 1) == b"\x78".as_slice()
+    payload.first() == Some(&0x78)
 }
 
-// Where packet i ends, which begins at `from`.
-fn end_of(ends: &[usize], i: usize, from: usize) -> usize
-    ensures { from ≤ result }
-{
-    if ends.len() <= i {
-        return from;
-    }
-    let end = ends[i];
-    if end < from {
-        return from;
-    }
-    end
-}
-
-fn status_of(e: Error) -> u8 {
+// What is told where the sender refuses an access unit.
+fn status_of(e: Error) -> Status {
     match e {
-        Error::OverLimits => status::LONG_SET,
-        _ => status::LONG,
+        Error::OverLimits => Status::LongSet,
+        _ => Status::Long,
     }
 }
 
 impl Sending {
-    // It goes on only where the status is DONE.
-    pub fn ended(mut self, status: u8) -> Sending {
-        self.status = status;
-        self
+    // What is told where all went well.
+    pub fn outcome(&self) -> Result<(), Status> {
+        if self.units_dropped != 0 || self.pairs_dropped != 0 {
+            return Err(Status::Dropped);
+        }
+        if !self.pair_sent {
+            return Err(Status::NoSets);
+        }
+        Ok(())
     }
 
+    // Stays: field by field, as the record has them.
     fn header(&self, marker: bool) -> Header {
         let mut h = Header::default();
         h.version = 2;
@@ -110,39 +102,38 @@ impl Sending {
         payload: &[u8],
         last: bool,
         record: &mut [u8; 65537],
-    ) -> Sending {
-        if self.status != status::DONE {
-            return self;
-        }
+    ) -> Result<Sending, Status> {
         let h = self.header(last);
         if let Err(e) = write_packet(rt, &mut self.to, h, payload, record) {
-            return self.ended(status::unwritten(rt, e));
+            return Err(status::unwritten(rt, e));
         }
         self.number = sequence::after(self.number);
-        self.packets = std::num::wrapping_add_u64(self.packets, 1);
-        if is_pair(payload) {
-            self.sets = status::DONE;
-        }
-        self
+        self.packets = self.packets.wrapping_add(1);
+        self.pair_sent = self.pair_sent || is_pair(payload);
+        Ok(self)
     }
 
     // The n packets of an access unit, as the sender left them. All bear its time, since a joiner refuses a fragment of another; the
     // marker stands on the last.
-    fn write<'a>(self, rt: &HostRuntime, n: usize, out: &'a [u8], ends: &'a [usize]) -> Sending {
+    fn write<'a>(
+        self,
+        rt: &HostRuntime,
+        n: usize,
+        out: &'a [u8],
+        ends: &'a [usize],
+    ) -> Result<Sending, Status> {
         let mut record = [0u8; 65537];
         let mut sending = self;
         let mut from = 0;
-        let mut i = 0;
-        while i < n {
-            let to = end_of(ends, i, from);
+        for (i, end) in ends.iter().take(n).enumerate() {
+            let to = from.max(*end);
             let payload = stream::part(out, from, to - from);
-            sending = sending.packet(rt, payload, i == n - 1, &mut record);
+            sending = sending.packet(rt, payload, i + 1 == n, &mut record)?;
             from = to;
-            i += 1;
         }
-        sending.time = std::num::wrapping_add_u32(sending.time, sending.ticks);
-        sending.frames = std::num::wrapping_add_u64(sending.frames, 1);
-        sending
+        sending.time = sending.time.wrapping_add(sending.ticks);
+        sending.frames = sending.frames.wrapping_add(1);
+        Ok(sending)
     }
 
     // One access unit more.
@@ -152,24 +143,21 @@ impl Sending {
         frame: &[u8],
         out: &mut [u8; 3407872],
         ends: &mut [usize; 65536],
-    ) -> Sending {
+    ) -> Result<Sending, Status> {
         let sender = self.sender;
         let sent = sender.payload(self.mtu, frame, out, ends);
         let after = sent.sender;
         self.sender = after;
         let answer = sent.answer;
         match answer {
-            Payloads::Written {
-                packets,
-                bytes: _,
-                units_dropped: units,
-                pairs_dropped: pairs,
-            } => {
-                self.units_dropped = std::num::wrapping_add_u64(self.units_dropped, units as u64);
-                self.pairs_dropped = std::num::wrapping_add_u64(self.pairs_dropped, pairs as u64);
-                self.write(rt, packets, out, ends)
+            Ok(written) => {
+                let units = written.units_dropped as u64;
+                let pairs = written.pairs_dropped as u64;
+                self.units_dropped = self.units_dropped.wrapping_add(units);
+                self.pairs_dropped = self.pairs_dropped.wrapping_add(pairs);
+                self.write(rt, written.packets, out, ends)
             }
-            Payloads::Refused(e) => self.ended(status_of(e)),
+            Err(e) => Err(status_of(e)),
         }
     }
 }

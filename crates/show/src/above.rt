@@ -1,11 +1,10 @@
-// The packet above a line, the last that was read: a fragment may follow it that is of another time.
+// What a packet leaves open for the one below it: a fragment may follow that is of another time.
 use header::Header;
 use nal_read::Kind;
 
+// A fragment of an H.264 unit, and not its last.
 #[derive(Clone, Copy)]
 pub struct Above {
-    // whether it is a fragment of an H.264 unit, and not its last
-    pub open: bool,
     // its sender's SSRC
     pub source: u32,
     // its sequence number
@@ -14,42 +13,27 @@ pub struct Above {
     pub time: u32,
 }
 
-// Above the first line.
-pub fn nothing() -> Above {
-    Above {
-        open: false,
-        source: 0,
-        number: 0,
-        time: 0,
-    }
-}
-
-fn is_open(payload: &[u8]) -> bool {
-    let kind = nal_read::kind_of(payload);
-    let Kind::Fragment {
-        first: _,
-        last,
-        head: _,
-    } = kind
-    else {
-        return false;
-    };
-    !last
-}
-
 impl Above {
-    pub fn of(h: Header, payload: &[u8]) -> Above {
-        Above {
-            open: is_open(payload),
-            source: h.ssrc,
-            number: h.sequence_number,
-            time: h.timestamp,
+    // Nothing, where a packet is no such fragment.
+    pub fn of(h: Header, payload: &[u8]) -> Option<Above> {
+        match nal_read::kind_of(payload) {
+            Kind::Fragment {
+                first: _,
+                last: false,
+                head: _,
+            } => Some(Above {
+                source: h.ssrc,
+                number: h.sequence_number,
+                time: h.timestamp,
+            }),
+            _ => None,
         }
     }
 
     // Whether a packet follows it without a gap, and bears another time. "All fragments of a unit carry one RTP timestamp" (E4).
     pub fn at_odds(self, h: Header) -> bool {
-        let next = std::num::wrapping_add_u16(self.number, 1);
-        self.open && h.ssrc == self.source && h.sequence_number == next && h.timestamp != self.time
+        h.ssrc == self.source
+            && h.sequence_number == self.number.wrapping_add(1)
+            && h.timestamp != self.time
     }
 }

@@ -1,97 +1,111 @@
 // What a payload is, by its codec.
-ghost use Rattle.std.specs.Prelude.{◌≤◌, length};
+ghost use Rattle.std.specs.Prelude.{◌≡◌, ◌%◌, ◌≤◌, ◌++◌, length, slice_index, string_bytes, codes, decimal, OnOk};
+ghost use Rattle.error.specs.Refusal.{number_of};
 
-use crate::line::refused;
+use crate::Codec;
 use error::Error;
-use nal_read::{Kind, Measured};
-use stream::Text;
-use vp8::{Vp8Packet, Vp8Read};
+use nal_read::Kind;
+use std::alloc::AllocError;
+use std::fmt::Write;
+use vp8::Vp8Packet;
+
+fn refused(text: &mut String, e: Error) -> Result<(), AllocError>
+    ensures { OnOk result (string_bytes text.new ≡ string_bytes text.old ++ (codes "refused " ++ decimal (number_of e))) }
+{
+    write!(text, "refused {}", e.number())
+}
 
 // The units of a STAP-A.
-fn aggregate(text: Text, payload: &[u8]) -> Text
+fn aggregate(text: &mut String, payload: &[u8]) -> Result<(), AllocError>
     requires { 1 ≤ length payload.now }
 {
-    let measured = nal_read::measure(payload);
-    match measured {
-        Measured::Units { count, bytes: _ } => text.number(b"STAP-A of ", count as u64),
-        Measured::Refused(e) => refused(text.word(b"STAP-A "), e),
+    write!(text, "STAP-A ")?;
+    match nal_read::measure(payload) {
+        Ok(units) => write!(text, "of {}", units.count),
+        Err(e) => refused(text, e),
     }
 }
 
-fn fragment(text: Text, first: bool, last: bool, head: u8, other_time: bool) -> Text {
-    text.number(b"FU-A ", (head % 32) as u64)
-        .when(first, b" start")
-        .when(last, b" end")
-        .when(!first && other_time, b" of another time")
+// Stays: start and end are bits of the packet, and no choice of the caller.
+fn fragment(
+    text: &mut String,
+    first: bool,
+    last: bool,
+    head: u8,
+    other_time: bool,
+) -> Result<(), AllocError> {
+    write!(text, "FU-A {}", head % 32)?;
+    if first {
+        write!(text, " start")?;
+    }
+    if last {
+        write!(text, " end")?;
+    }
+    if !first && other_time {
+        write!(text, " of another time")?;
+    }
+    Ok(())
 }
 
 // The type of the unit that a payload is.
-fn plain(text: Text, payload: &[u8]) -> Text
+fn plain(text: &mut String, payload: &[u8]) -> Result<(), AllocError>
     requires { 1 ≤ length payload.now }
+    ensures { OnOk result (string_bytes text.new ≡ string_bytes text.old ++ (codes "unit " ++ decimal (slice_index payload.now 0 % 32))) }
 {
-    text.number(b"unit ", (payload[0] % 32) as u64)
-}
-
-fn h264(text: Text, payload: &[u8], other_time: bool) -> Text {
-    let kind = nal_read::kind_of(payload);
-    match kind {
-        Kind::Short => refused(text, Error::ErrShortPacket),
-        Kind::Unknown(t) => refused(text, Error::NaluTypeIsNotHandled(t)),
-        Kind::Plain => plain(text, payload),
-        Kind::Aggregate => aggregate(text, payload),
-        Kind::Fragment { first, last, head } => fragment(text, first, last, head, other_time),
-    }
+    write!(text, "unit {}", payload[0] % 32)
 }
 
 // RFC 6184, section 5.3: F, which a relay sets "on packets it saw damaged". It is the packet's, whatever else the payload is.
-fn mark(text: Text, payload: &[u8]) -> Text {
-    if payload.len() == 0 {
-        return text;
-    }
-    text.when(128 <= payload[0], b" marked")
+fn is_marked(payload: &[u8]) -> bool {
+    matches!(payload.first(), Some(128..))
 }
 
-fn no_fields() -> Vp8Packet {
-    Vp8Packet {
-        x: 0,
-        n: 0,
-        s: 0,
-        pid: 0,
-        i: 0,
-        l: 0,
-        t: 0,
-        k: 0,
-        picture_id: 0,
-        tl0_pic_idx: 0,
-        tid: 0,
-        y: 0,
-        key_idx: 0,
+#[tactic(auto, using(nal_read::proofs::Shapes::plain_long, nal_read::proofs::Shapes::aggregate_long))]
+fn h264(text: &mut String, payload: &[u8], other_time: bool) -> Result<(), AllocError> {
+    write!(text, " h264 ")?;
+    let kind = nal_read::kind_of(payload);
+    match kind {
+        Kind::Short => refused(text, Error::ErrShortPacket)?,
+        Kind::Unknown(t) => refused(text, Error::NaluTypeIsNotHandled(t))?,
+        Kind::Plain => plain(text, payload)?,
+        Kind::Aggregate => aggregate(text, payload)?,
+        Kind::Fragment { first, last, head } => fragment(text, first, last, head, other_time)?,
     }
+    if is_marked(payload) {
+        write!(text, " marked")?;
+    }
+    Ok(())
 }
 
-fn partition(text: Text, fields: Vp8Packet) -> Text {
-    let text = text
-        .number(b"partition ", fields.pid as u64)
-        .when(fields.s == 1, b" start");
+fn partition(text: &mut String, fields: Vp8Packet) -> Result<(), AllocError> {
+    write!(text, "partition {}", fields.pid)?;
+    if fields.s == 1 {
+        write!(text, " start")?;
+    }
     if fields.i == 1 {
-        return text.number(b" picture ", fields.picture_id as u64);
+        write!(text, " picture {}", fields.picture_id)?;
     }
-    text
+    Ok(())
 }
 
-fn vp8(text: Text, payload: &[u8]) -> Text {
-    let answer = no_fields().depacketize(payload);
-    let read = answer.read;
-    match read {
-        Vp8Read::Payload(_) => partition(text, answer.packet),
-        Vp8Read::Refused(e) => refused(text, e),
+fn vp8(text: &mut String, payload: &[u8]) -> Result<(), AllocError> {
+    write!(text, " vp8 ")?;
+    let answer = Vp8Packet::default().depacketize(payload);
+    match answer.read {
+        Ok(_) => partition(text, answer.packet),
+        Err(e) => refused(text, e),
     }
 }
 
 // `other_time`: where the payload is a later fragment, it is of another time than the one that it follows.
-pub fn kind(text: Text, payload: &[u8], is_vp8: bool, other_time: bool) -> Text {
-    if is_vp8 {
-        return vp8(text.word(b" vp8 "), payload);
+pub fn kind(
+    text: &mut String,
+    payload: &[u8],
+    codec: Codec,
+    other_time: bool,
+) -> Result<(), AllocError> {
+    match codec {
+        Codec::Vp8 => vp8(text, payload),
+        Codec::H264 => h264(text, payload, other_time),
     }
-    mark(h264(text.word(b" h264 "), payload, other_time), payload)
 }

@@ -1,73 +1,67 @@
 // A packet in one line.
 use crate::above::Above;
-use crate::kind;
-use error::Error;
+use crate::{Codec, kind};
 use header::Header;
-use packet::PacketRead;
-use stream::Text;
+use packet::Payload;
+use std::alloc::{AllocError, Global};
+use std::fmt::Write;
 
-fn element(text: Text, there: bool, id: u8, len: u16) -> Text {
-    if there {
-        return text.number(b" ", id as u64).number(b":", len as u64);
-    }
-    text
-}
-
-// Id and length of each element.
-fn extensions(before: Text, h: Header) -> Text {
+// The header's fields, then id and length of each element.
+fn fields(text: &mut String, h: Header) -> Result<(), AllocError> {
+    write!(
+        text,
+        "number {} time {} source {} marker {} type {} extensions",
+        h.sequence_number,
+        h.timestamp,
+        h.ssrc,
+        u8::from(h.marker),
+        h.payload_type
+    )?;
     let elements = h.extensions;
-    let ids = elements.ids;
-    let lens = elements.lens;
-    let mut text = before.when(elements.count == 0, b" none");
-    let mut i = 0;
-    while i < 32 {
-        text = element(text, i < elements.count, ids[i], lens[i]);
-        i += 1;
+    if elements.count == 0 {
+        return write!(text, " none");
     }
-    text
-}
-
-fn fields(h: Header) -> Text {
-    Text::new()
-        .number(b"number ", h.sequence_number as u64)
-        .number(b" time ", h.timestamp as u64)
-        .number(b" source ", h.ssrc as u64)
-        .number(b" marker ", h.marker as u64)
-        .number(b" type ", h.payload_type as u64)
-        .word(b" extensions")
-}
-
-pub fn refused(text: Text, e: Error) -> Text {
-    text.number(b"refused ", e.number() as u64)
+    for (id, len) in elements.ids.iter().zip(&elements.lens).take(elements.count) {
+        write!(text, " {id}:{len}")?;
+    }
+    Ok(())
 }
 
 #[derive(Drop)]
 pub struct Shown {
-    pub text: Text,
-    // what stands above the next one
-    pub above: Above,
+    pub text: String,
+    // the fragment above the next one, if it is one
+    pub above: Option<Above>,
 }
 
-pub fn line(packet: &[u8], vp8: bool, above: Above) -> Shown {
+pub fn line(
+    alloc: Global,
+    packet: &[u8],
+    codec: Codec,
+    above: Option<Above>,
+) -> Result<Shown, AllocError> {
+    let mut text = String::new(alloc);
     let answer = packet::unmarshal(packet);
     let h = answer.header;
-    let read = answer.read;
-    match read {
-        PacketRead::Payload { at, len } => {
+    match answer.read {
+        Ok(Payload { at, len }) => {
             let payload = stream::part(packet, at, len);
-            let text = extensions(fields(h), h);
-            Shown {
-                text: kind::kind(text, payload, vp8, above.at_odds(h))
-                    .number(b" payload ", len as u64)
-                    .word(b"\n"),
+            fields(&mut text, h)?;
+            kind::kind(
+                &mut text,
+                payload,
+                codec,
+                above.is_some_and(|a| a.at_odds(h)),
+            )?;
+            writeln!(text, " payload {len}")?;
+            Ok(Shown {
+                text,
                 above: Above::of(h, payload),
-            }
+            })
         }
-        PacketRead::Refused(e) => Shown {
-            text: refused(Text::new(), e)
-                .number(b" packet ", packet.len() as u64)
-                .word(b"\n"),
-            above,
-        },
+        Err(e) => {
+            writeln!(text, "refused {} packet {}", e.number(), packet.len())?;
+            Ok(Shown { text, above })
+        }
     }
 }

@@ -5,66 +5,73 @@ mod above;
 mod kind;
 mod line;
 
+use above::Above;
 use std::fs::File;
+use std::io;
 use std::process::ExitCode;
 use std::rt::Env;
-use stream::{Next, Output, Record, Text, Window, status};
+use stream::status::Status;
+use stream::{Output, Record, Window, status};
 
-// Whether the second argument names VP8: where it does not, or is not there, the codec is H.264.
-fn is_vp8(rt: &HostRuntime) -> bool {
+// What the payloads are.
+#[derive(Clone, Copy)]
+pub enum Codec {
+    H264,
+    Vp8,
+}
+
+// The codec that the second argument names: where it does not name VP8, or is not there, H.264.
+fn codec_named(rt: &HostRuntime) -> Codec {
     let mut name = [0u8; 4];
-    match rt.arg(2, &mut name) {
-        Ok(n) => name[..n] == b"vp8"[..],
-        Err(_) => false,
+    if rt.arg(2, &mut name).is_ok_and(|n| name[..n] == b"vp8"[..]) {
+        Codec::Vp8
+    } else {
+        Codec::H264
     }
 }
 
-// How a file ended: not well where it had no packet.
-fn ending(rt: &HostRuntime, last: Next, none: bool) -> u8 {
-    let status = stream::ending(rt, last);
-    if status != status::DONE {
-        return status;
-    }
-    if none {
-        return status::NOTHING;
-    }
-    status::DONE
+// Writes a packet's line: what is above the next one.
+fn write(
+    rt: &HostRuntime,
+    packet: &[u8],
+    codec: Codec,
+    above: Option<Above>,
+) -> io::Result<Option<Above>> {
+    let shown = line::line(rt.alloc(), packet, codec, above)?;
+    Output::Stdout.write_all(rt, shown.text.as_bytes())?;
+    Ok(shown.above)
 }
 
-fn write(rt: &HostRuntime, text: Text) -> u8 {
-    match text.write(rt, &mut Output::Stdout) {
-        Ok(()) => status::DONE,
-        Err(e) => status::unwritten(rt, e),
-    }
-}
-
-fn show(rt: &HostRuntime, from: &mut File, vp8: bool, buf: &mut [u8; 131072]) -> u8 {
+// A proved loop has to end, and nothing says that a file does: no file has as many packets as this one has turns.
+#[tactic(auto, using(stream::proofs::Steps::new_inside))]
+fn show(
+    rt: &HostRuntime,
+    from: &mut File,
+    codec: Codec,
+    buf: &mut [u8; 131072],
+) -> Result<(), Status> {
     let mut w = Window::new();
-    let mut above = above::nothing();
-    let mut status = status::DONE;
-    let mut turns = u64::MAX;
-    loop {
-        if stream::is_over(status, turns) {
-            break status;
-        }
+    let mut above = None;
+    for turn in 0..u64::MAX {
         let next = stream::next_packet(from, buf, w);
-        let found = next.found;
-        let Record::Packet { at, len } = found else {
-            break ending(rt, next, turns == u64::MAX);
+        let Record::Packet { at, len } = next.found else {
+            stream::ending(rt, next)?;
+            return if turn == 0 {
+                Err(Status::Nothing)
+            } else {
+                Ok(())
+            };
         };
-        turns -= 1;
-        let shown = line::line(stream::part(buf, at, len), vp8, above);
-        above = shown.above;
-        status = write(rt, shown.text);
+        let packet = stream::part(buf, at, len);
+        above = write(rt, packet, codec, above).map_err(|e| status::unwritten(rt, e))?;
         w = next.window;
     }
+    Ok(())
 }
 
-fn run(rt: &HostRuntime, buf: &mut [u8; 131072]) -> u8 {
-    let Some(mut from) = stream::open(rt, 1) else {
-        return status::FAILED;
-    };
-    show(rt, &mut from, is_vp8(rt), buf)
+fn run(rt: &HostRuntime, buf: &mut [u8; 131072]) -> Result<(), Status> {
+    let mut from = stream::open(rt, 1)?;
+    show(rt, &mut from, codec_named(rt), buf)
 }
 
 fn main(rt: HostRuntime) -> ExitCode {

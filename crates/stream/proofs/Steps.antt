@@ -34,14 +34,14 @@ module _ (s : List ℕ) (from at len : ℕ) where
 module _ (buf : List ℕ) (w : Window) where
   -- the step, by what was found
   pub found_so : (f : Record) → record_at (take w.end buf) w.at ≡ f →
-      ◌≡◌ {A = Next} (record { window = past_record w f; found = f }) (found_in buf w)
+      ◌≡◌ {A = Next Record} (record { window = past_record w f; found = f }) (found_in buf w)
   unfolding found_in
   found_so f e = sym (ap (λ (g : Record). record { window = past_record w g; found = g }) e)
 
-  pub step_inside : Within w (length buf) → (r : Next) → r ≡ found_in buf w → Within r.window (length buf)
+  pub step_inside : Within w (length buf) → (r : Next Record) → r ≡ found_in buf w → Within r.window (length buf)
   unfolding found_in
   step_inside within r e =
-      subst⁻¹ (λ (n : Next). Within n.window (length buf)) e (go (record_at (take w.end buf) w.at) refl)
+      subst⁻¹ (λ (n : Next Record). Within n.window (length buf)) e (go (record_at (take w.end buf) w.at) refl)
     where
       go : (f : Record) → record_at (take w.end buf) w.at ≡ f → Within (past_record w f) (length buf)
       go (Packet at len) is =

@@ -3,5 +3,6 @@ pub mod Digits
 pub mod Files
 pub mod Framing
 pub mod Records
+pub mod Status
 pub mod Text
 pub mod Window

@@ -1,23 +1,21 @@
--- Text that is put together before it is written. Assumes nothing.
-use Rattle.std.specs.Prelude.{◌≡◌, ℕ, ◌+◌, cond, List, length, replicate, nat_le}
+-- Text that is put together before it is written, as the list of its bytes. Assumes nothing.
+use Rattle.std.specs.Prelude.{◌≡◌, ℕ, ◌+◌, cond, List, [], ◌++◌, length, nat_le}
 use Rattle.stream.specs.Digits.{last_digits, IsDigitCount}
-use Rattle.wire.specs.Part.{splice}
-use Rattle.stream.specs.declared.text.Text.{Text}
 
 -- no text yet
-abbrev pub no_text : Text
-no_text = record { bytes = replicate 2048 0; len = 0 }
+abbrev pub no_text : List ℕ
+no_text = []
 
--- a text with a word behind it, where that has room
-abbrev pub with_word : Text → List ℕ → Text
-with_word t word = record { bytes = splice t.bytes t.len word; len = t.len + length word }
+-- a text with a word behind it
+abbrev pub with_word : List ℕ → List ℕ → List ℕ
+with_word t word = t ++ word
 
--- a text with a word behind it; one that has no room is left out
-unfoldable pub word_on : Text → List ℕ → Text
-word_on t word = cond (nat_le (t.len + length word) 2048) (with_word t word) t
+-- a text with a word behind it; one that has no room is left out: a String has room for each word, a buffer of a fixed size for as many as fit
+unfoldable pub word_on : ℕ → List ℕ → List ℕ → List ℕ
+word_on room t word = cond (nat_le (length t + length word) room) (with_word t word) t
 
 -- a text with a name and a number behind it, in as few decimal digits as say it
-pub record Numbered (t : Text) (name : List ℕ) (n : ℕ) (r : Text) : Type 0 where
+pub record Numbered (t : List ℕ) (name : List ℕ) (n : ℕ) (r : List ℕ) : Type 0 where
   pub places : ℕ
   pub fewest : IsDigitCount 10 1 n places
-  pub text : r ≡ word_on (word_on t name) (last_digits 10 places n)
+  pub text : r ≡ with_word (with_word t name) (last_digits 10 places n)

@@ -1,13 +1,13 @@
 -- The part of a file that stands in a buffer. Assumes nothing.
-use Rattle.std.specs.Prelude.{◌≡◌, ℕ, ◌-◌, ◌≤◌, false, List, length, take, None}
+use Rattle.std.specs.Prelude.{◌≡◌, ℕ, ◌-◌, ◌≤◌, List, length, take, None}
 use Rattle.wire.specs.Part.{part}
 use Rattle.stream.specs.declared.window.Window.{Window}
 
 abbrev pub nothing_read : Window
-nothing_read = record { at = 0; end = 0; ended = false; failed = None }
+nothing_read = record { at = 0; end = 0; ended = None }
 
 abbrev pub from : ℕ → Window → Window
-from at w = record { at = at; end = w.end; ended = w.ended; failed = w.failed }
+from at w = record { at = at; end = w.end; ended = w.ended }
 
 -- the window lies within a buffer of `size` bytes
 pub record Within (w : Window) (size : ℕ) : Type 0 where

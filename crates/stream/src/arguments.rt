@@ -1,94 +1,51 @@
 // Numbers among a program's arguments.
-ghost use Rattle.std.specs.Prelude.{◌≡◌, ◌<◌};
-ghost use Rattle.stream.specs.Argument.{digit_of, number_of, Between};
+ghost use Rattle.std.specs.Prelude.{◌≡◌, MatchResult, IfOk, IfSome};
+ghost use Rattle.stream.specs.Argument.{number_of, Between};
+ghost use Rattle.stream.specs.declared.status.Status.TheVariants.{Usage};
 
+use crate::status::Status;
 use std::env::FillError;
 use std::rt::Env;
 
-// What stands for no number: more than any that `decimal` reads.
-pub const NONE: u64 = 18446744073709551615;
-
-#[derive(Clone, Copy)]
-pub struct Number {
-    // whether this argument, and those that were asked before it, are as they must be
-    pub ok: bool,
-    // 0 where it is not
-    pub value: u64,
-}
-
-// What a digit counts: 10 or more where it is none.
-fn digit(b: u8) -> u64
-    ensures { (result ≡ digit_of b) × (result < 256) }
-{
-    std::num::wrapping_sub_u8(b, b'0') as u64
-}
-
 // The number that decimal digits say, up to 9,999,999,999.
-fn decimal(text: &[u8]) -> u64
+// Stays: a loop, since `str::parse` takes a sign before the digits, which `number_of` does not.
+#[tactic(auto, unfolding(crate::specs::Argument::number_of))]
+fn decimal(text: &[u8]) -> Option<u64>
     ensures { result ≡ number_of text.now }
 {
-    if text.len() == 0 {
-        return NONE;
+    if text.is_empty() {
+        return None;
     }
     let mut value = 0;
-    let mut i = 0;
-    while i < text.len() {
-        let d = digit(text[i]);
-        if 9 < d {
-            return NONE;
+    for b in text {
+        let digit = b.wrapping_sub(b'0');
+        if 9 < digit || 999999999 < value {
+            return None;
         }
-        if 999999999 < value {
-            return NONE;
-        }
-        value = value * 10 + d;
-        i += 1;
+        value = value * 10 + u64::from(digit);
     }
-    value
+    Some(value)
 }
 
-// What argument i says, or `otherwise` where it is not there.
-fn given(rt: &HostRuntime, i: usize, otherwise: u64) -> u64 {
-    let mut text = [0u8; 16];
-    match rt.arg(i, &mut text) {
-        Ok(n) => decimal(&text[..n]),
-        Err(FillError::NotPresent) => otherwise,
-        Err(FillError::TooLong) => NONE,
-    }
-}
-
-// Whether the program's argument i is there.
-pub fn is_given(rt: &HostRuntime, i: usize) -> bool {
-    let mut text = [0u8; 16];
-    match rt.arg(i, &mut text) {
-        Err(FillError::NotPresent) => false,
-        _ => true,
-    }
-}
-
-// The program's argument i, which must be a number from least to most; `otherwise` where it is not there, and so NONE for one that
-// must be.
-pub fn argument(
-    rt: &HostRuntime,
-    before: bool,
-    i: usize,
-    least: u64,
-    most: u64,
-    otherwise: u64,
-) -> Number
-    ensures { Between least most result }
+// The program's argument i, where it is there: it must be a number from least to most.
+pub fn argument(rt: &HostRuntime, i: usize, least: u64, most: u64) -> Result<Option<u64>, Status>
+    ensures { MatchResult result (λ given. IfSome given (Between least most)) (λ status. status ≡ Usage) }
 {
-    let value = given(rt, i, otherwise);
-    if value < least {
-        return Number {
-            ok: false,
-            value: 0,
-        };
+    let mut text = [0u8; 16];
+    let given = match rt.arg(i, &mut text) {
+        Ok(n) => decimal(&text[..n]),
+        Err(FillError::NotPresent) => return Ok(None),
+        Err(FillError::TooLong) => None,
+    };
+    match given {
+        Some(value) if least <= value && value <= most => Ok(given),
+        _ => Err(Status::Usage),
     }
-    if most < value {
-        return Number {
-            ok: false,
-            value: 0,
-        };
-    }
-    Number { ok: before, value }
+}
+
+// The program's argument i, which must be there, and a number from least to most.
+pub fn needed(rt: &HostRuntime, i: usize, least: u64, most: u64) -> Result<u64, Status>
+    ensures { MatchResult result (Between least most) (λ status. status ≡ Usage) }
+{
+    argument(rt, i, least, most)?.ok_or(Status::Usage)
 }

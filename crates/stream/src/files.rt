@@ -2,11 +2,12 @@
 //
 // A program writes a new file and replaces none: `./rtp` gives it a name that is free, and the file its own name when all is
 // written.
-ghost use Rattle.std.specs.Prelude.{◌≡◌, ◌≤◌, length};
-ghost use Rattle.stream.specs.Files.{account_to, OpenedFor, Finished};
+ghost use Rattle.std.specs.Prelude.{◌≡◌, IfErr};
+ghost use Rattle.stream.specs.Files.{account_to};
+ghost use Rattle.stream.specs.declared.status.Status.TheVariants.{Failed};
 
 use crate::status;
-use crate::text::Text;
+use crate::status::Status;
 use std::fs::{File, OpenOptions};
 use std::io;
 use std::io::{Error, ErrorKind, Write};
@@ -39,30 +40,19 @@ impl Output {
     }
 }
 
+// Input and output.
 #[derive(Drop)]
-pub struct Opened {
-    // input and output
-    pub from: Option<File>,
-    pub to: Option<Output>,
-    pub status: u8,
-}
-
-// The name that argument i gives: an empty one where it is not there, or longer than a name can be.
-fn name(rt: &HostRuntime, i: usize, path: &mut [u8; 4096]) -> usize
-    ensures { result ≤ length path.new }
-{
-    match rt.arg(i, path) {
-        Ok(n) => n,
-        Err(_) => 0,
-    }
+pub struct Files {
+    pub from: File,
+    pub to: Output,
 }
 
 // A name is text: the system takes others too, but the library does not.
 fn text_of(path: &[u8]) -> io::Result<&str> {
-    match std::str::from_utf8(path) {
-        Ok(text) => Ok(text),
-        Err(_) => Err(Error::new(ErrorKind::InvalidInput, "a name that is not UTF-8")),
-    }
+    std::str::from_utf8(path).map_err(|_| Error::new(
+        ErrorKind::InvalidInput,
+        "a name that is not UTF-8",
+    ))
 }
 
 fn open_as(rt: &HostRuntime, path: &[u8]) -> io::Result<File> {
@@ -81,62 +71,43 @@ fn create_as(rt: &HostRuntime, path: &[u8]) -> io::Result<Output> {
     Ok(Output::File(file))
 }
 
-// Opens the file that argument i names for reading. Where that fails, it has said why.
-pub fn open(rt: &HostRuntime, i: usize) -> Option<File> {
+// What comes of the name that argument i gives: an empty one where it is not there, or longer than a name can be. Where that fails, it
+// has said why.
+fn named<T, F: FnOnce(&HostRuntime, &[u8]) -> io::Result<T>>(
+    rt: &HostRuntime,
+    i: usize,
+    take: F,
+) -> Result<T, Status>
+    requires { F.IsAlwaysCallable take }
+    ensures { IfErr result (λ status. status ≡ Failed) }
+{
     let mut path = [0u8; 4096];
-    let n = name(rt, i, &mut path);
-    match open_as(rt, &path[..n]) {
-        Ok(file) => Some(file),
-        Err(e) => {
-            status::fail(rt, &path[..n], e);
-            None
-        }
-    }
+    let len = rt.arg(i, &mut path).unwrap_or(0);
+    take(rt, &path[..len]).map_err(|e| status::failed(rt, &path[..len], e))
+}
+
+// Opens the file that argument i names for reading. Where that fails, it has said why.
+pub fn open(rt: &HostRuntime, i: usize) -> Result<File, Status>
+    ensures { IfErr result (λ status. status ≡ Failed) }
+{
+    named(rt, i, open_as)
 }
 
 // Makes the file that argument i names new for writing. Where that fails, it has said why.
-pub fn create(rt: &HostRuntime, i: usize) -> Option<Output> {
-    let mut path = [0u8; 4096];
-    let n = name(rt, i, &mut path);
-    match create_as(rt, &path[..n]) {
-        Ok(output) => Some(output),
-        Err(e) => {
-            status::fail(rt, &path[..n], e);
-            None
-        }
-    }
+pub fn create(rt: &HostRuntime, i: usize) -> Result<Output, Status>
+    ensures { IfErr result (λ status. status ≡ Failed) }
+{
+    named(rt, i, create_as)
 }
 
-// Opens what the first argument names and makes what the second does, where the others are right.
-pub fn open_files(rt: &HostRuntime, right: bool) -> Opened
-    ensures { OpenedFor right result }
+// Opens what the first argument names, and then makes what the second does.
+pub fn open_files(rt: &HostRuntime) -> Result<Files, Status>
+    ensures { IfErr result (λ status. status ≡ Failed) }
 {
-    if !right {
-        return Opened {
-            from: None,
-            to: None,
-            status: status::USAGE,
-        };
-    }
-    let Some(from) = open(rt, 1) else {
-        return Opened {
-            from: None,
-            to: None,
-            status: status::FAILED,
-        };
-    };
-    let Some(to) = create(rt, 2) else {
-        return Opened {
-            from: Some(from),
-            to: None,
-            status: status::FAILED,
-        };
-    };
-    Opened {
-        from: Some(from),
-        to: Some(to),
-        status: status::DONE,
-    }
+    Ok(Files {
+        from: open(rt, 1)?,
+        to: create(rt, 2)?,
+    })
 }
 
 // Where the account goes: to standard error where standard output has the data.
@@ -149,16 +120,12 @@ pub fn account_to(data: &Output) -> Output
     }
 }
 
-// Writes the account and closes the data: the status, where that goes well.
-pub fn finish(rt: &HostRuntime, account: Text, data: Output, status: u8) -> u8
-    ensures { Finished status result }
+// Writes the account and closes the data.
+pub fn finish(rt: &HostRuntime, account: &str, data: Output) -> Result<(), Status>
+    ensures { IfErr result (λ status. status ≡ Failed) }
 {
-    let mut to = account_to(&data);
-    if let Err(e) = account.write(rt, &mut to) {
-        return status::unwritten(rt, e);
-    }
-    if let Err(e) = data.close() {
-        return status::unwritten(rt, e);
-    }
-    status
+    account_to(&data)
+        .write_all(rt, account.as_bytes())
+        .map_err(|e| status::unwritten(rt, e))?;
+    data.close().map_err(|e| status::unwritten(rt, e))
 }

@@ -5,10 +5,11 @@
 // +-+-+-+-+-+-+-+-+-+-+-+-+-+-+-+-+-+-+-+-+-+-+-+-+-+-+-+-+-+-+-+-+
 // |             LENGTH            |  RTP or RTCP packet ...       |
 // +-+-+-+-+-+-+-+-+-+-+-+-+-+-+-+-+-+-+-+-+-+-+-+-+-+-+-+-+-+-+-+-+
-ghost use Rattle.std.specs.Prelude.{◌≡◌, ◌+◌, ◌<◌, ◌≤◌, length};
+ghost use Rattle.std.specs.Prelude.{◌≡◌, ◌+◌, ◌≤◌, length};
 ghost use Rattle.wire.specs.Part.{splice, part};
 ghost use Rattle.stream.specs.Framing.{framed, record_at};
 
+// Stays: three cases and no `Result` of an `Option`, since an end and a cut alike are looked at again behind one more read.
 #[derive(Clone, Copy)]
 pub enum Record {
     // the packet is `len` bytes from `at` on; behind it comes the next record
@@ -19,13 +20,8 @@ pub enum Record {
     End,
 }
 
-fn wide(n: u16) -> usize
-    ensures { (result ≡ n) × (result < 65536) }
-{
-    n as usize
-}
-
 // The record that begins at a place.
+#[tactic(auto, unfolding(crate::specs::Framing::record_at))]
 pub fn record_at(s: &[u8], from: usize) -> Record
     ensures { result ≡ record_at s.now from }
 {
@@ -35,7 +31,7 @@ pub fn record_at(s: &[u8], from: usize) -> Record
     if s.len() < from + 2 {
         return Record::Cut;
     }
-    let len = wide(wire::get_u16(s, from));
+    let len = usize::from(wire::get_u16(s, from));
     if s.len() < from + 2 + len {
         return Record::Cut;
     }

@@ -1,48 +1,46 @@
-// How a program ended, as a number, which is its exit status. `./rtp` says what the number means, and turns it into a status of its own.
+// What a program has to tell when it ends, where that is not that all went well. `./rtp` says it in words, by the exit status, and turns that
+// into a status of its own.
 ghost use Rattle.std.specs.Prelude.{◌≡◌};
 ghost use Rattle.std.specs.Process.{exit_status};
+ghost use Rattle.stream.specs.Status.{exit_number};
+ghost use Rattle.stream.specs.declared.status.Status.TheVariants.{Failed};
 
 use std::io;
 use std::io::{Error, ErrorKind, Write};
 use std::process::ExitCode;
 
-// All went well.
-pub const DONE: u8 = 0;
+// The number of each is the exit status; 0 says that there is nothing to tell.
+#[derive(Clone, Copy, Debug, PartialEq, Eq)]
+pub enum Status {
+    // A call of the system failed; what and why is said.
+    Failed = 1,
+    // An argument is not as it must be.
+    Usage = 2,
+    // Nothing came of the input.
+    Nothing = 3,
+    // A file of packets ends within one.
+    Cut = 4,
+    // A clip has no start code.
+    NoCode = 5,
+    // A unit, or an access unit, is longer than a program has room for.
+    Long = 6,
+    // A parameter set is longer than 1,024 bytes.
+    LongSet = 7,
+    // The closing number cannot be the one after the last.
+    WrongEnd = 8,
+    // All went well, but no pair of parameter sets comes before a unit that is sent.
+    NoSets = 9,
+    // All went well, but units or pairs of parameter sets were dropped for the mtu.
+    Dropped = 10,
+}
 
-// A call of the system failed; what and why is said.
-pub const FAILED: u8 = 1;
-
-// An argument is not as it must be.
-pub const USAGE: u8 = 2;
-
-// Nothing came of the input.
-pub const NOTHING: u8 = 3;
-
-// A file of packets ends within one.
-pub const CUT: u8 = 4;
-
-// A clip has no start code.
-pub const NO_CODE: u8 = 5;
-
-// A unit, or an access unit, is longer than a program has room for.
-pub const LONG: u8 = 6;
-
-// A parameter set is longer than 1,024 bytes.
-pub const LONG_SET: u8 = 7;
-
-// The closing number cannot be the one after the last.
-pub const WRONG_END: u8 = 8;
-
-// All went well, but no pair of parameter sets comes before a unit that is sent.
-pub const NO_SETS: u8 = 9;
-
-// All went well, but units or pairs of parameter sets were dropped for the mtu.
-pub const DROPPED: u8 = 10;
-
-pub fn tell(status: u8) -> ExitCode
-    ensures { exit_status result ≡ status }
+pub fn tell(outcome: Result<(), Status>) -> ExitCode
+    ensures { exit_status result ≡ exit_number outcome }
 {
-    ExitCode::from(status)
+    match outcome {
+        Ok(()) => ExitCode::SUCCESS,
+        Err(status) => ExitCode::from(status as u8),
+    }
 }
 
 // An error in the system's words alone, without its number.
@@ -65,23 +63,25 @@ fn write_failure(rt: &HostRuntime, what: &[u8], e: Error) -> io::Result<()> {
 }
 
 // Says on standard error what failed, and why. What cannot be written there stays unsaid.
-pub fn fail(rt: &HostRuntime, what: &[u8], e: Error) {
+pub fn failed(rt: &HostRuntime, what: &[u8], e: Error) -> Status
+    ensures { result ≡ Failed }
+{
     let _ = write_failure(rt, what, e);
+    Status::Failed
 }
 
-pub fn unread(rt: &HostRuntime, e: Error) -> u8
-    ensures { result ≡ 1 }
+pub fn unread(rt: &HostRuntime, e: Error) -> Status
+    ensures { result ≡ Failed }
 {
-    fail(rt, b"rtp: reading", e);
-    FAILED
+    failed(rt, b"rtp: reading", e)
 }
 
 // Nothing is said to a reader that leaves.
-pub fn unwritten(rt: &HostRuntime, e: Error) -> u8
-    ensures { result ≡ 1 }
+pub fn unwritten(rt: &HostRuntime, e: Error) -> Status
+    ensures { result ≡ Failed }
 {
-    if e.kind() != ErrorKind::BrokenPipe {
-        fail(rt, b"rtp: writing", e);
+    if e.kind() == ErrorKind::BrokenPipe {
+        return Status::Failed;
     }
-    FAILED
+    failed(rt, b"rtp: writing", e)
 }

@@ -1,9 +1,6 @@
--- Each turn takes one packet. The window stays within the buffer, by the contract of the step.
+-- The window stays within the buffer, by the contract of the step.
 use Rattle.stream.specs.Window.{Within}
 use Rattle.show.proofs.show.Given as goal
 
-abbrev pub invariant-loop-w : goal.invariant-loop-w
-invariant-loop-w l = Within l.w 131072
-
-abbrev pub decreases-loop-w : goal.decreases-loop-w
-decreases-loop-w l = l.turns
+abbrev pub invariant-loop-turn : goal.invariant-loop-turn
+invariant-loop-turn l = Within l.w 131072

@@ -3,8 +3,8 @@ use Rattle.std.proofs.Common.{◌-◌, length}
 use Rattle.send.proofs.Edges.{Going}
 use Rattle.send.proofs.access.find_edge.Given as goal
 
-abbrev pub invariant-loop-at : goal.invariant-loop-at
-invariant-loop-at l = Going l.s l.start l.coded
+abbrev pub invariant-loop-code : goal.invariant-loop-code
+invariant-loop-code l = Going l.s l.start l.coded
 
-abbrev pub decreases-loop-at : goal.decreases-loop-at
-decreases-loop-at l = length l.s - l.start
+abbrev pub decreases-loop-code : goal.decreases-loop-code
+decreases-loop-code l = length l.s - l.start

@@ -17,8 +17,8 @@ frame-size-requires c =
     let m = c.marshal_to-length in
     let size = length a.«record».now - 2 in
     let place = part a.«record».now 2 size in
-    let w = written_out m.result place m.new.buf (write_packet a.h a.payload.now (length place)) _ m.ensures c.in-Bytes.is in
+    let w = written_out m.result place m.new.buf (write_packet a.h a.payload.now (length place)) _ m.ensures c.in-Ok.is in
     let room : length place ≡ size = length_part a.«record».now 2 size (omega arith) in
-    let fits : c.in-Bytes.n ≤ size =
+    let fits : c.in-Ok.n ≤ size =
     omega (arith, w.count, within place w.octets m.new.buf w.buffer m.auto.buf) in
     (omega arith, search rules)
