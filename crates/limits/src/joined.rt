@@ -1,29 +1,16 @@
 // The joiner: a packet of one byte too many, and records that no call makes.
-use crate::tell;
-use joiner::{Closed, Joined, Joiner};
+use crate::{number, tell};
+use joiner::Joiner;
 use std::io;
 
 fn join(joiner: Joiner, packet: &[u8]) -> u8 {
     let mut gather = [0u8; 16];
     let mut out = [0u8; 16];
-    let answer = joiner.join(packet, &mut gather, &mut out).answer;
-    match answer {
-        Joined::Accepted {
-            first: _,
-            count: _,
-            bytes: _,
-        } => 0,
-        Joined::Late => 0,
-        Joined::Refused(e) => e.number(),
-    }
+    number(joiner.join(packet, &mut gather, &mut out).answer)
 }
 
 fn close(joiner: Joiner) -> u8 {
-    let answer = joiner.close(1).answer;
-    match answer {
-        Closed::Closed { first: _, count: _ } => 0,
-        Closed::Refused(e) => e.number(),
-    }
+    number(joiner.close(1).answer)
 }
 
 // A length of a run, where one is open or not.
@@ -53,71 +40,67 @@ fn timed(closed: bool) -> Joiner {
 fn lengths(rt: &HostRuntime, packet: &[u8]) -> io::Result<()> {
     tell(
         rt,
-        "joiner join, a length and no run",
-        join(holding(false, 1), packet) as u64,
-    )?;
-    tell(
-        rt,
-        "joiner close, a length and no run",
-        close(holding(false, 1)) as u64,
-    )?;
-    tell(
-        rt,
-        "joiner close, a run of 16,777,216 bytes",
-        close(holding(true, 16777216)) as u64,
+        &[
+            (
+                "joiner join, a length and no run",
+                join(holding(false, 1), packet),
+            ),
+            (
+                "joiner close, a length and no run",
+                close(holding(false, 1)),
+            ),
+            (
+                "joiner close, a run of 16,777,216 bytes",
+                close(holding(true, 16777216)),
+            ),
+        ],
     )
 }
 
 fn marks(rt: &HostRuntime, packet: &[u8]) -> io::Result<()> {
     tell(
         rt,
-        "joiner join, a mark and no run",
-        join(marked(false), packet) as u64,
-    )?;
-    tell(
-        rt,
-        "joiner close, a mark and no run",
-        close(marked(false)) as u64,
-    )?;
-    tell(
-        rt,
-        "joiner join, a mark and no run, closed",
-        join(marked(true), packet) as u64,
-    )?;
-    tell(
-        rt,
-        "joiner close, a mark and no run, closed",
-        close(marked(true)) as u64,
+        &[
+            (
+                "joiner join, a mark and no run",
+                join(marked(false), packet),
+            ),
+            ("joiner close, a mark and no run", close(marked(false))),
+            (
+                "joiner join, a mark and no run, closed",
+                join(marked(true), packet),
+            ),
+            (
+                "joiner close, a mark and no run, closed",
+                close(marked(true)),
+            ),
+        ],
     )
 }
 
+// Stays: a function for each field, since the lines say which it is.
 fn times(rt: &HostRuntime, packet: &[u8]) -> io::Result<()> {
     tell(
         rt,
-        "joiner join, a time and no run",
-        join(timed(false), packet) as u64,
-    )?;
-    tell(
-        rt,
-        "joiner close, a time and no run",
-        close(timed(false)) as u64,
-    )?;
-    tell(
-        rt,
-        "joiner join, a time and no run, closed",
-        join(timed(true), packet) as u64,
-    )?;
-    tell(
-        rt,
-        "joiner close, a time and no run, closed",
-        close(timed(true)) as u64,
+        &[
+            ("joiner join, a time and no run", join(timed(false), packet)),
+            ("joiner close, a time and no run", close(timed(false))),
+            (
+                "joiner join, a time and no run, closed",
+                join(timed(true), packet),
+            ),
+            (
+                "joiner close, a time and no run, closed",
+                close(timed(true)),
+            ),
+        ],
     )
 }
 
 pub fn all(rt: &HostRuntime) -> io::Result<()> {
     let long = [0x80u8; 65536];
     let packet = *b"\x80\x60\x00\x01\x00\x00\x00\x02\x00\x00\x00\x03\x41\x01\x02";
-    tell(rt, "joiner join", join(Joiner::open(3, 1), &long) as u64)?;
+    tell(rt, &[("joiner join", join(Joiner::open(3, 1), &long))])?;
     lengths(rt, &packet)?;
     marks(rt, &packet)?;
     times(rt, &packet)

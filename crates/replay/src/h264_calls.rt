@@ -1,43 +1,52 @@
 // H.264: the start code search, frames sent, payloads read, the partition tests.
 use crate::{equal, rows};
-use h264::{Found, H264Payloader, LentPayloader, ParameterSet, Payloads, Search, Sent, next_ind};
-use h264_packet::{
-    Depacketize, Depacketized, H264Packet, Head, Shown, body, is_partition_head, is_partition_tail,
-};
+use h264::{H264Payloader, LentPayloader, ParameterSet, Sent, next_ind};
+use h264_packet::{Depacketized, H264Packet, body, is_partition_head, is_partition_tail};
 
 pub fn next<'a>(q: &'a [u8], a: &'a [u8]) -> bool {
     let search = next_ind(rows::field(q, 1), rows::number(q, 2));
     match search {
-        Search::Yields(found) => match found {
-            Found::At(place, len) => equal::told(a, 0, place, len, 0),
-            Found::Nothing => equal::told(a, equal::NOTHING, 0, 0, 0),
-        },
-        Search::Refused(e) => equal::refused(a, e),
+        Ok(Some(code)) => equal::told(a, 0, code.at, code.len, 0),
+        Ok(None) => equal::told(a, equal::NOTHING, 0, 0, 0),
+        Err(e) => equal::refused(a, e),
     }
 }
 
 // Asked of both senders, the one that goes by value and the one whose sets lie in lent buffers: both must be as the row has it.
 pub fn send<'a>(q: &'a [u8], a: &'a [u8]) -> bool {
-    sent_by(false, q, a) && sent_by(true, q, a)
+    let before = sender(q);
+    sent_by(
+        q,
+        a,
+        None,
+        |mtu, frame, out, ends| before.payload(mtu, frame, out, ends),
+    ) && sent_by(q, a, Some(before), |mtu, frame, out, ends| {
+        payload_lent(before, mtu, frame, out, ends)
+    })
 }
 
-fn sent_by<'a>(lent: bool, q: &'a [u8], a: &'a [u8]) -> bool {
+// With what stood in lent buffers before.
+fn sent_by<'a, F: FnOnce(usize, &[u8], &mut [u8], &mut [usize]) -> Sent<H264Payloader>>(
+    q: &'a [u8],
+    a: &'a [u8],
+    lent: Option<H264Payloader>,
+    payload: F,
+) -> bool
+    requires { F.IsAlwaysCallable payload }
+{
     let mut out = [rows::FILL; 2048];
     let mut ends = [equal::NO_END; 2048];
     let places = rows::room(rows::number(q, 3));
     let packets = rows::room(rows::number(q, 4));
-    let before = sender(q);
     let r = payload(
-        lent,
-        before,
         rows::number(q, 1),
         rows::field(q, 2),
         &mut out[0..places],
         &mut ends[0..packets],
     );
-    let same = sent(a, r, lent, before);
-    let same = equal::buffer(same, rows::field(a, 4), rows::FILL, &out);
-    equal::ends(same, rows::field(a, 5), &ends)
+    sent(a, r, lent)
+        && equal::places(rows::field(a, 4), rows::FILL, &out)
+        && equal::ends(rows::field(a, 5), &ends)
 }
 
 fn sender(q: &[u8]) -> H264Payloader {
@@ -47,24 +56,21 @@ fn sender(q: &[u8]) -> H264Payloader {
     }
 }
 
+// Stays: some rows ask of a length that the bytes do not have.
 fn set(len: usize, front: &[u8]) -> ParameterSet {
     let mut bytes = [rows::FILL; 1024];
     rows::lay(front, &mut bytes);
     ParameterSet { bytes, len }
 }
 
-// What either sender leaves, in the form of the one that goes by value.
-fn payload(
-    lent: bool,
+// What the sender whose sets lie in lent buffers leaves, in the form of the one that goes by value.
+fn payload_lent(
     sender: H264Payloader,
     mtu: usize,
     frame: &[u8],
     out: &mut [u8],
     ends: &mut [usize],
-) -> Sent {
-    if !lent {
-        return sender.payload(mtu, frame, out, ends);
-    }
+) -> Sent<H264Payloader> {
     let mut sps = sender.sps;
     let mut pps = sender.pps;
     let held = LentPayloader {
@@ -82,43 +88,29 @@ fn payload(
     }
 }
 
-fn sent(a: &[u8], r: Sent, lent: bool, before: H264Payloader) -> bool {
+fn sent(a: &[u8], r: Sent<H264Payloader>, lent: Option<H264Payloader>) -> bool {
     let after = r.sender;
     let answer = r.answer;
     let same = match answer {
-        Payloads::Written {
-            packets,
-            bytes,
-            units_dropped,
-            pairs_dropped,
-        } => {
-            let same = equal::told(a, 0, packets, bytes, units_dropped);
-            equal::number(same, a, 12, pairs_dropped)
+        Ok(written) => {
+            equal::told(a, 0, written.packets, written.bytes, written.units_dropped)
+                && equal::number(a, 12, written.pairs_dropped)
         }
-        Payloads::Refused(e) => equal::number(equal::refused(a, e), a, 12, 0),
+        Err(e) => equal::refused(a, e) && equal::number(a, 12, 0usize),
     };
-    let sps = rows::rest(a, 6);
-    let pps = rows::rest(a, 9);
-    let same = same_set(same, sps, after.sps, behind(lent, sps, before.sps));
-    same_set(same, pps, after.pps, behind(lent, pps, before.pps))
+    same && same_set(rows::rest(a, 6), after.sps, lent.map(|before| before.sps))
+        && same_set(rows::rest(a, 9), after.pps, lent.map(|before| before.pps))
 }
 
-// What must stand behind a set: what the row says, and in a lent buffer what stood there before.
-fn behind(lent: bool, a: &[u8], before: ParameterSet) -> [u8; 1024] {
-    if lent {
-        return before.bytes;
-    }
+// Behind a set must stand what the row says, and in a lent buffer what stood there before.
+fn same_set(a: &[u8], set: ParameterSet, lent: Option<ParameterSet>) -> bool {
     let fill = rows::byte(a, 2);
-    [fill; 1024]
-}
-
-fn same_set(same: bool, a: &[u8], set: ParameterSet, behind: [u8; 1024]) -> bool {
-    let mut places = behind;
+    let mut places = lent.map_or([fill; 1024], |before| before.bytes);
     rows::lay(rows::field(a, 1), &mut places);
-    let same = equal::number(same, a, 0, set.len);
-    same && places == set.bytes
+    equal::number(a, 0, set.len) && places == set.bytes
 }
 
+// The output, all of the gather buffer, and the body that is shown.
 pub fn read<'a>(q: &'a [u8], a: &'a [u8]) -> bool {
     let mut gather = [rows::FILL; 2048];
     let mut out = [rows::FILL; 2048];
@@ -128,8 +120,10 @@ pub fn read<'a>(q: &'a [u8], a: &'a [u8]) -> bool {
     rows::lay(rows::field(q, 6), &mut gather);
     let r = reader(q).depacketize(payload, &mut gather[0..held], &mut out[0..places]);
     let shown = r.shown;
-    let same = equal::buffer(heard(a, r), rows::field(a, 4), rows::FILL, &out);
-    gathered(same, a, shown, payload, &gather)
+    heard(a, r)
+        && equal::places(rows::field(a, 4), rows::FILL, &out)
+        && equal::places(rows::field(a, 5), rows::FILL, &gather)
+        && body(shown, payload, &gather) == rows::field(a, 6)
 }
 
 fn reader(q: &[u8]) -> H264Packet {
@@ -143,34 +137,16 @@ fn heard(a: &[u8], r: Depacketized) -> bool {
     let after = r.packet;
     let answer = r.answer;
     let same = match answer {
-        Depacketize::Bytes(count) => equal::told(a, 0, count, 0, 0),
-        Depacketize::Refused(e) => equal::refused(a, e),
+        Ok(count) => equal::told(a, 0, count, 0, 0),
+        Err(e) => equal::refused(a, e),
     };
-    let same = equal::flag(same, a, 7, after.is_avc);
-    equal::number(same, a, 8, after.gathered)
-}
-
-// All of the gather buffer, and the body that is shown.
-fn gathered<'a>(
-    same: bool,
-    a: &'a [u8],
-    shown: Shown,
-    payload: &'a [u8],
-    gather: &'a [u8; 2048],
-) -> bool {
-    let same = equal::places(same, rows::field(a, 5), rows::FILL, gather);
-    same && body(shown, payload, gather) == rows::field(a, 6)
+    same && equal::number(a, 7, after.is_avc) && equal::number(a, 8, after.gathered)
 }
 
 pub fn head<'a>(q: &'a [u8], a: &'a [u8]) -> bool {
-    let answer = is_partition_head(rows::field(q, 1));
-    match answer {
-        Head::Is(is) => equal::told(a, 0, is as usize, 0, 0),
-        Head::Refused(e) => equal::refused(a, e),
-    }
+    equal::head(a, is_partition_head(rows::field(q, 1)))
 }
 
 pub fn tail<'a>(q: &'a [u8], a: &'a [u8]) -> bool {
-    let is = is_partition_tail(rows::flag(q, 1));
-    equal::told(a, 0, is as usize, 0, 0)
+    equal::tail(a, is_partition_tail(rows::flag(q, 1)))
 }

@@ -13,29 +13,28 @@ mod vp8_calls;
 
 use joiner::Joiner;
 use joiner_calls::Host;
-use std::{fs, io};
+use rows::Fields;
+use std::{fmt, fs, io};
 
 // The counts of a list.
 #[derive(Drop)]
 struct Tally {
     rows: u64,
     equal: u64,
-    // the first row that is not equal, counted from 1: 0 where all are
-    other: u64,
+    // the first row that is not equal, counted from 1
+    other: Option<u64>,
 }
 
 // What goes from row to row, q being the fields of the question and a those of the answer.
-fn played<'a>(mut host: Host, q: &'a [u8], a: &'a [u8]) -> Host {
+// Stays: the kinds are the lists' own numbers (rust/rows/README.md), and an enum would only name each call a second time.
+fn played<'a>(host: &mut Host, q: &'a [u8], a: &'a [u8]) -> bool {
     let kind = rows::byte(q, 0);
     match kind {
         21 => host.open(q, a),
         22 => host.room(q, a),
         23 => host.join(q, a),
         24 => host.close(q, a),
-        _ => {
-            host.same = asked(kind, q, a);
-            host
-        }
+        _ => asked(kind, q, a),
     }
 }
 
@@ -60,46 +59,45 @@ fn replay(list: &[u8]) -> Tally {
     let mut tally = Tally {
         rows: 0,
         equal: 0,
-        other: 0,
+        other: None,
     };
-    let mut host = joiner_calls::new(Joiner::open(0, 0), 0, 0, false);
-    let mut at = 0;
-    while at < list.len() {
-        let row = rows::first(&list[at..]);
-        host = played(host, rows::field(row, 0), rows::field(row, 1));
-        tally = tally.row(host.same);
-        at = rows::found(list, at).to;
+    let mut host = Host::new(Joiner::open(0, 0), 0, 0, false);
+    for row in Fields(list) {
+        tally.row(played(&mut host, rows::field(row, 0), rows::field(row, 1)));
     }
     tally
 }
 
 impl Tally {
-    fn row(mut self, same: bool) -> Tally {
-        self.rows = std::num::wrapping_add_u64(self.rows, 1);
+    fn row(&mut self, same: bool) {
+        self.rows = self.rows.wrapping_add(1);
         if same {
-            self.equal = std::num::wrapping_add_u64(self.equal, 1);
-        } else if self.other == 0 {
-            self.other = self.rows;
+            self.equal = self.equal.wrapping_add(1);
+        } else if self.other.is_none() {
+            self.other = Some(self.rows);
         }
-        self
     }
+}
 
-    fn report(self, rt: &HostRuntime, name: &str) -> io::Result<()> {
+impl fmt::Display for Tally {
+    fn fmt<W: fmt::Write>(&self, f: &mut fmt::Formatter<W>) -> fmt::Result {
         let rows = self.rows;
         let equal = self.equal;
-        print!(rt; "{name}: {rows} rows, {equal} equal")?;
-        let other = self.other;
-        if other != 0 {
-            print!(rt; ", unequal from row {other}")?;
+        write!(f, "{rows} rows, {equal} equal")?;
+        if let Some(other) = self.other {
+            write!(f, ", unequal from row {other}")?;
         }
-        rt.println("")
+        Ok(())
     }
 }
 
 // A list that cannot be read is named, and the others are replayed.
 fn play(rt: &HostRuntime, name: &str) -> io::Result<()> {
     match fs::read(rt, name) {
-        Ok(list) => replay(&list).report(rt, name),
+        Ok(list) => {
+            let tally = replay(&list);
+            println!(rt; "{name}: {tally}")
+        }
         Err(e) => eprintln!(rt; "{name}: {e}"),
     }
 }

@@ -2,91 +2,73 @@
 //
 // A field is a length of two bytes in network order and so many bytes. A list is its rows, each a field; a row is two fields, the
 // question and the answer, which are again fields. A number is in network order and has as many bytes as it needs.
+ghost use Rattle.std.specs.Iterator.{at_most};
 ghost use Rattle.std.specs.Prelude.{◌<◌, ◌≤◌, length};
 
 // What lent buffers hold beforehand, and the places of a record's arrays behind its counts.
 pub const FILL: u8 = 0xA5;
 
-pub fn wide(b: u8) -> usize
-    ensures { result < 256 }
-{
-    b as usize
-}
-
-pub fn wide16(n: u16) -> usize {
-    n as usize
-}
-
-pub fn wide32(n: u32) -> usize {
-    n as usize
-}
-
-// Where a field's bytes stand.
+// The fields that bytes are.
 #[derive(Drop)]
-pub struct Bytes {
-    pub from: usize,
-    pub to: usize,
-}
+pub struct Fields<'a>(pub &'a [u8]);
 
-// The field that begins at a place, without its length: where no whole one does, all that is left.
-pub fn found(s: &[u8], at: usize) -> Bytes
-    requires { at ≤ length s.now }
-    ensures { (result.from ≤ result.to) × (result.to ≤ length s.now) × (at < length s.now → at < result.to) }
-{
-    if 2 <= s.len() - at {
-        let n = wide16(wire::get_u16(s, at));
-        let from = at + 2;
-        if n <= s.len() - from {
-            return Bytes { from, to: from + n };
+impl<'a> Iterator for Fields<'a> {
+    type Item = &'a [u8];
+
+    ghost remaining = { λ s. at_most (length s.0.now) };
+
+    fn next(&mut self) -> Option<&'a [u8]> {
+        if self.0.is_empty() {
+            return None;
         }
-    }
-    Bytes {
-        from: at,
-        to: s.len(),
+        let (field, behind) = first(self.0);
+        self.0 = behind;
+        Some(field)
     }
 }
 
-pub fn first(s: &[u8]) -> &[u8] {
-    let field = found(s, 0);
-    let from = field.from;
-    let to = field.to;
-    &s[from..to]
+// The first field without its length, and what stands behind it: where there is no whole one, all and nothing.
+fn first(s: &[u8]) -> (&[u8], &[u8])
+    ensures { 0 < length s.now → length result.1.now < length s.now }
+{
+    match s.split_first_chunk::<2>() {
+        Some((len, rest)) if usize::from(u16::from_be_bytes(*len)) <= rest.len() => {
+            rest.split_at(usize::from(u16::from_be_bytes(*len)))
+        }
+        _ => (s, b""),
+    }
 }
 
 // What stands behind the first n fields.
 pub fn rest(s: &[u8], n: usize) -> &[u8] {
-    let mut at = 0;
-    let mut i = 0;
-    while i < n {
-        at = found(s, at).to;
-        i += 1;
+    let mut fields = Fields(s);
+    for _ in 0..n {
+        fields.next();
     }
-    &s[at..]
+    fields.0
 }
 
 // The field with n before it: empty where there is none.
 pub fn field(s: &[u8], n: usize) -> &[u8] {
-    first(rest(s, n))
+    first(rest(s, n)).0
 }
 
+// Of a number of more than eight bytes no more are read.
 pub fn number(s: &[u8], n: usize) -> usize {
-    let digits = field(s, n);
-    let mut x = 0;
-    let mut i = 0;
-    while i < digits.len() {
-        if 72057594037927936 <= x {
-            return x;
+    field(s, n).iter().fold(0, |x, digit| {
+        if x < 72057594037927936 {
+            x * 256 + usize::from(*digit)
+        } else {
+            x
         }
-        x = x * 256 + wide(digits[i]);
-        i += 1;
-    }
-    x
+    })
 }
 
 pub fn flag(s: &[u8], n: usize) -> bool {
     number(s, n) == 1
 }
 
+// Stays: one function for `byte`, `short` and `word` would need a trait with three impls that hold these three lines.
 pub fn byte(s: &[u8], n: usize) -> u8 {
     (number(s, n) % 256) as u8
 }
@@ -103,25 +85,18 @@ pub fn word(s: &[u8], n: usize) -> u32 {
 pub fn room(asked: usize) -> usize
     ensures { result ≤ 2048 }
 {
-    if asked < 2048 { asked } else { 2048 }
+    asked.min(2048)
 }
 
 // Puts the bytes in front of the places, as far as there are any.
 pub fn lay(bytes: &[u8], places: &mut [u8]) {
-    let mut i = 0;
-    while i < places.len() {
-        if bytes.len() <= i {
-            return;
-        }
-        places[i] = bytes[i];
-        i += 1;
+    for (place, byte) in places.iter_mut().zip(bytes) {
+        *place = *byte;
     }
 }
 
-// Of bytes that are numbers of four bytes each, the one with i before it, or another where there is none.
-pub fn nth(bytes: &[u8], i: usize, other: u32) -> u32 {
-    if i < bytes.len() / 4 {
-        return wire::get_u32(bytes, i * 4);
-    }
-    other
+// Of bytes that are words, the one with i before it.
+pub fn nth(bytes: &[u8], i: usize) -> Option<u32> {
+    let (words, _) = bytes.as_chunks::<4>();
+    words.get(i).map(|word| u32::from_be_bytes(*word))
 }

@@ -1,27 +1,28 @@
 // Headers and packets: read, measured, written; the header's extension elements set, deleted, got, listed.
 use crate::record::{record, same_record};
 use crate::{equal, rows};
-use header::{Change, Changed, Got, Header, HeaderRead, IdCount, Ids, Length};
-use packet::PacketRead;
+use error::Error;
+use header::{Changed, Data, Header, Ids};
+use packet::Payload;
 
 pub fn read_header<'a>(q: &'a [u8], a: &'a [u8]) -> bool {
     let r = Header::unmarshal(rows::field(q, 1));
     let read = r.read;
     let same = match read {
-        HeaderRead::Payload(at) => equal::told(a, 0, at, 0, 0),
-        HeaderRead::Refused(e) => equal::refused(a, e),
+        Ok(at) => equal::told(a, 0, at, 0, 0),
+        Err(e) => equal::refused(a, e),
     };
-    same_record(same, rows::rest(a, 4), r.header)
+    same && same_record(rows::rest(a, 4), r.header)
 }
 
 pub fn read_packet<'a>(q: &'a [u8], a: &'a [u8]) -> bool {
     let r = packet::unmarshal(rows::field(q, 1));
     let read = r.read;
     let same = match read {
-        PacketRead::Payload { at, len } => equal::told(a, 0, at, len, 0),
-        PacketRead::Refused(e) => equal::refused(a, e),
+        Ok(Payload { at, len }) => equal::told(a, 0, at, len, 0),
+        Err(e) => equal::refused(a, e),
     };
-    same_record(same, rows::rest(a, 4), r.header)
+    same && same_record(rows::rest(a, 4), r.header)
 }
 
 // A question about a record: a number, a fill, bytes, and the record.
@@ -30,41 +31,22 @@ pub fn on_record<'a>(kind: u8, q: &'a [u8], a: &'a [u8]) -> bool {
     match kind {
         2 => length(a, header.marshal_size()),
         3 => length(a, header.get_extension_payload_len()),
-        4 => write_header(header, q, a) && bare_header(header, q, a),
+        4 => write_header(header, q, a),
         5 => changed(a, header.set_extension(rows::byte(q, 1), rows::field(q, 3))),
         6 => changed(a, header.del_extension(rows::byte(q, 1))),
         7 => got(a, header.get_extension(rows::byte(q, 1))),
         8 => ids(a, header.get_extension_ids()),
         10 => length(a, packet::marshal_size(header, rows::field(q, 3))),
-        11 => write_packet(header, q, a) && bare_packet(header, q, a),
+        11 => write_packet(header, q, a),
         _ => false,
     }
 }
 
-fn length(a: &[u8], length: Length) -> bool {
+fn length(a: &[u8], length: Result<usize, Error>) -> bool {
     match length {
-        Length::Bytes(n) => equal::told(a, 0, n, 0, 0),
-        Length::Refused(e) => equal::refused(a, e),
+        Ok(n) => equal::told(a, 0, n, 0, 0),
+        Err(e) => equal::refused(a, e),
     }
-}
-
-fn write_header<'a>(header: Header, q: &'a [u8], a: &'a [u8]) -> bool {
-    let fill = rows::byte(q, 2);
-    let mut out = [fill; 2048];
-    let places = rows::room(rows::number(q, 1));
-    let same = length(a, header.marshal_to(&mut out[0..places]));
-    equal::buffer(same, rows::field(a, 4), fill, &out)
-}
-
-fn write_packet<'a>(header: Header, q: &'a [u8], a: &'a [u8]) -> bool {
-    let fill = rows::byte(q, 2);
-    let mut out = [fill; 2048];
-    let places = rows::room(rows::number(q, 1));
-    let same = length(
-        a,
-        packet::marshal_to(header, rows::field(q, 3), &mut out[0..places]),
-    );
-    equal::buffer(same, rows::field(a, 4), fill, &out)
 }
 
 // Its arrays do not count.
@@ -72,68 +54,72 @@ fn is_bare(header: Header) -> bool {
     header.csrc_count == 0 && header.extensions.count == 0
 }
 
-// A record that is bare, by the entry for such.
-fn bare_header<'a>(header: Header, q: &'a [u8], a: &'a [u8]) -> bool {
-    if !is_bare(header) {
-        return true;
-    }
-    let fill = rows::byte(q, 2);
-    let mut out = [fill; 2048];
-    let places = rows::room(rows::number(q, 1));
-    let same = length(
-        a,
-        header::marshal_bare(
-            header.fixed(),
-            header.extension_profile,
-            header.extensions_padding,
-            &mut out[0..places],
-        ),
-    );
-    equal::buffer(same, rows::field(a, 4), fill, &out)
+// A record that is bare is asked of the entry for such too.
+fn write_header<'a>(header: Header, q: &'a [u8], a: &'a [u8]) -> bool {
+    written(q, a, |out| header.marshal_to(out))
+        && (!is_bare(header)
+            || written(q, a, |out| {
+                header::marshal_bare(
+                    header.fixed(),
+                    header.extension_profile,
+                    header.extensions_padding,
+                    out,
+                )
+            }))
 }
 
-fn bare_packet<'a>(header: Header, q: &'a [u8], a: &'a [u8]) -> bool {
-    if !is_bare(header) {
-        return true;
-    }
+fn write_packet<'a>(header: Header, q: &'a [u8], a: &'a [u8]) -> bool {
+    let payload = rows::field(q, 3);
+    written(q, a, |out| packet::marshal_to(header, payload, out))
+        && (!is_bare(header)
+            || written(q, a, |out| {
+                packet::marshal_bare(
+                    header.fixed(),
+                    header.extension_profile,
+                    header.extensions_padding,
+                    payload,
+                    out,
+                )
+            }))
+}
+
+// What a call writes that is lent so many places.
+fn written<'a, F: FnOnce(&mut [u8]) -> Result<usize, Error>>(
+    q: &'a [u8],
+    a: &'a [u8],
+    write: F,
+) -> bool
+    requires { F.IsAlwaysCallable write }
+{
     let fill = rows::byte(q, 2);
     let mut out = [fill; 2048];
     let places = rows::room(rows::number(q, 1));
-    let same = length(
-        a,
-        packet::marshal_bare(
-            header.fixed(),
-            header.extension_profile,
-            header.extensions_padding,
-            rows::field(q, 3),
-            &mut out[0..places],
-        ),
-    );
-    equal::buffer(same, rows::field(a, 4), fill, &out)
+    let answer = write(&mut out[0..places]);
+    length(a, answer) && equal::places(rows::field(a, 4), fill, &out)
 }
 
 fn changed(a: &[u8], r: Changed) -> bool {
     let change = r.change;
     let same = match change {
-        Change::Made => equal::told(a, 0, 0, 0, 0),
-        Change::Refused(e) => equal::refused(a, e),
+        Ok(()) => equal::told(a, 0, 0, 0, 0),
+        Err(e) => equal::refused(a, e),
     };
-    same_record(same, rows::rest(a, 4), r.header)
+    same && same_record(rows::rest(a, 4), r.header)
 }
 
-fn got(a: &[u8], got: Got) -> bool {
+fn got(a: &[u8], got: Result<Option<Data>, Error>) -> bool {
     match got {
-        Got::Data { at, len } => equal::told(a, 0, at, len, 0),
-        Got::Absent => equal::told(a, equal::NOTHING, 0, 0, 0),
-        Got::Refused(e) => equal::refused(a, e),
+        Ok(Some(Data { at, len })) => equal::told(a, 0, at, len, 0),
+        Ok(None) => equal::told(a, equal::NOTHING, 0, 0, 0),
+        Err(e) => equal::refused(a, e),
     }
 }
 
 fn ids(a: &[u8], r: Ids) -> bool {
     let count = r.count;
     let same = match count {
-        IdCount::Ids(n) => equal::told(a, 0, n, 0, 0),
-        IdCount::Refused(e) => equal::refused(a, e),
+        Ok(n) => equal::told(a, 0, n, 0, 0),
+        Err(e) => equal::refused(a, e),
     };
-    equal::places(same, rows::field(a, 4), 0, &r.ids)
+    same && equal::places(rows::field(a, 4), 0, &r.ids)
 }

@@ -1,9 +1,6 @@
 // VP8: frames sent, descriptors read, the partition tests.
 use crate::{equal, rows};
-use vp8::{
-    Vp8Answer, Vp8Packet, Vp8PartitionHead, Vp8Payloaded, Vp8Payloader, Vp8Read, is_partition_head,
-    is_partition_tail,
-};
+use vp8::{Vp8Packet, Vp8Payloaded, Vp8Payloader, Vp8Sent, is_partition_head, is_partition_tail};
 
 pub fn send<'a>(q: &'a [u8], a: &'a [u8]) -> bool {
     let mut out = [rows::FILL; 2048];
@@ -16,8 +13,9 @@ pub fn send<'a>(q: &'a [u8], a: &'a [u8]) -> bool {
         &mut out[0..places],
         &mut ends[0..packets],
     );
-    let same = equal::buffer(sent(a, r), rows::field(a, 4), rows::FILL, &out);
-    equal::ends(same, rows::field(a, 5), &ends)
+    sent(a, r)
+        && equal::places(rows::field(a, 4), rows::FILL, &out)
+        && equal::ends(rows::field(a, 5), &ends)
 }
 
 fn payloader(q: &[u8]) -> Vp8Payloader {
@@ -29,23 +27,20 @@ fn payloader(q: &[u8]) -> Vp8Payloader {
 
 fn sent(a: &[u8], r: Vp8Payloaded) -> bool {
     let next = r.payloader;
-    let answer = r.answer;
-    let same = match answer {
-        Vp8Answer::Sent { packets, bytes } => equal::told(a, 0, packets, bytes, 0),
-        Vp8Answer::Refused(e) => equal::refused(a, e),
+    let same = match r.answer {
+        Ok(Vp8Sent { packets, bytes }) => equal::told(a, 0, packets, bytes, 0),
+        Err(e) => equal::refused(a, e),
     };
-    let same = equal::flag(same, a, 6, next.enable_picture_id);
-    equal::short(same, a, 7, next.picture_id)
+    same && equal::number(a, 6, next.enable_picture_id) && equal::number(a, 7, next.picture_id)
 }
 
 pub fn read<'a>(q: &'a [u8], a: &'a [u8]) -> bool {
     let r = fields(q).depacketize(rows::field(q, 1));
-    let read = r.read;
-    let same = match read {
-        Vp8Read::Payload(at) => equal::told(a, 0, at, 0, 0),
-        Vp8Read::Refused(e) => equal::refused(a, e),
+    let same = match r.read {
+        Ok(at) => equal::told(a, 0, at, 0, 0),
+        Err(e) => equal::refused(a, e),
     };
-    same_fields(same, a, r.packet)
+    same && same_fields(a, r.packet)
 }
 
 fn fields(q: &[u8]) -> Vp8Packet {
@@ -66,31 +61,26 @@ fn fields(q: &[u8]) -> Vp8Packet {
     }
 }
 
-fn same_fields(same: bool, a: &[u8], p: Vp8Packet) -> bool {
-    let same = equal::byte(same, a, 4, p.x);
-    let same = equal::byte(same, a, 5, p.n);
-    let same = equal::byte(same, a, 6, p.s);
-    let same = equal::byte(same, a, 7, p.pid);
-    let same = equal::byte(same, a, 8, p.i);
-    let same = equal::byte(same, a, 9, p.l);
-    let same = equal::byte(same, a, 10, p.t);
-    let same = equal::byte(same, a, 11, p.k);
-    let same = equal::short(same, a, 12, p.picture_id);
-    let same = equal::byte(same, a, 13, p.tl0_pic_idx);
-    let same = equal::byte(same, a, 14, p.tid);
-    let same = equal::byte(same, a, 15, p.y);
-    equal::byte(same, a, 16, p.key_idx)
+fn same_fields(a: &[u8], p: Vp8Packet) -> bool {
+    equal::number(a, 4, p.x)
+        && equal::number(a, 5, p.n)
+        && equal::number(a, 6, p.s)
+        && equal::number(a, 7, p.pid)
+        && equal::number(a, 8, p.i)
+        && equal::number(a, 9, p.l)
+        && equal::number(a, 10, p.t)
+        && equal::number(a, 11, p.k)
+        && equal::number(a, 12, p.picture_id)
+        && equal::number(a, 13, p.tl0_pic_idx)
+        && equal::number(a, 14, p.tid)
+        && equal::number(a, 15, p.y)
+        && equal::number(a, 16, p.key_idx)
 }
 
 pub fn head<'a>(q: &'a [u8], a: &'a [u8]) -> bool {
-    let answer = is_partition_head(rows::field(q, 1));
-    match answer {
-        Vp8PartitionHead::Head(is) => equal::told(a, 0, is as usize, 0, 0),
-        Vp8PartitionHead::Refused(e) => equal::refused(a, e),
-    }
+    equal::head(a, is_partition_head(rows::field(q, 1)))
 }
 
 pub fn tail<'a>(q: &'a [u8], a: &'a [u8]) -> bool {
-    let is = is_partition_tail(rows::flag(q, 1));
-    equal::told(a, 0, is as usize, 0, 0)
+    equal::tail(a, is_partition_tail(rows::flag(q, 1)))
 }

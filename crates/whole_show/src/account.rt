@@ -1,79 +1,112 @@
-// The account of shows: a table of figures.
-use crate::list;
-use crate::list::{Table, plus};
-use std::io;
+// The account of shows.
+use crate::groups::Groups;
+use crate::send::Sent;
+use crate::theorem::Taken;
+use error::Error;
+use std::fmt;
 
-// packets and groups that were sent
-pub const SENT: usize = 0;
-
-pub const GROUPS: usize = 1;
-// groups that are pairs of parameter sets, and pairs that were dropped for the mtu
-pub const PAIRS: usize = 2;
-
-pub const PAIRS_DROPPED: usize = 3;
-// calls, and what they answered
-const ARRIVED: usize = 4;
-
-const ACCEPTED: usize = 5;
-
-const LATE: usize = 6;
-
-const FOREIGN: usize = 7;
-
-const UNREADABLE: usize = 8;
-// packets that were missed, by the joiner's count
-const MISSED: usize = 9;
-// groups that were handed out, and their bytes
-const HANDED: usize = 10;
-
-const BYTES: usize = 11;
-// what is not as the theorem says, counts of what was dropped included
-const UNLIKE: usize = 12;
-// of the show at hand: the largest that arrived so far, and the packet after which all were accepted up to it
-pub const NEWEST: usize = 13;
-
-pub const AFTER: usize = 14;
-
-pub fn add(account: &mut Table, figure: usize, n: usize) {
-    let sum = plus(list::entry(account, figure), n);
-    list::enter(account, figure, sum);
+#[derive(Clone, Copy, Default)]
+pub struct Account {
+    // packets and groups that were sent
+    sent: usize,
+    groups: usize,
+    // groups that are pairs of parameter sets, and pairs that were dropped for the mtu
+    pairs: usize,
+    pairs_dropped: usize,
+    // calls, and what they answered
+    arrived: usize,
+    accepted: usize,
+    late: usize,
+    foreign: usize,
+    unreadable: usize,
+    // packets that were missed, by the joiner's count
+    missed: usize,
+    // groups that were handed out, and their bytes
+    handed_out: usize,
+    bytes: usize,
+    // what is not as the theorem says, counts of what was dropped included
+    unlike: usize,
 }
 
-pub fn check(account: &mut Table, right: bool) {
-    if !right {
-        add(account, UNLIKE, 1);
+// Adds to a figure.
+fn add(figure: &mut usize, n: usize) {
+    *figure = figure.wrapping_add(n);
+}
+
+impl Account {
+    fn check(&mut self, right: bool) {
+        add(&mut self.unlike, usize::from(!right));
+    }
+
+    // What is sent by the paper's sentences, to which the sender's packets and its counts of what was dropped are held.
+    pub fn sent(&mut self, groups: &Groups, sent: &Sent) {
+        add(&mut self.sent, groups.packets);
+        add(&mut self.groups, groups.groups.len());
+        add(&mut self.pairs, groups.pairs);
+        add(&mut self.pairs_dropped, groups.pairs_dropped);
+        self.check(groups.packets == sent.packets.len());
+        self.check(groups.units_dropped == sent.units_dropped);
+        self.check(groups.pairs_dropped == sent.pairs_dropped);
+    }
+
+    fn answered(&mut self, answer: Result<Taken, Error>) -> &mut usize {
+        match answer {
+            Ok(Taken::Accepted) => &mut self.accepted,
+            Ok(Taken::Late) => &mut self.late,
+            Err(Error::OtherSource) => &mut self.foreign,
+            Err(_) => &mut self.unreadable,
+        }
+    }
+
+    // A call's answer and what it handed out, held to what the theorem says of them.
+    pub fn call(
+        &mut self,
+        answer: Result<Taken, Error>,
+        said: Result<Taken, Error>,
+        bytes: Option<&[u8]>,
+        group: &[u8],
+    ) {
+        let count = bytes.unwrap_or(b"").len();
+        add(&mut self.arrived, 1);
+        add(self.answered(answer), 1);
+        add(&mut self.bytes, count);
+        add(&mut self.handed_out, usize::from(0 < count));
+        self.check(answer == said);
+        self.check(bytes == Some(group));
+    }
+
+    // The missed total at a show's closing, if it closed.
+    pub fn closed(&mut self, missed: Option<u32>) {
+        match missed {
+            Some(n) => {
+                add(&mut self.missed, n as usize);
+                self.check(self.accepted.wrapping_add(self.missed) == self.sent);
+            }
+            None => self.check(false),
+        }
     }
 }
 
-fn figure_of(kind: usize) -> usize {
-    match kind {
-        0 => ACCEPTED,
-        1 => LATE,
-        21 => FOREIGN,
-        _ => UNREADABLE,
+impl fmt::Display for Account {
+    fn fmt<W: fmt::Write>(&self, f: &mut fmt::Formatter<W>) -> fmt::Result {
+        let figures = [
+            self.sent,
+            self.groups,
+            self.pairs,
+            self.pairs_dropped,
+            self.arrived,
+            self.accepted,
+            self.late,
+            self.foreign,
+            self.unreadable,
+            self.missed,
+            self.handed_out,
+            self.bytes,
+            self.unlike,
+        ];
+        for figure in figures {
+            write!(f, " {figure}")?;
+        }
+        Ok(())
     }
-}
-
-// A call's answer, and how many bytes it handed out.
-pub fn call(account: &mut Table, kind: usize, n: usize) {
-    add(account, ARRIVED, 1);
-    add(account, figure_of(kind), 1);
-    add(account, BYTES, n);
-    add(account, HANDED, (0 < n) as usize);
-}
-
-// The missed total at a show's closing.
-pub fn closed(account: &mut Table, missed: usize) {
-    add(account, MISSED, missed);
-    let sum = plus(list::entry(account, ACCEPTED), list::entry(account, MISSED));
-    check(account, sum == list::entry(account, SENT));
-}
-
-pub fn report(rt: &HostRuntime, name: &str, account: &Table) -> io::Result<()> {
-    rt.print(name)?;
-    for k in 0..13 {
-        let n = list::entry(account, k);
-        print!(rt; " {n}")?;
-    }
-    rt.println("")
 }

@@ -1,45 +1,69 @@
 // What arrives, by a seed.
-//
-// Strings 1 to 4 of the list are not the sender's packets: one of another source, and three that cannot be read: cut to 11 bytes, with
-// the bit for extensions set, and with that for padding, where there are none.
-use crate::list::{Store, Table, plus};
 use crate::random::number;
-use crate::{list, show};
+use crate::send::Packets;
+use crate::show::Show;
 
-const OTHERS: [u8; 50] =
-    *b"\x80\x60\x00\x00\x00\x00\x00\x00\x24\x68\xAC\xE1\x65\x01\xFF\x80\x60\x00\x00\x00\x00\x00\x00\x24\x68\xAC\x90\x60\x00\x00\x00\x00\x00\x00\x24\x68\xAC\xE0\xA0\x60\x00\x00\x00\x00\x00\x00\x24\x68\xAC\xE0";
-
-pub fn put_others(bytes: &mut Store, ends: &mut Table) {
-    let others = OTHERS;
-    wire::copy_at(&others, bytes, 0);
-    list::add(ends, 0);
-    list::add(ends, 15);
-    list::add(ends, 26);
-    list::add(ends, 38);
-    list::add(ends, 50);
+// What arrives at a turn.
+#[derive(Clone, Copy)]
+pub enum Arrival {
+    // the sender's packet with so many before it
+    Own(usize),
+    // a packet of another source
+    Foreign,
+    // what cannot be read: cut to 11 bytes, with the bit for extensions set, and with that for padding, where there are none
+    Cut,
+    Extended,
+    Padded,
 }
 
-// How many turns there are.
-pub fn turns(ends: &Table) -> usize {
-    list::count(ends) % 4096 * 4
-}
-
-// What arrives at turn t, 0 for nothing: of four turns a packet has one to come, one for an earlier one to come again, one for a later
-// one to come too early, and one for what is not the sender's.
-pub fn arrival(show: usize, t: usize) -> usize {
-    let d = number(show, t);
-    let k = t % 4;
-    let i = t / 4;
-    let own = plus(plus(show::units(show), 5), i);
-    let far = d / 1000 % 24;
-    if (d % 1000 < show::chance(show, k)) == (k == 0) {
-        0
-    } else {
-        match k {
-            0 => own,
-            1 => std::num::wrapping_sub_usize(own, far % (i + 1)),
-            2 => plus(own, far),
-            _ => 1 + far % 4,
+impl Arrival {
+    // Its bytes: of the sender's packets only those that there are.
+    pub fn packet<'a>(self, packets: &'a Packets) -> Option<&'a [u8]> {
+        match self {
+            Arrival::Own(i) => match packets.get(i) {
+                Some(packet) => Some(packet.as_slice()),
+                None => None,
+            },
+            Arrival::Foreign => Some(
+                b"\x80\x60\x00\x00\x00\x00\x00\x00\x24\x68\xAC\xE1\x65\x01\xFF",
+            ),
+            Arrival::Cut => Some(b"\x80\x60\x00\x00\x00\x00\x00\x00\x24\x68\xAC"),
+            Arrival::Extended => Some(b"\x90\x60\x00\x00\x00\x00\x00\x00\x24\x68\xAC\xE0"),
+            Arrival::Padded => Some(b"\xA0\x60\x00\x00\x00\x00\x00\x00\x24\x68\xAC\xE0"),
         }
+    }
+}
+
+// What is not the sender's, by a number.
+fn other(n: usize) -> Arrival {
+    match n % 4 {
+        0 => Arrival::Foreign,
+        1 => Arrival::Cut,
+        2 => Arrival::Extended,
+        _ => Arrival::Padded,
+    }
+}
+
+// How many turns there are: four for each packet, and more in which late ones still come.
+pub fn turns(show: &Show, packets: &Packets) -> usize {
+    packets
+        .len()
+        .wrapping_add(usize::from(show.units()) + 5)
+        .wrapping_mul(4)
+}
+
+// What arrives at turn t, if anything does: of four turns a packet has one to come, one for an earlier one to come again, one for a
+// later one to come too early, and one for what is not the sender's.
+pub fn at_turn(show: &Show, t: usize) -> Option<Arrival> {
+    let d = number(show.seed, t);
+    let chance = (d % 1000) as u16;
+    let far = d / 1000 % 24;
+    let i = t / 4;
+    match t % 4 {
+        0 if show.lost <= chance => Some(Arrival::Own(i)),
+        1 if chance < show.repeated => Some(Arrival::Own(i - far % (i + 1))),
+        2 if chance < show.early => Some(Arrival::Own(i + far)),
+        3 if chance < show.foreign => Some(other(far)),
+        _ => None,
     }
 }

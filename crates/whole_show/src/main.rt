@@ -6,7 +6,6 @@
 mod account;
 mod channel;
 mod groups;
-mod list;
 mod play;
 mod random;
 mod send;
@@ -14,28 +13,28 @@ mod show;
 mod theorem;
 mod units;
 
-use list::{Store, Table};
+use account::Account;
+use show::Show;
+use std::alloc::{AllocError, Global};
 use std::io;
 
 // One show, added to an account.
-fn run(show: usize, account: &mut Table) {
-    let mut bytes: Store = [0; 262144];
-    let mut ends: Table = [0; 4096];
-    let mut rows: Table = [0; 4096];
-    channel::put_others(&mut bytes, &mut ends);
-    units::make(show, &mut bytes, &mut ends);
-    let sent = send::send(show, &mut bytes, &mut ends);
-    groups::of(show, sent, &mut bytes, &ends, &mut rows, account);
-    play::play(show, &bytes, &ends, &rows, account);
+fn run(alloc: Global, seed: usize, account: &mut Account) -> Result<(), AllocError> {
+    let show = Show::of(seed);
+    let units = units::make(alloc, &show)?;
+    let sent = send::send(alloc, &show, &units)?;
+    let groups = groups::of(alloc, &show, &units)?;
+    account.sent(&groups, &sent);
+    play::play(alloc, &show, &sent.packets, &groups.groups, account)
 }
 
 // Shows from one up to another, as one account.
 fn shows(rt: &HostRuntime, name: &str, from: usize, to: usize) -> io::Result<()> {
-    let mut account: Table = [0; 4096];
-    for show in from..to {
-        run(show, &mut account);
+    let mut account = Account::default();
+    for seed in from..to {
+        run(rt.alloc(), seed, &mut account)?;
     }
-    account::report(rt, name, &account)
+    println!(rt; "{name}{account}")
 }
 
 fn main(rt: HostRuntime) -> io::Result<()> {

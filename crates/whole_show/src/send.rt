@@ -1,29 +1,34 @@
-// Units in frames through a fresh sender, and its payloads as packets, in the list behind the units.
-ghost use Rattle.std.specs.Prelude.{◌≤◌, length};
-
-use crate::list::{Store, Table, plus};
-use crate::{list, show};
-use h264::{H264Payloader, Payloads};
-use header::{Header, Length};
+// Units in frames through a fresh sender, and its payloads as packets.
+use crate::show::Show;
+use crate::units::PREFIX;
+use h264::H264Payloader;
+use header::Header;
+use std::alloc::{AllocError, Global};
 
 // The sender's source.
 pub const SOURCE: u32 = 0x2468ACE0;
 
-// How far a show is sent.
-#[derive(Clone, Copy)]
-pub struct Sending {
-    // with the parameter sets saved so far
-    pub sender: H264Payloader,
+// The sender's packets, in order.
+pub type Packets = Vec<Vec<u8>>;
+
+// What the sender sent.
+#[derive(Drop)]
+pub struct Sent {
+    pub packets: Packets,
     // how many units it said were dropped for the mtu
     pub units_dropped: usize,
     // how many pairs of parameter sets it said were dropped for the mtu
     pub pairs_dropped: usize,
 }
 
-// A packet from a place on: where it ends. "version 2, no padding, extensions or CSRCs"
-fn put(number: u16, time: u32, marker: bool, payload: &[u8], bytes: &mut [u8], at: usize) -> usize
-    requires { at ≤ length bytes.old }
-{
+// A packet: "version 2, no padding, extensions or CSRCs". Where it is refused it has no bytes.
+fn packet(
+    alloc: Global,
+    number: u16,
+    time: u32,
+    marker: bool,
+    payload: &[u8],
+) -> Result<Vec<u8>, AllocError> {
     let mut header = Header::default();
     header.version = 2;
     header.marker = marker;
@@ -31,110 +36,100 @@ fn put(number: u16, time: u32, marker: bool, payload: &[u8], bytes: &mut [u8], a
     header.sequence_number = number;
     header.timestamp = time;
     header.ssrc = SOURCE;
-    match packet::marshal_to(header, payload, &mut bytes[at..]) {
-        Length::Bytes(n) => plus(at, n),
-        Length::Refused(_) => 0,
+    let mut bytes = vec![in alloc; 0; payload.len() + 12]?;
+    match packet::marshal_to(header, payload, &mut bytes) {
+        Ok(n) => bytes.truncate(n),
+        Err(_) => bytes.clear(),
     }
+    Ok(bytes)
 }
 
 // Whether a payload goes on with a unit: it is an FU-A without the start bit.
 fn goes_on(payload: &[u8]) -> bool {
-    if payload.len() < 2 {
-        return false;
-    }
-    if payload[0] % 32 == 28 {
-        return payload[1] < 128;
-    }
-    false
+    2 <= payload.len() && payload[0] % 32 == 28 && payload[1] < 128
 }
 
 // The payloads of a frame as packets, the marker on the last, the time that of their group's first.
 fn put_all(
-    show: usize,
-    count: usize,
-    out: &Store,
-    out_ends: &Table,
-    bytes: &mut Store,
-    ends: &mut Table,
-) {
+    alloc: Global,
+    show: &Show,
+    out: &[u8],
+    ends: &[usize],
+    packets: &mut Packets,
+) -> Result<(), AllocError> {
     let mut first = 0;
-    for k in 0..count {
-        let i = list::count(ends);
-        let payload = list::item(out, out_ends, k);
+    let mut from = 0;
+    for (k, end) in ends.iter().enumerate() {
+        let payload = out.get(from..*end).unwrap_or(b"");
+        let i = packets.len();
         if !goes_on(payload) {
             first = i;
         }
-        let at = list::start(ends, i) % 262144;
-        let end = put(
-            show::number_of(show, i),
-            show::time_of(show, first),
-            count - k == 1,
+        let packet = packet(
+            alloc,
+            show.number_of(i),
+            show.time_of(first),
+            k + 1 == ends.len(),
             payload,
-            bytes,
-            at,
-        );
-        list::add(ends, end);
+        )?;
+        packets.push(packet)?;
+        from = *end;
     }
+    Ok(())
 }
 
-// The string before the first unit of frame f: frames have one and three units, in turn.
-fn before(f: usize) -> usize {
-    4 + f % 4096 / 2 * 4 + f % 2
+// Frame f: frames have one and three units, in turn. Of its first start code a zero is left out, or all of it now and then where the
+// frame is one unit.
+fn frame(alloc: Global, units: &Vec<Vec<u8>>, f: u16) -> Result<Vec<u8>, AllocError> {
+    let f = usize::from(f);
+    let mut frame = Vec::new(alloc);
+    let prefix = PREFIX;
+    let mut start = &prefix[if f % 4 == 0 { 4 } else { f % 2 }..];
+    for unit in units.iter().skip(f / 2 * 4 + f % 2).take(1 + f % 2 * 2) {
+        frame.extend_from_slice(start)?;
+        frame.extend_from_slice(unit)?;
+        start = &prefix;
+    }
+    Ok(frame)
 }
 
-// How much of its first start code is left out: a zero, or all of it now and then where the frame is one unit.
-fn left_out(f: usize) -> usize {
-    if f % 4 == 0 { 4 } else { f % 2 }
-}
-
-fn frame<'a>(f: usize, bytes: &'a Store, ends: &Table) -> &'a [u8] {
-    let from = plus(list::entry(ends, before(f)), left_out(f));
-    list::part(bytes, from, list::entry(ends, before(plus(f, 1))))
-}
-
-// Frame f through the sender, and its packets into the list.
+// A frame through the sender, and its packets behind those before.
 fn give(
-    sending: Sending,
-    show: usize,
-    f: usize,
-    bytes: &mut Store,
-    ends: &mut Table,
-    out: &mut Store,
-    out_ends: &mut Table,
-) -> Sending {
-    let sender = sending.sender;
-    let step = sender.payload(show::mtu(show), frame(f, bytes, ends), out, out_ends);
-    let sender = step.sender;
+    alloc: Global,
+    sender: H264Payloader,
+    show: &Show,
+    frame: &[u8],
+    out: &mut [u8],
+    ends: &mut [usize],
+    sent: &mut Sent,
+) -> Result<H264Payloader, AllocError> {
+    let step = sender.payload(usize::from(show.mtu), frame, out, ends);
     let answer = step.answer;
     match answer {
-        Payloads::Written {
-            packets,
-            bytes: _,
-            units_dropped: units,
-            pairs_dropped: pairs,
-        } => {
-            put_all(show, packets, out, out_ends, bytes, ends);
-            Sending {
-                sender,
-                units_dropped: plus(sending.units_dropped, units),
-                pairs_dropped: plus(sending.pairs_dropped, pairs),
-            }
+        Ok(written) => {
+            let ends = ends.get(..written.packets).unwrap_or(&[]);
+            put_all(alloc, show, out, ends, &mut sent.packets)?;
+            sent.units_dropped = sent.units_dropped.wrapping_add(written.units_dropped);
+            sent.pairs_dropped = sent.pairs_dropped.wrapping_add(written.pairs_dropped);
+            Ok(step.sender)
         }
-        Payloads::Refused(_) => sending,
+        Err(_) => Ok(sender),
     }
 }
 
 // The frames of a show.
-pub fn send(show: usize, bytes: &mut Store, ends: &mut Table) -> Sending {
-    let mut out: Store = [0; 262144];
-    let mut out_ends: Table = [0; 4096];
-    let mut sending = Sending {
-        sender: H264Payloader::new(),
+pub fn send(alloc: Global, show: &Show, units: &Vec<Vec<u8>>) -> Result<Sent, AllocError> {
+    let mut out = vec![in alloc; 0; 262144]?;
+    let mut ends = vec![in alloc; 0; 4096]?;
+    let mut sender = H264Payloader::new();
+    let mut sent = Sent {
+        packets: Vec::new(alloc),
         units_dropped: 0,
         pairs_dropped: 0,
     };
-    for f in 0..show::frames(show) {
-        sending = give(sending, show, f, bytes, ends, &mut out, &mut out_ends);
+    for f in 0..show.frames() {
+        let frame = frame(alloc, units, f)?;
+        sender = give(alloc, sender, show, &frame, &mut out, &mut ends, &mut sent)?;
     }
-    sending
+    Ok(sent)
 }

@@ -1,50 +1,117 @@
-// What a show is made of, by its number. The first three are: clean, everything that is sent arrives, in order; lossy; and everything,
+// What a show is made of, by its seed. The first three are: clean, everything that is sent arrives, in order; lossy; and everything,
 // lost, repeated, moved, and mixed with what is not the sender's. The others are drawn.
-use crate::list::plus;
+ghost use Rattle.std.specs.Prelude.{◌+◌, ◌^◌, ◌<◌, ◌≤◌};
+
 use crate::random::number;
 
-// Of each: a quarter of its units, the mtu, the number of packet 0, the chances, the time of packet 0.
-const FIXED: [usize; 24] = [
-    38, 400, 65350, 0, 0, 0, 0, 4294517000, 60, 100, 64800, 50, 0, 0, 0, 4294233000, 70, 100,
-    65250, 20, 50, 20, 100, 4294131000,
-];
+#[derive(Clone, Copy)]
+pub struct Show {
+    // what its random numbers are drawn by
+    pub seed: usize,
+    // a quarter of its units
+    pub quarter: u8,
+    // 3 or more
+    pub mtu: u16,
+    // the number and the time of its first packet
+    pub first_number: u16,
+    pub first_time: u32,
+    // of a thousand packets, how many are lost, and with how many comes an earlier one again, a later one too early, or what is not
+    // the sender's
+    pub lost: u16,
+    pub repeated: u16,
+    pub early: u16,
+    pub foreign: u16,
+}
 
-// Number k of a show: where it is drawn, from the least up to so many above it.
-fn drawn(show: usize, k: usize, least: usize, above: usize) -> usize {
-    let fixed = FIXED;
-    if show < 3 {
-        fixed[show * 8 + k % 8]
-    } else {
-        plus(least, number(show, k) % (above % 65536 + 1))
+const CLEAN: Show = Show {
+    seed: 0,
+    quarter: 38,
+    mtu: 400,
+    first_number: 65507,
+    first_time: 4294751000,
+    lost: 0,
+    repeated: 0,
+    early: 0,
+    foreign: 0,
+};
+
+const LOSSY: Show = Show {
+    seed: 1,
+    quarter: 60,
+    mtu: 100,
+    first_number: 65045,
+    first_time: 4294599000,
+    lost: 50,
+    repeated: 0,
+    early: 0,
+    foreign: 0,
+};
+
+const EVERYTHING: Show = Show {
+    seed: 2,
+    quarter: 70,
+    mtu: 100,
+    first_number: 65535,
+    first_time: 4294557000,
+    lost: 20,
+    repeated: 50,
+    early: 20,
+    foreign: 100,
+};
+
+// Number k of a seed, from the least up to so many above it.
+fn drawn(seed: usize, k: usize, least: u32, above: u16) -> u32
+    requires { least + above < 2 ^ 32 }
+    ensures { result ≤ least + above }
+{
+    least + (number(seed, k) % (usize::from(above) + 1)) as u32
+}
+
+impl Show {
+    pub fn of(seed: usize) -> Show {
+        match seed {
+            0 => CLEAN,
+            1 => LOSSY,
+            2 => EVERYTHING,
+            _ => Show::drawn(seed),
+        }
     }
-}
 
-// Two frames have four units.
-pub fn frames(show: usize) -> usize {
-    drawn(show, 0, 8, 24) % 1024 * 2
-}
+    // Its first packet's number and time go on by its units.
+    fn drawn(seed: usize) -> Show {
+        let quarter = drawn(seed, 0, 8, 24);
+        Show {
+            seed,
+            quarter: quarter as u8,
+            mtu: drawn(seed, 1, 3, 299) as u16,
+            first_number: ((drawn(seed, 2, 65236, 199) + 4 * quarter + 5) % 65536) as u16,
+            first_time: drawn(seed, 7, 4294687000, 65535) + (2 * quarter + 2) * 3000,
+            lost: drawn(seed, 3, 0, 59) as u16,
+            repeated: drawn(seed, 4, 0, 59) as u16,
+            early: drawn(seed, 5, 0, 59) as u16,
+            foreign: drawn(seed, 6, 0, 59) as u16,
+        }
+    }
 
-pub fn units(show: usize) -> usize {
-    drawn(show, 0, 8, 24) % 1024 * 4
-}
+    // Two frames have four units.
+    pub fn frames(&self) -> u16 {
+        2 * u16::from(self.quarter)
+    }
 
-pub fn mtu(show: usize) -> usize {
-    drawn(show, 1, 3, 299)
-}
+    // Stays: the paper counts units and frames apart, and each is one product.
+    pub fn units(&self) -> u16 {
+        4 * u16::from(self.quarter)
+    }
 
-// "packet i bears (first + i) mod 65,536"
-pub fn number_of(show: usize, i: usize) -> u16 {
-    (plus(drawn(show, 2, 65236, 199), i) % 65536) as u16
-}
+    // "packet i bears (first + i) mod 65,536"
+    pub fn number_of(&self, packet: usize) -> u16 {
+        self.first_number.wrapping_add((packet % 65536) as u16)
+    }
 
-// The time of a group by its first packet: "all packets of one unit carry one timestamp". Two places in a row have one time, the next two
-// are 3,000 on, and in most shows it wraps.
-pub fn time_of(show: usize, i: usize) -> u32 {
-    (plus(drawn(show, 7, 4294687000, 65535), i % 65536 / 2 * 3000) % 4294967296) as u32
-}
-
-// Of a thousand packets: how many are lost (0), and with how many comes an earlier one again (1), a later one too early (2), or what is
-// not the sender's (3).
-pub fn chance(show: usize, k: usize) -> usize {
-    drawn(show, 3 + k % 4, 0, 59)
+    // The time of a group by its first packet: "all packets of one unit carry one timestamp". The first packet has one time, the next
+    // two are 3,000 on, and so on, and in most shows it wraps.
+    pub fn time_of(&self, packet: usize) -> u32 {
+        self.first_time
+            .wrapping_add(((packet % 65536 + 1) / 2 * 3000) as u32)
+    }
 }

@@ -1,9 +1,0 @@
--- One place a turn.
-use Rattle.std.proofs.Common.{◌-◌, length}
-use Rattle.replay.proofs.equal.table.Given as goal
-
-abbrev pub invariant-loop-i : goal.invariant-loop-i
-invariant-loop-i l = Unit {0}
-
-abbrev pub decreases-loop-i : goal.decreases-loop-i
-decreases-loop-i l = length l.ends - l.i

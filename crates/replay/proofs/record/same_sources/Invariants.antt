@@ -1,9 +1,0 @@
--- One source a turn.
-use Rattle.std.proofs.Common.{◌-◌}
-use Rattle.replay.proofs.record.same_sources.Given as goal
-
-abbrev pub invariant-loop-i : goal.invariant-loop-i
-invariant-loop-i l = Unit {0}
-
-abbrev pub decreases-loop-i : goal.decreases-loop-i
-decreases-loop-i l = 15 - l.i
