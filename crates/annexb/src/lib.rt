@@ -36,7 +36,7 @@ fn sixteen_from_to<const LOW: u8, const HIGH: u8>(frame: &[u8], i: usize) -> boo
 }
 
 // Behind bytes from start on that are from LOW to HIGH, sixteen at a time. The step is behind a branch, so that no turn waits for the one before.
-// Stays: a loop, since the place where it ends is the answer.
+// Stays: a loop, since its step stands behind a branch, so that no turn waits for the one before.
 fn past<const LOW: u8, const HIGH: u8>(frame: &[u8], start: usize) -> usize
     requires { start ≤ length frame.now }
     ensures { Run (FromTo LOW HIGH) frame.now start result }

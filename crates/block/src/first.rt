@@ -16,7 +16,7 @@ pub fn first_profile(profile: u16, len: usize) -> u16
 }
 
 // How many bytes it counts for the element's head: none where it keeps the profile.
-// Stays: beside `first_profile`, since the paper says the two apart, and the third keeps a profile.
+// Stays: beside `first_profile`, since the paper says the two apart, and a long element keeps its profile and counts no head.
 pub fn first_head(len: usize) -> usize
     ensures { (result ≡ first_head len) × (result ≤ 2) }
 {

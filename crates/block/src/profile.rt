@@ -31,7 +31,7 @@ impl Form {
     }
 
     // How many bytes the elements of a record in the domain take with their heads.
-    // Stays: asked of a record and of the parts of one, so the array goes by itself.
+    // Stays: the array by itself, since `Parts`, which lends it, is header_write's, which uses this crate.
     pub fn payload_len(self, count: usize, lens: &[u16; 32]) -> usize
         requires count_bound { count ≤ 32 }
         requires lens_bound { sum (take count lens.now) ≤ 1024 }

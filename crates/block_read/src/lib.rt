@@ -99,9 +99,8 @@ impl Layout for TwoByte {
     }
 }
 
-// Stays: a block is said by where it lies in the packet, here and below, and not by its bytes: an element may run past its end.
 // The elements of a block of `len` bytes. An element may run past the block: `at` then lies behind its end.
-// Stays: a loop, since each element says where the next one begins, and one may lie past the block; what is counted is no index.
+// Stays: a loop over where the block lies in the packet, and not over its bytes: each element says where the next one begins, and one may run past the end.
 fn see_items<L: Layout>(packet: &[u8], start: usize, len: usize) -> Result<Seen, Error>
     requires { start + len ≤ length packet.now }
     ensures { said result ≡ block_seen (length packet.now) (items (items_by L.two) (block_at packet.now start len)) }

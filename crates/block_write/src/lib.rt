@@ -23,7 +23,7 @@ fn fits(form: Form, id: u8, len: u16) -> bool
 }
 
 // How many data bytes the first `count` elements have, where all of them can be written.
-// Stays: ids and lengths are asked of the parts of a record, where they stand beside their count; so in all of this file.
+// Stays: the arrays by themselves, since `Parts`, which lends them, is header_write's, which uses this crate; so in all of this file.
 pub fn weigh(form: Form, count: usize, ids: &[u8; 32], lens: &[u16; 32]) -> Option<usize>
     requires { count ≤ 32 }
     ensures { result ≡ weight form (take count ids.now) (take count lens.now) }

@@ -35,7 +35,7 @@ fn place_of(id: u8, ids: &[u8]) -> Option<usize>
 }
 
 // The first element of an id, of the first `count` in these arrays.
-// Stays: asked of a record and of the parts of one, so the arrays go by themselves.
+// Stays: the arrays by themselves, since `Parts`, which lends them, is header_write's, which uses this crate.
 pub fn find(id: u8, count: usize, ids: &[u8; 32], lens: &[u16; 32]) -> Option<Run>
     requires { count ≤ 32 }
     ensures { (es : List Element) → Shown es count ids.now lens.now → result ≡ run_of id 0 0 es }

@@ -31,7 +31,7 @@ pub fn push(mut list: Extensions, used: usize, id: u8, data: &[u8]) -> Extension
 }
 
 // How many data bytes the first `count` elements have.
-// Stays: asked of a record and of the parts of one, so the array goes by itself.
+// Stays: the array by itself, since `Parts`, which lends it, is header_write's, which uses this crate.
 pub fn total(count: usize, lens: &[u16; 32]) -> usize
     requires { count ≤ 32 }
     ensures { result ≡ sum (take count lens.now) }

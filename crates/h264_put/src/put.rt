@@ -12,7 +12,6 @@ ghost use Rattle.h264_put.specs.Outcomes.{unit_outcome};
 use crate::outcome::UnitOutcome;
 
 // How far output and table are written.
-// Stays: output and table of ends are two slices of the caller's, as the paper has them, and go by themselves through all that writes to them.
 #[derive(Clone, Copy)]
 pub struct Place {
     // bytes of the output
@@ -22,7 +21,7 @@ pub struct Place {
 }
 
 // A packet as it is.
-// Stays: each of the three asks for room for its own packet and writes its own head; what they share is where it ends.
+// Stays: output and table of ends are two slices of the caller's, as the paper has them; each of the three writes its own head, and asks for room for its own packet.
 fn put_plain(packet: &[u8], out: &mut [u8], ends: &mut [usize], to: Place) -> Place
     requires { (to.at + length packet.now ≤ length out.old) × (to.n < length ends.old) }
     ensures { sink_at out.new ends.new result ≡

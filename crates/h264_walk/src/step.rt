@@ -31,7 +31,7 @@ pub(crate) struct Emitted {
 }
 
 // The pair in a STAP-A, where both sets wait and that fits the mtu.
-// Stays: the sets' buffers are lent for reading here and for writing once all units are sent: a struct that lends them would stand between.
+// Stays: sets and frame by themselves, here and in all that calls it: a struct of them would be made once, and taken apart only here.
 fn put_waiting<'a>(
     waiting: Waiting,
     sps: &'a [u8],

@@ -129,7 +129,7 @@ impl Header {
         self.set_first(id, payload)
     }
 
-    // Stays: the test of `set_extension`, before another refusal.
+    // Stays: the test of `set_extension`: a method for it would lend the whole record for four numbers and an array.
     pub fn del_extension(self, id: u8) -> Changed
         ensures { heard_change result ≡ change_heard self (del_extension self id) }
     {

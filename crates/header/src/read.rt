@@ -201,6 +201,7 @@ impl Default for Front {
 
 impl Front {
     // The record with these arrays.
+    // Stays: field by field, since the record that C sees has these fields by themselves.
     pub fn with(self, csrc: [u32; 15], ids: [u8; 32], lens: [u16; 32], bytes: [u8; 1024]) -> Header
         ensures { result ≡ together self.fixed self.csrc_count csrc self.extension_profile (record { count = self.count; ids = ids; lens = lens; bytes = bytes }) self.extensions_padding }
     {
@@ -229,7 +230,7 @@ impl Front {
 }
 
 // All zeros.
-// Stays: by hand, since an array of 1,024 bytes has no Default, and the zeros are those of `blank`.
+// Stays: by hand, since `Extensions` holds an array of 1,024 bytes, which has no Default, and the zeros are those of `blank`.
 impl Default for Header {
     ghost is_default = { λ header. header ≡ blank };
 

@@ -22,7 +22,7 @@ pub fn marshal_parts(parts: Parts<'_>, buf: &mut [u8]) -> Result<usize, Error>
 }
 
 // A record without CSRCs and elements.
-// Stays: the limits of `measure`, of what a bare header has.
+// Stays: the limits are tested here again, since `measure` takes the arrays too, which a bare header has not.
 pub fn marshal_bare(
     fixed: Fixed,
     profile: u16,

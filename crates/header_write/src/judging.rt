@@ -8,7 +8,7 @@ use block::Form;
 use error::Error;
 
 // 9 and 10: the length of the elements with their heads, if `count` of them can stand in a block.
-// Stays: a field of the header's; and the length comes back, as `judged` has it.
+// Stays: the bit is a bool in the record that C sees; and the length comes back, as `judged` has it.
 pub fn judge(extension: bool, profile: u16, len: usize, count: usize) -> Result<usize, Error>
     ensures { said result ≡ cond extension (judged (form_of profile) len count (says len)) (says len) }
 {

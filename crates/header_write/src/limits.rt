@@ -5,7 +5,7 @@ ghost use Rattle.header_write.specs.Limits.{in_limits};
 use elements::total;
 
 // Whether a record's counts, lengths and extensions_padding are in the domain.
-// Stays: asked of a record and of the parts of one, so the array goes by itself.
+// Stays: asked of a record in its four numbers and one array too, where making all of its parts would be no plainer.
 pub fn in_limits(csrc_count: usize, count: usize, lens: &[u16; 32], padding: usize) -> bool
     ensures { result ≡ in_limits csrc_count count lens.now padding }
 {

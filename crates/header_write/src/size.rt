@@ -3,7 +3,7 @@ ghost use Rattle.std.specs.Prelude.{◌≡◌, ◌≤◌};
 ghost use Rattle.header_write.specs.Size.{size_for};
 
 // The size of a record in the domain whose elements take `len` bytes with their heads.
-// Stays: a field of the header's.
+// Stays: the bit is a bool in the record that C sees.
 pub fn size_of(csrc_count: usize, extension: bool, len: usize, padding: usize) -> usize
     requires csrc_count_bound { csrc_count ≤ 15 }
     requires len_bound { len ≤ 1088 }

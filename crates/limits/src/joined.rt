@@ -22,6 +22,7 @@ fn holding(running: bool, gathered: usize) -> Joiner {
 }
 
 // A mark where no run is open.
+// Stays: a function for each field, here and below, since each line is told whole, with the field's name in it.
 fn marked(closed: bool) -> Joiner {
     let mut joiner = Joiner::open(3, 1);
     joiner.marked = true;
@@ -78,7 +79,6 @@ fn marks(rt: &HostRuntime, packet: &[u8]) -> io::Result<()> {
     )
 }
 
-// Stays: a function for each field, since the lines say which it is.
 fn times(rt: &HostRuntime, packet: &[u8]) -> io::Result<()> {
     tell(
         rt,

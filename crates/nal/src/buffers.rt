@@ -66,7 +66,7 @@ fn run_end(part: &[u8], at: usize, gather: &[u8]) -> Result<usize, Error>
 }
 
 // Puts a fragment's part of its unit behind the `at` bytes gathered before it.
-// Stays: it answers how many bytes are handed out, which are none, as `finish` does.
+// Stays: 0 is the count of bytes handed out, so that a fragment's two calls, this and `finish`, answer alike.
 pub fn gather_on(part: &[u8], at: usize, gather: &mut [u8]) -> Result<usize, Error>
     requires { (length part.now ≤ 65535) × (at ≤ length gather.old) }
     ensures { gather_heard result gather.new ≡ lay_gather gather.old (take at gather.old ++ part.now) }

@@ -19,7 +19,7 @@ fn get_padding(len: usize) -> usize
 }
 
 // How many bytes of padding a payload gets: with the padding bit never none.
-// Stays: a field of the header's.
+// Stays: the bit is a bool in the record that C sees.
 fn padding_len(padding: bool, len: usize) -> usize
     ensures { (result ≡ padding_length padding len) × (result ≤ 4) }
 {
@@ -93,7 +93,7 @@ pub fn marshal_parts(parts: Parts<'_>, payload: &[u8], buf: &mut [u8]) -> Result
 }
 
 // With a header without CSRCs and elements.
-// Stays: the limits of `measure`, of what a bare header has.
+// Stays: the limits are tested here again, since `measure` takes the arrays too, which a bare header has not.
 pub fn marshal_bare(
     fixed: Fixed,
     profile: u16,

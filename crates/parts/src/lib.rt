@@ -6,7 +6,7 @@
 ghost use Rattle.std.specs.Prelude.{◌≡◌, ◌+◌, ◌-◌, ◌/◌, ◌<◌, ◌≤◌};
 
 // How many parts of `size` bytes `len` bytes make, the last perhaps shorter: long division, in binary.
-// Stays: `len.div_ceil(size)` would divide.
+// Stays: `len.div_ceil(size)` would divide, and the stage box divides in software.
 pub fn count(len: usize, size: usize) -> usize
     requires len_nonzero { (0 < len) × (len ≤ 16777216) }
     requires size_nonzero { (0 < size) × (size ≤ 16777216) }

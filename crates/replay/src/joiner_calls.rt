@@ -53,7 +53,7 @@ impl Host {
         let joiner = self.joiner;
         let held = &mut self.gather[0..rows::room(self.held)];
         let lent = &mut out[0..rows::room(self.places)];
-        // Stays: which entry is asked goes by the run, and both take the same.
+        // Stays: which entry is asked is what the lists vary, and both calls answer alike.
         let step = if self.in_place {
             join_by_value(joiner, packet, held, lent)
         } else {

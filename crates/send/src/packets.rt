@@ -59,6 +59,7 @@ fn write_packet(
 }
 
 // Whether a payload is a STAP-A, in which the sender puts a pair of parameter sets.
+// Stays: the first byte of a STAP-A as the sender writes it, which the Rust has as a number too.
 fn is_pair(payload: &[u8]) -> bool {
     payload.first() == Some(&0x78)
 }
@@ -83,7 +84,7 @@ impl Sending {
         Ok(())
     }
 
-    // Stays: field by field, as the record has them.
+    // Stays: field by field, since the fields that stay are most of them zeros of an array.
     fn header(&self, marker: bool) -> Header {
         let mut h = Header::default();
         h.version = 2;

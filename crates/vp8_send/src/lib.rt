@@ -111,7 +111,7 @@ impl Vp8Payloader {
     }
 
     // Writes all payloads, each size bytes of the frame, the last perhaps fewer.
-    // Stays: an id of 15 bits is asked for by each method, and no type of its own: the record is C's, and holds any number.
+    // Stays: an id of 15 bits is asked for by each method that writes it or counts on, and no type of its own: the record is C's, and holds any number.
     fn write(self, size: usize, frame: &[u8], out: &mut [u8], ends: &mut [usize]) -> Vp8Payloaded
         requires { ToWrite self size frame.now out.old ends.old }
         ensures { sending result out.new ends.new ≡ sent_all self (headed self true (parts_of size frame.now)) out.old ends.old }

@@ -94,6 +94,7 @@ impl<'a> Groups<'a> {
         let Some((&head, tail)) = unit.split_first() else {
             return Ok(());
         };
+        // Stays: numbers of the paper, and no names of what is tested here.
         match head % 32 {
             0 | 9 | 12 => Ok(()),
             7 => {

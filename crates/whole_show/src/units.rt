@@ -23,6 +23,7 @@ fn coded_len(mtu: u16, d: usize) -> usize {
 
 // How long a unit is by its type: of parameter sets and units that are dropped, now and then empty.
 fn len_of(unit_type: usize, mtu: u16, d: usize) -> usize {
+    // Stays: numbers of the paper, and no names of what is tested here.
     match unit_type {
         7 | 8 | 9 | 12 => d % 40,
         _ => coded_len(mtu, d),
