@@ -1,14 +1,14 @@
 -- No second answer: for each public call one result, one state and one content of each lent buffer meet its contract. Assumes nothing.
-use mathlib.Core.Path.{◌≡◌, refl, ap}
+use mathlib.Core.Path.{◌≡◌, refl}
 use mathlib.Core.List.{List}
-use mathlib.Core.Bool.{Bool, true, false, cond}
+use mathlib.Core.Bool.{Bool, true, false}
 use Prim.Native.Nat.{ℕ}
-use Rattle.std.specs.Prelude.{Result, Ok, Err, Option}
+use Rattle.std.specs.Prelude.{Result, Option}
 use Rattle.error.specs.declared.Error.{Error}
-use Rattle.error.specs.Said.{Said, said, says, refused, refuse}
+use Rattle.error.specs.Said.{said, says, refuse}
 use Rattle.error.specs.Only.{Determined}
-use Rattle.error.proofs.Inverse.{error_of, error_of_refusal_of}
-use Rattle.error.proofs.Only.{by_value, by_view}
+use Rattle.error.proofs.Inverse.{unsaid, unsaid_said}
+use Rattle.error.proofs.Only.{by_value, by_view, by_said, either_sayable}
 use Rattle.annexb.specs.declared.Code.{Code}
 use Rattle.h264.specs.declared.send.H264Payloader.{H264Payloader}
 use Rattle.h264.specs.declared.send.Sent.{Sent}
@@ -20,15 +20,6 @@ use Rattle.h264_put.specs.declared.outcome.Drops.{Drops}
 use Rattle.h264_put.specs.Outcomes.{outcomes_of, drops_in}
 use Rattle.h264_put.specs.Step.{over_limit}
 use Rattle.h264.specs.Payload.{lay_out, saved_in, Lent, saved_lent, lend_out, outside_by, outside, too_small, LeftIn, Left, left, left_lent, refused_with, sent_as, left_by, call_of, payload_of, lent_of}
-
--- a result, back from what it says
-abbrev unsaid : {A : Type 0} → Said A → Result A Error
-unsaid (says x) = Ok x
-unsaid (refused r) = Err (error_of r)
-
-unsaid_said : {A : Type 0} (a : Result A Error) → unsaid (said a) ≡ a
-unsaid_said (Ok x) = refl
-unsaid_said (Err e) = ap Err (error_of_refusal_of e)
 
 -- what a call hands back: its result, and the two buffers
 abbrev pub Handed : Type 0
@@ -101,14 +92,7 @@ new_only = by_value (lay_out nothing_saved)
 
 -- ---- the search
 
-sayable_search : (b : Bool) (found : Option Code) →
-    let r : Said (Option Code) = cond b (refuse 8) (says found) in
-    said (unsaid r) ≡ r
-sayable_search true found = refl
-sayable_search false found = refl
-
 pub next_ind_only : (frame : List ℕ) (start : ℕ) → Determined (λ (r : Result (Option Code) Error). said r ≡ next_ind frame start)
 unfolding next_ind
 next_ind_only frame start =
-    by_view said unsaid unsaid_said (unsaid (next_ind frame start)) (next_ind frame start)
-    (sayable_search (beyond frame start) (next_code frame start))
+    by_said (next_ind frame start) (either_sayable {x = refuse 8} {y = says (next_code frame start)} (beyond frame start) refl refl)

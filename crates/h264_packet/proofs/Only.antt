@@ -6,13 +6,13 @@ use mathlib.Core.List.{List}
 use Prim.Native.Nat.{ℕ, ◌/◌, ◌%◌}
 use lib.Dec.{ltb, eqb}
 use lib.ListN.{length, get_or}
-use Rattle.std.specs.Prelude.{Result, Ok, Err}
+use Rattle.std.specs.Prelude.{Result}
 use Rattle.error.specs.declared.Error.{Error}
 use Rattle.error.specs.Refusal.{Refusal}
 use Rattle.error.specs.Said.{Said, says, refused, refuse, said}
 use Rattle.error.specs.Only.{Determined}
-use Rattle.error.proofs.Inverse.{error_of, error_of_refusal_of}
-use Rattle.error.proofs.Only.{by_value, by_view, Sayable, known, tested}
+use Rattle.error.proofs.Inverse.{unsaid, unsaid_said}
+use Rattle.error.proofs.Only.{by_value, by_view, by_said, Sayable, known, tested}
 use Rattle.wire.specs.Turns.{run}
 use Rattle.wire.specs.Net.{bit}
 use Rattle.nal_read.specs.Kind.{Shape, short, unknown, plain, aggregate, fragment, shape}
@@ -48,18 +48,6 @@ read_sayable avc n payload gather out =
 
 -- ---- depacketize
 
-abbrev answer_of : {A : Type 0} → Said A → Result A Error
-answer_of (says x) = Ok x
-answer_of (refused r) = Err (error_of r)
-
-answer_of_said : {A : Type 0} (a : Result A Error) → answer_of (said a) ≡ a
-answer_of_said (Ok x) = refl
-answer_of_said (Err e) = ap Err (error_of_refusal_of e)
-
-said_answer_of : {A : Type 0} (x : Said A) → Sayable x → said (answer_of x) ≡ x
-said_answer_of (says x) e = refl
-said_answer_of (refused r) e = e
-
 abbrev shown_by : Showing → Shown
 shown_by nowhere = shown.Nowhere
 shown_by in_packet = shown.Packet
@@ -83,11 +71,11 @@ abbrev view : Handed → Heard
 view x = heard x.0 x.1 x.2
 
 abbrev back : Heard → Handed
-back h = (record { packet = h.packet; answer = answer_of h.answer; shown = shown_by h.showing }, h.gather, h.out)
+back h = (record { packet = h.packet; answer = unsaid h.answer; shown = shown_by h.showing }, h.gather, h.out)
 
 back_view : (x : Handed) → back (view x) ≡ x
 back_view x i = (
-  record { packet = x.0.packet; answer = answer_of_said x.0.answer i; shown = shown_by_said x.0.shown i },
+  record { packet = x.0.packet; answer = unsaid_said x.0.answer i; shown = shown_by_said x.0.shown i },
   x.1,
   x.2,
 )
@@ -125,8 +113,7 @@ head_sayable s =
     (tested (λ (x : Said Bool). x) start (says true) (eqb t 28 || eqb t 29) refl refl))
 
 pub is_partition_head_only : (s : List ℕ) → Determined (λ (r : Result Bool Error). said r ≡ head_test s)
-is_partition_head_only s =
-    by_view said answer_of answer_of_said (answer_of (head_test s)) (head_test s) (said_answer_of (head_test s) (head_sayable s))
+is_partition_head_only s = by_said (head_test s) (head_sayable s)
 
 pub is_partition_tail_only : (marker : Bool) → Determined (λ (r : Bool). r ≡ marker)
 is_partition_tail_only marker = by_value marker

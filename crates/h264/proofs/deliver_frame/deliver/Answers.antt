@@ -20,7 +20,7 @@ use Rattle.h264.specs.declared.send.Written.{Written}
 use Rattle.h264.specs.Payload.{held_in, outside_by, left_with, sending_of}
 use Rattle.h264.specs.Step.{Delivers}
 use Rattle.h264.proofs.State.{Before, before}
-use Rattle.h264.proofs.Calls.{Judged, inside_sps, inside_pps, inside_mtu, inside_frame, call_outside, call_by, call_nothing, call_long, call_small, call_limit, call_room, call_sent}
+use Rattle.h264.proofs.Calls.{Judged, inside_sps, inside_pps, inside_frame, call_outside, call_by, call_nothing, call_long, call_small, call_limit, call_room, call_sent}
 use Rattle.h264.proofs.deliver_frame.deliver.Goals as goal
 use Rattle.h264.proofs.deliver_frame.deliver.Goals.{After-measure_frame-m, After-saved-2, Start}
 
