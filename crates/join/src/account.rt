@@ -5,9 +5,9 @@ ghost use Rattle.join.specs.Account.{nothing_yet, accepted_by, came_late, refuse
 
 use crate::units::Units;
 use error::Error;
-use std::alloc::{AllocError, Global};
 use std::fmt;
 use std::fmt::Write;
+use stream::Text;
 use stream::status::Status;
 
 #[derive(Clone, Copy)]
@@ -79,9 +79,8 @@ impl Account {
         self
     }
 
-    // The totals, a line each, behind those of the jump at the end.
-    pub fn text(&self, alloc: Global, jump: Jump, missed: u32) -> Result<String, AllocError> {
-        let mut text = format!(in alloc; "{jump}")?;
+    fn write(&self, text: &mut Text, jump: Jump, missed: u32) -> fmt::Result {
+        write!(text, "{jump}")?;
         writeln!(text, "packets {}", self.packets)?;
         writeln!(text, "accepted {}", self.accepted)?;
         writeln!(text, "late {}", self.late)?;
@@ -94,8 +93,14 @@ impl Account {
         writeln!(text, "missed {missed}")?;
         writeln!(text, "units {}", self.units)?;
         writeln!(text, "marked units {}", self.marked)?;
-        writeln!(text, "bytes {}", self.bytes)?;
-        Ok(text)
+        writeln!(text, "bytes {}", self.bytes)
+    }
+
+    // The totals, a line each, behind those of the jump at the end.
+    pub fn text(&self, jump: Jump, missed: u32) -> Text {
+        let mut text = Text::new();
+        let _ = self.write(&mut text, jump, missed);
+        text
     }
 
     // A show that handed out nothing leaves no clip.

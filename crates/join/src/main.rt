@@ -8,7 +8,6 @@ mod units;
 use account::{Account, Jump};
 use joiner::{Closed, Joiner};
 use show::Show;
-use std::io::Error;
 use std::process::ExitCode;
 use stream::status::Status;
 use stream::{Record, Window, argument, status};
@@ -62,8 +61,7 @@ fn close(rt: &HostRuntime, show: Show) -> Result<(), Status> {
     };
     let text = show
         .account
-        .text(rt.alloc(), Jump { first, count }, closing.joiner.missed)
-        .map_err(|e| status::unwritten(rt, Error::from(e)))?;
+        .text(Jump { first, count }, closing.joiner.missed);
     stream::finish(rt, text.as_str(), show.to)?;
     show.account.outcome()
 }

@@ -3,10 +3,11 @@ use crate::account::{Account, Jump};
 use crate::units::units_of;
 use error::Error;
 use joiner::{Joined, Joiner, Step};
+use std::fmt::Write;
 use std::fs::File;
 use std::io;
 use stream::status::Status;
-use stream::{Output, status};
+use stream::{Output, Text, status};
 
 #[derive(Drop)]
 pub struct Show {
@@ -30,7 +31,8 @@ fn outcome_of(e: Error) -> Result<(), Status> {
 
 // Writes the numbers of a jump, if any, and the bytes that were handed out.
 fn write(rt: &HostRuntime, to: &mut Output, jump: Jump, bytes: &[u8]) -> io::Result<()> {
-    let text = format!(in rt.alloc(); "{jump}")?;
+    let mut text = Text::new();
+    let _ = write!(text, "{jump}");
     stream::account_to(to).write_all(rt, text.as_bytes())?;
     to.write_all(rt, bytes)
 }

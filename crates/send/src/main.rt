@@ -5,17 +5,17 @@ mod access;
 mod frames;
 mod packets;
 
-ghost use Rattle.std.specs.Prelude.{◌≡◌, IfOk, string_bytes};
+ghost use Rattle.std.specs.Prelude.{◌≡◌, ◌++◌, OnOk};
 ghost use Rattle.send.specs.Account.{account_text};
 
 use frames::Frame;
 use h264::H264Payloader;
 use packets::Sending;
-use std::alloc::{AllocError, Global};
-use std::io::Error;
+use std::fmt;
+use std::fmt::Write;
 use std::process::ExitCode;
 use stream::status::Status;
-use stream::{Window, argument, needed, status};
+use stream::{Text, Window, argument, needed, status};
 
 // What the arguments say; an error where they are wrong or a file is not opened.
 fn first(rt: &HostRuntime) -> Result<Sending, Status> {
@@ -67,11 +67,12 @@ fn play(
 }
 
 // What was sent, what was dropped, and the number after the last, by which a joiner is closed.
-#[tactic(auto, unfolding(crate::specs::Account::account_text))]
-fn text(alloc: Global, s: &Sending) -> Result<String, AllocError>
-    ensures { IfOk result (λ text. string_bytes text ≡ account_text s.now) }
+#[tactic(auto, using(stream::proofs::Words::written), unfolding(crate::specs::Account::account_text))]
+fn write_account(text: &mut Text, s: &Sending) -> fmt::Result
+    ensures { OnOk result (text.new.bytes ≡ text.old.bytes ++ account_text s.now) }
 {
-    format!(in alloc;
+    write!(
+        text,
         "access units {}\npackets {}\nunits dropped for the mtu {}\npairs dropped for the mtu {}\nend {}\n",
         s.frames, s.packets, s.units_dropped, s.pairs_dropped, s.number
     )
@@ -81,7 +82,8 @@ fn account(rt: &HostRuntime, s: Sending) -> Result<(), Status> {
     if s.packets == 0 {
         return Err(Status::Nothing);
     }
-    let text = text(rt.alloc(), &s).map_err(|e| status::unwritten(rt, Error::from(e)))?;
+    let mut text = Text::new();
+    let _ = write_account(&mut text, &s);
     let outcome = s.outcome();
     stream::finish(rt, text.as_str(), s.to)?;
     outcome

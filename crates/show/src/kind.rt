@@ -1,22 +1,24 @@
 // What a payload is, by its codec.
-ghost use Rattle.std.specs.Prelude.{◌≡◌, ◌%◌, ◌≤◌, ◌++◌, length, slice_index, string_bytes, codes, decimal, OnOk};
+ghost use Rattle.std.specs.Prelude.{◌≡◌, ◌%◌, ◌≤◌, ◌++◌, length, slice_index, codes, decimal, OnOk};
 ghost use Rattle.error.specs.Refusal.{number_of};
 
 use crate::Codec;
 use error::Error;
 use nal_read::Kind;
-use std::alloc::AllocError;
+use std::fmt;
 use std::fmt::Write;
+use stream::Text;
 use vp8::Vp8Packet;
 
-fn refused(text: &mut String, e: Error) -> Result<(), AllocError>
-    ensures { OnOk result (string_bytes text.new ≡ string_bytes text.old ++ (codes "refused " ++ decimal (number_of e))) }
+#[tactic(auto, using(stream::proofs::Words::written))]
+fn refused(text: &mut Text, e: Error) -> fmt::Result
+    ensures { OnOk result (text.new.bytes ≡ text.old.bytes ++ (codes "refused " ++ decimal (number_of e))) }
 {
     write!(text, "refused {}", e.number())
 }
 
 // The units of a STAP-A.
-fn aggregate(text: &mut String, payload: &[u8]) -> Result<(), AllocError>
+fn aggregate(text: &mut Text, payload: &[u8]) -> fmt::Result
     requires { 1 ≤ length payload.now }
 {
     write!(text, "STAP-A ")?;
@@ -27,13 +29,7 @@ fn aggregate(text: &mut String, payload: &[u8]) -> Result<(), AllocError>
 }
 
 // Stays: start and end are bits of the packet, and no choice of the caller.
-fn fragment(
-    text: &mut String,
-    first: bool,
-    last: bool,
-    head: u8,
-    other_time: bool,
-) -> Result<(), AllocError> {
+fn fragment(text: &mut Text, first: bool, last: bool, head: u8, other_time: bool) -> fmt::Result {
     write!(text, "FU-A {}", head % 32)?;
     if first {
         write!(text, " start")?;
@@ -48,9 +44,10 @@ fn fragment(
 }
 
 // The type of the unit that a payload is.
-fn plain(text: &mut String, payload: &[u8]) -> Result<(), AllocError>
+#[tactic(auto, using(stream::proofs::Words::written))]
+fn plain(text: &mut Text, payload: &[u8]) -> fmt::Result
     requires { 1 ≤ length payload.now }
-    ensures { OnOk result (string_bytes text.new ≡ string_bytes text.old ++ (codes "unit " ++ decimal (slice_index payload.now 0 % 32))) }
+    ensures { OnOk result (text.new.bytes ≡ text.old.bytes ++ (codes "unit " ++ decimal (slice_index payload.now 0 % 32))) }
 {
     write!(text, "unit {}", payload[0] % 32)
 }
@@ -61,7 +58,7 @@ fn is_marked(payload: &[u8]) -> bool {
 }
 
 #[tactic(auto, using(nal_read::proofs::Shapes::plain_long, nal_read::proofs::Shapes::aggregate_long))]
-fn h264(text: &mut String, payload: &[u8], other_time: bool) -> Result<(), AllocError> {
+fn h264(text: &mut Text, payload: &[u8], other_time: bool) -> fmt::Result {
     write!(text, " h264 ")?;
     let kind = nal_read::kind_of(payload);
     match kind {
@@ -77,7 +74,7 @@ fn h264(text: &mut String, payload: &[u8], other_time: bool) -> Result<(), Alloc
     Ok(())
 }
 
-fn partition(text: &mut String, fields: Vp8Packet) -> Result<(), AllocError> {
+fn partition(text: &mut Text, fields: Vp8Packet) -> fmt::Result {
     write!(text, "partition {}", fields.pid)?;
     if fields.s == 1 {
         write!(text, " start")?;
@@ -88,7 +85,7 @@ fn partition(text: &mut String, fields: Vp8Packet) -> Result<(), AllocError> {
     Ok(())
 }
 
-fn vp8(text: &mut String, payload: &[u8]) -> Result<(), AllocError> {
+fn vp8(text: &mut Text, payload: &[u8]) -> fmt::Result {
     write!(text, " vp8 ")?;
     let answer = Vp8Packet::default().depacketize(payload);
     match answer.read {
@@ -98,12 +95,7 @@ fn vp8(text: &mut String, payload: &[u8]) -> Result<(), AllocError> {
 }
 
 // `other_time`: where the payload is a later fragment, it is of another time than the one that it follows.
-pub fn kind(
-    text: &mut String,
-    payload: &[u8],
-    codec: Codec,
-    other_time: bool,
-) -> Result<(), AllocError> {
+pub fn kind(text: &mut Text, payload: &[u8], codec: Codec, other_time: bool) -> fmt::Result {
     match codec {
         Codec::Vp8 => vp8(text, payload),
         Codec::H264 => h264(text, payload, other_time),

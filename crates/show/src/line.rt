@@ -3,11 +3,12 @@ use crate::above::Above;
 use crate::{Codec, kind};
 use header::Header;
 use packet::Payload;
-use std::alloc::{AllocError, Global};
+use std::fmt;
 use std::fmt::Write;
+use stream::Text;
 
 // The header's fields, then id and length of each element.
-fn fields(text: &mut String, h: Header) -> Result<(), AllocError> {
+fn fields(text: &mut Text, h: Header) -> fmt::Result {
     write!(
         text,
         "number {} time {} source {} marker {} type {} extensions",
@@ -27,41 +28,38 @@ fn fields(text: &mut String, h: Header) -> Result<(), AllocError> {
     Ok(())
 }
 
-#[derive(Drop)]
-pub struct Shown {
-    pub text: String,
-    // the fragment above the next one, if it is one
-    pub above: Option<Above>,
+// The line of a packet that can be read.
+fn readable(
+    text: &mut Text,
+    h: &Header,
+    payload: &[u8],
+    codec: Codec,
+    other_time: bool,
+) -> fmt::Result {
+    fields(text, *h)?;
+    kind::kind(text, payload, codec, other_time)?;
+    writeln!(text, " payload {}", payload.len())
 }
 
-pub fn line(
-    alloc: Global,
-    packet: &[u8],
-    codec: Codec,
-    above: Option<Above>,
-) -> Result<Shown, AllocError> {
-    let mut text = String::new(alloc);
+// Writes a packet's line, and answers what is above the next one.
+pub fn line(text: &mut Text, packet: &[u8], codec: Codec, above: Option<Above>) -> Option<Above> {
     let answer = packet::unmarshal(packet);
     let h = answer.header;
     match answer.read {
         Ok(Payload { at, len }) => {
             let payload = stream::part(packet, at, len);
-            fields(&mut text, h)?;
-            kind::kind(
-                &mut text,
+            let _ = readable(
+                text,
+                &h,
                 payload,
                 codec,
                 above.is_some_and(|a| a.at_odds(h)),
-            )?;
-            writeln!(text, " payload {len}")?;
-            Ok(Shown {
-                text,
-                above: Above::of(h, payload),
-            })
+            );
+            Above::of(h, payload)
         }
         Err(e) => {
-            writeln!(text, "refused {} packet {}", e.number(), packet.len())?;
-            Ok(Shown { text, above })
+            let _ = writeln!(text, "refused {} packet {}", e.number(), packet.len());
+            above
         }
     }
 }

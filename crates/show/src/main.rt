@@ -11,7 +11,7 @@ use std::io;
 use std::process::ExitCode;
 use std::rt::Env;
 use stream::status::Status;
-use stream::{Output, Record, Window, status};
+use stream::{Output, Record, Text, Window, status};
 
 // What the payloads are.
 #[derive(Clone, Copy)]
@@ -37,9 +37,10 @@ fn write(
     codec: Codec,
     above: Option<Above>,
 ) -> io::Result<Option<Above>> {
-    let shown = line::line(rt.alloc(), packet, codec, above)?;
-    Output::Stdout.write_all(rt, shown.text.as_bytes())?;
-    Ok(shown.above)
+    let mut text = Text::new();
+    let next = line::line(&mut text, packet, codec, above);
+    Output::Stdout.write_all(rt, text.as_bytes())?;
+    Ok(next)
 }
 
 // A proved loop has to end, and nothing says that a file does: no file has as many packets as this one has turns.

@@ -1,6 +1,10 @@
--- The laws of a text: a word has room, or it has none; a number is said in one way, by its fewest digits, and these are what `decimal` says. Assumes nothing.
-use Rattle.std.proofs.Common.{◌≡◌, ℕ, zero, suc, ◌+◌, ◌-◌, ◌*◌, ◌/◌, ◌%◌, ◌^◌, ◌<◌, ◌≤◌, Bool, cond, List, [], ◌∷◌, ◌++◌, length, decimal, sym, ap, ◌∙◌, le_antisymm, append_assoc, arith, le-leb, lt-ltb}
-use Rattle.std.proofs.lemmas.Fmt.{decimal_by_steps_wide}
+-- The laws of a text: a word has room, or it has none; what `write!` gave it stands behind it; a number is said in one way, by its fewest digits,
+-- and these are what `decimal` says. Assumes nothing.
+use Rattle.std.proofs.Common.{◌≡◌, ℕ, zero, suc, ◌+◌, ◌-◌, ◌*◌, ◌/◌, ◌%◌, ◌^◌, ◌<◌, ◌≤◌, Bool, cond, List, [], ◌∷◌, ◌++◌, length, decimal, Result, OnOk, sym, ap, ◌∙◌, le_antisymm, append_assoc, arith, le-leb, lt-ltb}
+use Rattle.std.proofs.lemmas.Fmt.{decimal_by_steps_wide, contents_after_writes}
+use Rattle.std.proofs.lemmas.Result.{on_ok_weaker}
+use Rattle.std.specs.Fmt.{WritesInCalls}
+use Rattle.arrayvec.specs.ArrayString.{ArrayString}
 use native.Mathlib.Decide.{dec_le}
 use native.Mathlib.Nat.{pow-le-pow_right}
 use native.Mathlib.Numerals.{unary_clauses}
@@ -16,6 +20,11 @@ module _ (room : ℕ) (t word : List ℕ) where
   pub word_out : room < length t + length word → word_on room t word ≡ t
   unfolding word_on
   word_out h = ap (λ (b : Bool). cond b (with_word t word) t) (lt-leb (length t + length word) room h)
+
+-- a write that has room appends
+pub written : {E : Type 0} (r : Result Unit E) (t : ArrayString) (bs : List ℕ) (u : ArrayString) →
+    OnOk r (WritesInCalls (λ s word v. v.bytes ≡ s.bytes ++ word) t bs u) → OnOk r (u.bytes ≡ t.bytes ++ bs)
+written r t bs u = on_ok_weaker r (contents_after_writes _ (λ s. s.bytes) (λ _ _ _ h. h) t bs u)
 
 -- ---- a number
 

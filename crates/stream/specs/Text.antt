@@ -10,7 +10,7 @@ no_text = []
 abbrev pub with_word : List ℕ → List ℕ → List ℕ
 with_word t word = t ++ word
 
--- a text with a word behind it; one that has no room is left out: a String has room for each word, a buffer of a fixed size for as many as fit
+-- a text with a word behind it; one that has no room is left out
 unfoldable pub word_on : ℕ → List ℕ → List ℕ → List ℕ
 word_on room t word = cond (nat_le (length t + length word) room) (with_word t word) t
 

@@ -9,6 +9,7 @@ mod framing;
 mod parts;
 mod records;
 pub mod status;
+mod text;
 mod window;
 
 pub use arguments::{argument, needed};
@@ -16,4 +17,5 @@ pub use files::{Files, Output, account_to, create, finish, open, open_files};
 pub use framing::{Record, frame, record_at};
 pub use parts::{front, part};
 pub use records::{Next, ending, next_packet};
+pub use text::Text;
 pub use window::{Window, refill};
