@@ -5,6 +5,9 @@ mod account;
 mod show;
 mod units;
 
+ghost use Rattle.std.specs.Prelude.{◌≡◌, IfErr};
+ghost use Rattle.stream.specs.declared.status.Status.TheVariants.{Usage};
+
 use account::{Account, Jump};
 use joiner::{Closed, Joiner};
 use show::Show;
@@ -12,14 +15,21 @@ use std::process::ExitCode;
 use stream::status::Status;
 use stream::{Record, Window, argument, status};
 
-// What the arguments say; an error where they are wrong or a file is not opened.
-fn first(rt: &HostRuntime) -> Result<Show, Status> {
+// The joiner that the arguments behind the files open, if they do; an error where one is wrong, END too.
+fn arguments(rt: &HostRuntime) -> Result<Option<Joiner>, Status>
+    ensures { IfErr result (λ status. status ≡ Usage) }
+{
     let source = argument(rt, 3, 0, 4294967295)?.unwrap_or(0);
     let first = argument(rt, 4, 0, 65535)?;
     argument(rt, 5, 0, 65535)?;
-    let files = stream::open_files(rt)?;
+    Ok(first.map(|number| Joiner::open(source as u32, number as u16)))
+}
+
+// The show before its first packet; an error where an argument is wrong or a file is not opened.
+fn first(rt: &HostRuntime) -> Result<Show, Status> {
+    let (joiner, files) = stream::open_files(rt, arguments(rt))?;
     Ok(Show {
-        joiner: first.map(|number| Joiner::open(source as u32, number as u16)),
+        joiner,
         account: Account::new(),
         from: files.from,
         to: files.to,

@@ -5,7 +5,8 @@ mod access;
 mod frames;
 mod packets;
 
-ghost use Rattle.std.specs.Prelude.{◌≡◌, ◌++◌, OnOk};
+ghost use Rattle.std.specs.Prelude.{◌≡◌, ◌++◌, IfErr, OnOk};
+ghost use Rattle.stream.specs.declared.status.Status.TheVariants.{Usage};
 ghost use Rattle.send.specs.Account.{account_text};
 
 use frames::Frame;
@@ -17,23 +18,45 @@ use std::process::ExitCode;
 use stream::status::Status;
 use stream::{Text, Window, argument, needed, status};
 
-// What the arguments say; an error where they are wrong or a file is not opened.
-fn first(rt: &HostRuntime) -> Result<Sending, Status> {
+// The numbers among the arguments.
+#[derive(Clone, Copy)]
+struct Numbers {
+    mtu: usize,
+    source: u32,
+    first: u16,
+    payload_type: u8,
+    ticks: u32,
+}
+
+fn arguments(rt: &HostRuntime) -> Result<Numbers, Status>
+    ensures { IfErr result (λ status. status ≡ Usage) }
+{
     let mtu = needed(rt, 3, 3, 65523)?;
     let source = needed(rt, 4, 0, 4294967295)?;
     let first = needed(rt, 5, 0, 65535)?;
     let payload_type = needed(rt, 6, 0, 127)?;
     let ticks = argument(rt, 7, 0, 4294967295)?.unwrap_or(3000);
-    let files = stream::open_files(rt)?;
-    Ok(Sending {
+    Ok(Numbers {
         mtu: mtu as usize,
         source: source as u32,
+        first: first as u16,
         payload_type: payload_type as u8,
         ticks: ticks as u32,
+    })
+}
+
+// The sending before its first packet; an error where an argument is wrong or a file is not opened.
+fn first(rt: &HostRuntime) -> Result<Sending, Status> {
+    let (numbers, files) = stream::open_files(rt, arguments(rt))?;
+    Ok(Sending {
+        mtu: numbers.mtu,
+        source: numbers.source,
+        payload_type: numbers.payload_type,
+        ticks: numbers.ticks,
         from: files.from,
         to: files.to,
         sender: H264Payloader::new(),
-        number: first as u16,
+        number: numbers.first,
         time: 0,
         frames: 0,
         packets: 0,

@@ -3,7 +3,7 @@
 // A program writes a new file and replaces none: `./rtp` gives it a name that is free, and the file its own name when all is
 // written.
 ghost use Rattle.std.specs.Prelude.{◌≡◌, IfErr};
-ghost use Rattle.stream.specs.Files.{account_to};
+ghost use Rattle.stream.specs.Files.{account_to, OpenedFor};
 ghost use Rattle.stream.specs.declared.status.Status.TheVariants.{Failed};
 
 use crate::status;
@@ -100,14 +100,17 @@ pub fn create(rt: &HostRuntime, i: usize) -> Result<Output, Status>
     named(rt, i, create_as)
 }
 
-// Opens what the first argument names, and then makes what the second does.
-pub fn open_files(rt: &HostRuntime) -> Result<Files, Status>
-    ensures { IfErr result (λ status. status ≡ Failed) }
+// Opens what the first argument names, and then makes what the second does, where the others are right: these come back beside the files.
+pub fn open_files<A: Copy>(
+    rt: &HostRuntime,
+    others: Result<A, Status>,
+) -> Result<(A, Files), Status>
+    ensures { OpenedFor others result }
 {
-    Ok(Files {
-        from: open(rt, 1)?,
-        to: create(rt, 2)?,
-    })
+    let others = others?;
+    let from = open(rt, 1)?;
+    let to = create(rt, 2)?;
+    Ok((others, Files { from, to }))
 }
 
 // Where the account goes: to standard error where standard output has the data.
