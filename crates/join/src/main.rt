@@ -90,5 +90,5 @@ fn main(rt: HostRuntime) -> ExitCode {
     let mut buf = [0u8; 131072];
     let mut gather = [0u8; 3145728];
     let mut out = [0u8; 3211264];
-    status::tell(run(&rt, &mut buf, &mut gather, &mut out))
+    status::exit(run(&rt, &mut buf, &mut gather, &mut out))
 }

@@ -126,5 +126,5 @@ fn main(rt: HostRuntime) -> ExitCode {
     let mut buf = [0u8; 3145728];
     let mut out = [0u8; 3407872];
     let mut ends = [0usize; 65536];
-    status::tell(run(&rt, &mut buf, &mut out, &mut ends))
+    status::exit(run(&rt, &mut buf, &mut out, &mut ends))
 }

@@ -77,5 +77,5 @@ fn run(rt: &HostRuntime, buf: &mut [u8; 131072]) -> Result<(), Status> {
 
 fn main(rt: HostRuntime) -> ExitCode {
     let mut buf = [0u8; 131072];
-    status::tell(run(&rt, &mut buf))
+    status::exit(run(&rt, &mut buf))
 }

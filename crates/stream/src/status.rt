@@ -34,12 +34,19 @@ pub enum Status {
     Dropped = 10,
 }
 
-pub fn tell(outcome: Result<(), Status>) -> ExitCode
+pub fn tell(status: u8) -> ExitCode
+    ensures { exit_status result ≡ status }
+{
+    ExitCode::from(status)
+}
+
+// How a program ends.
+pub fn exit(outcome: Result<(), Status>) -> ExitCode
     ensures { exit_status result ≡ exit_number outcome }
 {
     match outcome {
-        Ok(()) => ExitCode::SUCCESS,
-        Err(status) => ExitCode::from(status as u8),
+        Ok(()) => tell(0),
+        Err(status) => tell(status as u8),
     }
 }
 
