@@ -74,7 +74,7 @@ module _ {ℓ} {A : Type ℓ} where
       splice_one (splice xs at ys) (at + length ys) v within ∙ splice_on xs at ys (v ∷ []) (omega arith)
 
   -- a turn of a loop that copies ys
-  splice_more : (xs : List A) (at : ℕ) (ys : List A) (j : ℕ) (d : A) → at + length ys ≤ length xs → j < length ys →
+  pub splice_more : (xs : List A) (at : ℕ) (ys : List A) (j : ℕ) (d : A) → at + length ys ≤ length xs → j < length ys →
       set (splice xs at (take j ys)) (at + j) (get_or ys j d) ≡ splice xs at (take (j + 1) ys)
   splice_more xs at ys j d h hj =
       let l : length (take j ys) ≡ j = length-take-le j ys (omega arith) in

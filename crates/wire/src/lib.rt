@@ -41,12 +41,14 @@ pub fn put_u32(s: &mut [u8], at: usize, n: u32)
 }
 
 // Copies all of src to the places of dst from at on.
-#[tactic(auto, using(crate::proofs::Part::put_whole))]
+// Stays: a loop, which the compiler turns into vectors in place: `copy_from_slice` is a call of `memmove`, dear for a few bytes.
 pub fn copy_at(src: &[u8], dst: &mut [u8], at: usize)
     requires { at + length src.now ≤ length dst.old }
     ensures { dst.new ≡ splice dst.old at src.now }
 {
-    dst[at..at + src.len()].copy_from_slice(src);
+    for (i, b) in src.iter().enumerate() {
+        dst[at + i] = *b;
+    }
 }
 
 // Sets the len places of dst from at on to b.
