@@ -51,12 +51,12 @@ pub fn find(id: u8, count: usize, ids: &[u8; 32], lens: &[u16; 32]) -> Option<Ru
 
 impl Extensions {
     // The run's elements of `old`, behind those of `self` with their `used` data bytes.
-    fn keep(mut self, used: usize, old: Extensions, run: Run) -> Self
+    fn keep(mut self, used: usize, old: &Extensions, run: Run) -> Self
         requires count_bound { self.count + run.count ≤ 32 }
         requires len_bound { used + run.len ≤ 1024 }
         requires count_bound_2 { run.first + run.count ≤ 32 }
         requires len_bound_2 { run.at + run.len ≤ 1024 }
-        ensures { result ≡ kept self used old run }
+        ensures { result ≡ kept self used old.now run }
     {
         let count = self.count;
         let end = count + run.count;
@@ -68,9 +68,9 @@ impl Extensions {
     }
 
     // The elements in front of the run alone.
-    fn front(self, run: Run) -> Self
-        requires { Holds self run }
-        ensures { result ≡ lay_elements (take run.first (elements_of self)) }
+    fn front(&self, run: Run) -> Self
+        requires { Holds self.now run }
+        ensures { result ≡ lay_elements (take run.first (elements_of self.now)) }
     {
         let before = Run {
             first: 0,
@@ -84,9 +84,9 @@ impl Extensions {
 
 // No element, at the list's end.
 // Stays: functions and no methods, since `header` lends the record on, and no public call asks for room.
-pub fn end(list: Extensions) -> Run
-    requires count_bound { list.count ≤ 32 }
-    ensures { result ≡ end list }
+pub fn end(list: &Extensions) -> Run
+    requires count_bound { list.now.count ≤ 32 }
+    ensures { result ≡ end list.now }
 {
     Run {
         first: list.count,
@@ -97,11 +97,11 @@ pub fn end(list: Extensions) -> Run
 }
 
 // One element of `id` with the data in the place of the run.
-pub fn replaced(list: Extensions, run: Run, id: u8, data: &[u8]) -> Extensions
-    requires holds { Holds list run }
-    requires count_bound { list.count - run.count < 32 }
-    requires data_bound { sum (take list.count list.lens) - run.len + length «data».now ≤ 1024 }
-    ensures { result ≡ lay_elements (replaced_at run (element id «data».now ∷ []) (elements_of list)) }
+pub fn replaced(list: &Extensions, run: Run, id: u8, data: &[u8]) -> Extensions
+    requires holds { Holds list.now run }
+    requires count_bound { list.now.count - run.count < 32 }
+    requires data_bound { sum (take list.now.count list.now.lens) - run.len + length «data».now ≤ 1024 }
+    ensures { result ≡ lay_elements (replaced_at run (element id «data».now ∷ []) (elements_of list.now)) }
 {
     let behind = run.behind(list.count, total(list.count, &list.lens));
     let put = push(list.front(run), run.at, id, data);
@@ -109,9 +109,9 @@ pub fn replaced(list: Extensions, run: Run, id: u8, data: &[u8]) -> Extensions
 }
 
 // Nothing in the place of the run.
-pub fn without(list: Extensions, run: Run) -> Extensions
-    requires { Holds list run }
-    ensures { result ≡ lay_elements (replaced_at run [] (elements_of list)) }
+pub fn without(list: &Extensions, run: Run) -> Extensions
+    requires { Holds list.now run }
+    ensures { result ≡ lay_elements (replaced_at run [] (elements_of list.now)) }
 {
     let behind = run.behind(list.count, total(list.count, &list.lens));
     list.front(run).keep(run.at, list, behind)

@@ -66,7 +66,7 @@ impl Header {
             change: Ok(()),
             header: self.extended(
                 profile,
-                replaced(self.extensions, run, id, payload),
+                replaced(&self.extensions, run, id, payload),
                 padding,
             ),
         }
@@ -96,7 +96,7 @@ impl Header {
             None => {
                 let size = payload.len() + form.per_element();
                 let padding = grow(self.extensions_padding, size);
-                self.put(end(self.extensions), profile, padding, id, payload)
+                self.put(end(&self.extensions), profile, padding, id, payload)
             }
         }
     }
@@ -109,7 +109,7 @@ impl Header {
         let len = payload.len();
         let profile = first_profile(self.extension_profile, len);
         let padding = grow(self.extensions_padding, len + first_head(len));
-        self.put(end(self.extensions), profile, padding, id, payload)
+        self.put(end(&self.extensions), profile, padding, id, payload)
     }
 
     pub fn set_extension(self, id: u8, payload: &[u8]) -> Changed
@@ -158,7 +158,7 @@ impl Header {
         let padding = (self.extensions_padding + gone) % 4;
         Changed {
             change: Ok(()),
-            header: self.extended(profile, without(self.extensions, run), padding),
+            header: self.extended(profile, without(&self.extensions, run), padding),
         }
     }
 }

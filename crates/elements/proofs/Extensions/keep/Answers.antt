@@ -17,11 +17,11 @@ unfolding kept
 returns c =
     let a = c.args in
     let within : (xs : List ℕ) → length xs ≡ 32 → a.run.first + a.run.count ≤ length xs = λ xs e. omega (arith, c.requires) in
-    let inside : a.run.at + a.run.len ≤ length a.old.bytes = search rules in
+    let inside : a.run.at + a.run.len ≤ length a.old.now.bytes = search rules in
     λ i.
     record {
       count = a.self.count + a.run.count;
-      ids = copied a.self.ids a.old.ids _ a.self.count a.run.first a.run.count c.copy_from_slice.ensures.after (within a.old.ids (search rules)) i;
-      lens = copied a.self.lens a.old.lens _ a.self.count a.run.first a.run.count c.copy_from_slice-2.ensures.after (within a.old.lens (search rules)) i;
-      bytes = copied a.self.bytes a.old.bytes _ a.used a.run.at a.run.len c.copy_from_slice-3.ensures.after inside i;
+      ids = copied a.self.ids a.old.now.ids _ a.self.count a.run.first a.run.count c.copy_from_slice.ensures.after (within a.old.now.ids (search rules)) i;
+      lens = copied a.self.lens a.old.now.lens _ a.self.count a.run.first a.run.count c.copy_from_slice-2.ensures.after (within a.old.now.lens (search rules)) i;
+      bytes = copied a.self.bytes a.old.now.bytes _ a.used a.run.at a.run.len c.copy_from_slice-3.ensures.after inside i;
     }

@@ -14,19 +14,19 @@ use Rattle.elements.proofs.Runs.{packed_by, bounded, front_many, put_laid, with_
 use Rattle.elements.proofs.change.replaced.Goals as goal
 use Rattle.elements.proofs.change.replaced.Goals.{Start}
 
-packed_self : (c : Start) → PackedIn c.args.list
-packed_self c = packed_by c.args.list c.args.run (search rules) (search rules) (search rules) c.requires.holds
+packed_self : (c : Start) → PackedIn c.args.list.now
+packed_self c = packed_by c.args.list.now c.args.run (search rules) (search rules) (search rules) c.requires.holds
 
 pub behind-behind-requires : goal.behind-behind-requires
 behind-behind-requires c =
-    let x = c.args.list in
+    let x = c.args.list.now in
     let r = c.args.run in
     omega (arith, bounded x (packed_self (goal.at.behind-behind-requires c).Start) r c.requires.holds, c.total.ensures)
 
 pub push-put-requires : goal.push-put-requires
 unfolding lay_elements
 push-put-requires c =
-    let x = c.args.list in
+    let x = c.args.list.now in
     let r = c.args.run in
     let count : c.front.result.count ≡ r.first =
     ap (λ (y : Extensions). y.count) c.front.ensures ∙ front_many x (packed_self (goal.at.push-put-requires c).Start) r c.requires.holds in
@@ -34,14 +34,14 @@ push-put-requires c =
 
 pub overflow_add-run : goal.overflow_add-run
 overflow_add-run c =
-    let x = c.args.list in
+    let x = c.args.list.now in
     let r = c.args.run in
     omega (arith, bounded x (packed_self (goal.at.overflow_add-run c).Start) r c.requires.holds, c.requires.count_bound)
 
 pub keep-requires : goal.keep-requires
 unfolding lay_elements pushed
 keep-requires c =
-    let x = c.args.list in
+    let x = c.args.list.now in
     let r = c.args.run in
     let count : c.push-put.result.count ≡ r.first + 1 =
     ap (λ (y : Extensions). y.count) c.push-put.ensures
@@ -52,7 +52,7 @@ keep-requires c =
 
 pub returns : goal.returns
 returns c =
-    let x = c.args.list in
+    let x = c.args.list.now in
     let r = c.args.run in
     let id = c.args.id in
     let bytes = c.args.«data».now in

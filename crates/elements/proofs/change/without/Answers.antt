@@ -12,19 +12,19 @@ use Rattle.elements.proofs.Runs.{packed_by, bounded, front_many, without_laid}
 use Rattle.elements.proofs.change.without.Goals as goal
 use Rattle.elements.proofs.change.without.Goals.{Start}
 
-packed_self : (c : Start) → PackedIn c.args.list
-packed_self c = packed_by c.args.list c.args.run (search rules) (search rules) (search rules) c.requires
+packed_self : (c : Start) → PackedIn c.args.list.now
+packed_self c = packed_by c.args.list.now c.args.run (search rules) (search rules) (search rules) c.requires
 
 pub behind-behind-requires : goal.behind-behind-requires
 behind-behind-requires c =
-    let x = c.args.list in
+    let x = c.args.list.now in
     let r = c.args.run in
     omega (arith, bounded x (packed_self (goal.at.behind-behind-requires c).Start) r c.requires, c.total.ensures)
 
 pub keep-requires : goal.keep-requires
 unfolding lay_elements
 keep-requires c =
-    let x = c.args.list in
+    let x = c.args.list.now in
     let r = c.args.run in
     let count : c.front.result.count ≡ r.first =
     ap (λ (y : Extensions). y.count) c.front.ensures ∙ front_many x (packed_self (goal.at.keep-requires c).Start) r c.requires in
@@ -33,7 +33,7 @@ keep-requires c =
 
 pub returns : goal.returns
 returns c =
-    let x = c.args.list in
+    let x = c.args.list.now in
     let r = c.args.run in
     let last : c.behind-behind.result ≡ behind r x.count (sum (take x.count x.lens)) =
     c.behind-behind.ensures ∙ ap (behind r x.count) c.total.ensures in
