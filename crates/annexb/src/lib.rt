@@ -23,14 +23,15 @@ pub struct Code {
     pub len: usize,
 }
 
-// Whether the sixteen bytes from i on are all from LOW to HIGH. No byte ends the loop early: so all sixteen are compared at once.
+// Whether the sixteen bytes from i on are all from LOW to HIGH: one comparison tells both, since a byte below LOW wraps to behind those above.
+// No byte ends the loop early: so all sixteen are compared at once.
 fn sixteen_from_to<const LOW: u8, const HIGH: u8>(frame: &[u8], i: usize) -> bool
-    requires { i + 16 ≤ length frame.now }
+    requires { (LOW ≤ HIGH) × (i + 16 ≤ length frame.now) }
     ensures { result ≡ true → Run (FromTo LOW HIGH) frame.now i (i + 16) }
 {
     let mut all = true;
     for b in &frame[i..i + 16] {
-        all &= LOW <= *b && *b <= HIGH;
+        all &= b.wrapping_sub(LOW) <= HIGH - LOW;
     }
     all
 }
@@ -38,7 +39,7 @@ fn sixteen_from_to<const LOW: u8, const HIGH: u8>(frame: &[u8], i: usize) -> boo
 // Behind bytes from start on that are from LOW to HIGH, sixteen at a time. The step is behind a branch, so that no turn waits for the one before.
 // Stays: a loop, since its step stands behind a branch, so that no turn waits for the one before.
 fn past<const LOW: u8, const HIGH: u8>(frame: &[u8], start: usize) -> usize
-    requires { start ≤ length frame.now }
+    requires { (LOW ≤ HIGH) × (start ≤ length frame.now) }
     ensures { Run (FromTo LOW HIGH) frame.now start result }
 {
     let mut i = start;
