@@ -31,6 +31,12 @@ two_byte_item [] = past
 two_byte_item (b ∷ []) = cond (eqb b 0) pad past
 two_byte_item (b ∷ len ∷ rest) = cond (eqb b 0) pad (within 2 b len rest)
 
+-- a form whose elements have a byte each for id and length
+abbrev pub is_two : Form → Bool
+is_two one_byte = false
+is_two two_byte = true
+is_two other = false
+
 -- the elements of one of the two profiles
 abbrev pub items_by : Bool → List ℕ → Item
 items_by false = one_byte_item

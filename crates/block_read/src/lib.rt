@@ -5,7 +5,7 @@
 
 ghost use Rattle.std.specs.Prelude.{◌≡◌, Bool, true, false, [], ◌+◌, ◌<◌, ◌≤◌, length, drop};
 ghost use Rattle.error.specs.Said.{said};
-ghost use Rattle.block_read.specs.Read.{items_by, items, read_block, block_at};
+ghost use Rattle.block_read.specs.Read.{is_two, items_by, items, read_block, block_at};
 ghost use Rattle.block_read.specs.Said.{item_of, block_seen, Answers, elements_read, Laid};
 
 use block::{EXTENSION_ID_RESERVED, Form};
@@ -99,11 +99,22 @@ impl Layout for TwoByte {
     }
 }
 
+// What stands at a place of the packet, by the block's form. A block of another profile is one element, and nobody goes through it.
+fn next_at(packet: &[u8], at: usize, form: Form) -> Next
+    requires { at < length packet.now }
+    ensures { item_of result ≡ items_by (is_two form) (drop at packet.now) }
+{
+    match form {
+        Form::TwoByte => TwoByte::next(packet, at),
+        Form::OneByte | Form::Other => OneByte::next(packet, at),
+    }
+}
+
 // The elements of a block of `len` bytes. An element may run past the block: `at` then lies behind its end.
 // Stays: a loop over where the block lies in the packet, and not over its bytes: each element says where the next one begins, and one may run past the end.
-fn see_items<L: Layout>(packet: &[u8], start: usize, len: usize) -> Result<Seen, Error>
+fn see_items(packet: &[u8], start: usize, len: usize, form: Form) -> Result<Seen, Error>
     requires { start + len ≤ length packet.now }
-    ensures { said result ≡ block_seen (length packet.now) (items (items_by L.two) (block_at packet.now start len)) }
+    ensures { said result ≡ block_seen (length packet.now) (items (items_by (is_two form)) (block_at packet.now start len)) }
 {
     let end = start + len;
     let mut at = start;
@@ -111,7 +122,7 @@ fn see_items<L: Layout>(packet: &[u8], start: usize, len: usize) -> Result<Seen,
     let mut used = 0;
     let mut padding = 0;
     while at < end {
-        match L::next(packet, at) {
+        match next_at(packet, at, form) {
             Next::Pad => {
                 at += 1;
                 padding += 1;
@@ -151,8 +162,7 @@ pub fn see_block(packet: &[u8], start: usize, len: usize, form: Form) -> Result<
     ensures { said result ≡ block_seen (length packet.now) (read_block form (block_at packet.now start len)) }
 {
     match form {
-        Form::OneByte => see_items::<OneByte>(packet, start, len),
-        Form::TwoByte => see_items::<TwoByte>(packet, start, len),
+        Form::OneByte | Form::TwoByte => see_items(packet, start, len, form),
         Form::Other => {
             if 1024 < len {
                 return Err(Error::OverLimits);
@@ -168,25 +178,26 @@ pub fn see_block(packet: &[u8], start: usize, len: usize, form: Form) -> Result<
 
 // The elements of a block that was seen, into the arrays of a record, which are zeros before.
 // Stays: a loop, as in `see_items`; and arrays that C lends each by itself, so in all that fills them.
-fn fill_items<L: Layout>(
+fn fill_items(
     packet: &[u8],
     start: usize,
     len: usize,
+    form: Form,
     ids: &mut [u8; 32],
     lens: &mut [u16; 32],
     bytes: &mut [u8; 1024],
 )
     requires len_in_bounds { start + len ≤ length packet.now }
-    requires answers { Answers (items (items_by L.two) (block_at packet.now start len)) }
+    requires answers { Answers (items (items_by (is_two form)) (block_at packet.now start len)) }
     requires laid { Laid [] ids.old lens.old bytes.old }
-    ensures { Laid (elements_read (items (items_by L.two) (block_at packet.now start len))) ids.new lens.new bytes.new }
+    ensures { Laid (elements_read (items (items_by (is_two form)) (block_at packet.now start len))) ids.new lens.new bytes.new }
 {
     let end = start + len;
     let mut at = start;
     let mut count = 0;
     let mut used = 0;
     while at < end {
-        match L::next(packet, at) {
+        match next_at(packet, at, form) {
             Next::Pad => at += 1,
             Next::Stop | Next::Past => return,
             Next::Element { head, id, len: n } => {
@@ -217,8 +228,7 @@ pub fn fill_block(
     ensures { Laid (elements_read (read_block form (block_at packet.now start len))) ids.new lens.new bytes.new }
 {
     match form {
-        Form::OneByte => fill_items::<OneByte>(packet, start, len, ids, lens, bytes),
-        Form::TwoByte => fill_items::<TwoByte>(packet, start, len, ids, lens, bytes),
+        Form::OneByte | Form::TwoByte => fill_items(packet, start, len, form, ids, lens, bytes),
         Form::Other => {
             ids[0] = 0;
             lens[0] = len as u16;

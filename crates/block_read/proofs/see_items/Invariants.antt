@@ -1,11 +1,11 @@
 -- What is still to be read leads to what the definition says of the whole block (`Seeing`): each way through a turn is one law.
 use Prim.Native.Nat.{◌-◌}
-use Rattle.block_read.specs.Read.{items_by, items, block_at}
+use Rattle.block_read.specs.Read.{is_two, items_by, items, block_at}
 use Rattle.block_read.proofs.Reading.{Seeing}
 use Rattle.block_read.proofs.see_items.Given as goal
 
 abbrev pub invariant-loop-at : goal.invariant-loop-at
-invariant-loop-at g l = let two = g.L.Layout.two in Seeing l.packet two l.end (items (items_by two) (block_at l.packet l.start l.len)) l.at l.count l.used l.padding
+invariant-loop-at l = let two = is_two l.form in Seeing l.packet two l.end (items (items_by two) (block_at l.packet l.start l.len)) l.at l.count l.used l.padding
 
 abbrev pub decreases-loop-at : goal.decreases-loop-at
-decreases-loop-at g l = l.end - l.at
+decreases-loop-at l = l.end - l.at
