@@ -24,16 +24,17 @@ fn fits(form: Form, id: u8, len: u16) -> bool
 
 // How many data bytes the first `count` elements have, where all of them can be written.
 // Stays: the arrays by themselves, since `Parts`, which lends them, is header_write's, which uses this crate; so in all of this file.
+// Stays: one of them by its index, since `zip` has an arm for a second one that ends first, and both have `count`; so in `put_elements`.
 pub fn weigh(form: Form, count: usize, ids: &[u8; 32], lens: &[u16; 32]) -> Option<usize>
     requires { count ≤ 32 }
     ensures { result ≡ weight form (take count ids.now) (take count lens.now) }
 {
     let mut bytes = 0;
-    for (id, len) in ids[..count].iter().zip(&lens[..count]) {
-        if !fits(form, *id, *len) {
+    for (i, id) in ids[..count].iter().enumerate() {
+        if !fits(form, *id, lens[i]) {
             return None;
         }
-        bytes += usize::from(*len);
+        bytes += usize::from(lens[i]);
     }
     Some(bytes)
 }
@@ -91,8 +92,8 @@ fn put_elements<'a>(
 {
     let mut at = start;
     let mut used = 0;
-    for (id, len) in ids[..count].iter().zip(&lens[..count]) {
-        let end = used + usize::from(*len);
+    for (i, id) in ids[..count].iter().enumerate() {
+        let end = used + usize::from(lens[i]);
         at = put_element(buf, at, form, *id, &bytes[used..end]);
         used = end;
     }

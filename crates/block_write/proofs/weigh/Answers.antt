@@ -1,43 +1,67 @@
-use Rattle.std.proofs.Common.{arith, ◌≡◌, ◌⊎◌, inl, inr, Bool, true, false, cond, ◌&&◌, List, [], ◌∷◌, ℕ, length, take, refl, sym, ap, ap₂, ◌∙◌}
+use Rattle.std.proofs.Common.{arith, ◌≡◌, Bool, cond, ◌&&◌, List, ℕ, ◌+◌, ◌<◌, ◌≤◌, length, take, drop, get_or, sym, ap, ap₂, ◌∙◌}
+use lib.ListN.{drop_of_length-le}
+use lib.Seq.{length-take-le}
 use Rattle.std.specs.Prelude.{Some, None}
-use Rattle.std.proofs.lemmas.Slice.Zip.{either_empty_from_Zip}
+use Rattle.wire.proofs.Part.{drop_front}
 use Rattle.elements.specs.Elements.{sum}
 use Rattle.block.specs.declared.Form.{Form}
 use Rattle.block_write.specs.Write.{fits, all_fit, weight}
+use Rattle.block_write.proofs.Front.{front}
 use Rattle.block_write.proofs.weigh.Goals as goal
 
--- one pair of the rest decides, and its length is counted, before those behind it
-step : (form : Form) (ids lens : List ℕ) (id len : ℕ) (ids' lens' : List ℕ) → ids ≡ id ∷ ids' → lens ≡ len ∷ lens' →
-    all_fit form ids lens ≡ (fits form id len && all_fit form ids' lens')
-step form ids lens id len ids' lens' e f = ap₂ (all_fit form) e f
-
--- nothing is left
-ended : (form : Form) (ids lens : List ℕ) → length ids ≡ length lens → (ids ≡ []) ⊎ (lens ≡ []) → (all_fit form ids lens ≡ true) × (sum lens ≡ 0)
-ended form [] [] e h = (refl, refl)
-ended form [] (l ∷ lens) e h = absurd (omega arith)
-ended form (i ∷ ids) [] e h = (refl, refl)
-ended form (i ∷ ids) (l ∷ lens) e (inl p) = absurd (cc)
-ended form (i ∷ ids) (l ∷ lens) e (inr p) = absurd (cc)
+-- a turn decides on the first of the rest
+here : (form : Form) (ids lens : List ℕ) (count i : ℕ) → i < length ids → i < count → count ≤ length lens →
+    all_fit form (drop i ids) (drop i (take count lens))
+    ≡ (fits form (get_or ids i 0) (get_or lens i 0) && all_fit form (drop (i + 1) ids) (drop (i + 1) (take count lens)))
+here form ids lens count i h k p = ap₂ (all_fit form) (drop_front ids i h) (front count lens i k p)
 
 pub returns-then-not-fits : goal.returns-then-not-fits
 unfolding weight
 returns-then-not-fits c =
     let a = c.args in
-    let s = c.in-Some.ensures.steps in
-    let left = c.next.new.self in
-    let e : fits a.form c.in-Some.id.now c.in-Some.len.now ≡ false = sym c.fits.ensures ∙ c.if-not-fits.true in
+    let i = c.loop-i.i in
+    let ids = take a.count a.ids.now in
+    let lens = take a.count a.lens.now in
+    let long : length ids ≡ a.count = length-take-le a.count a.ids.now (omega arith) in
     sym
-    (ap (λ (b : Bool). cond b (Some (sum (take a.count a.lens.now))) None)
-    (c.loop-id.invariant.fits
-    ∙ step a.form _ _ _ _ _ _ s.0 s.1
-    ∙ ap (λ (b : Bool). b && all_fit a.form left.a.rest.now left.b.rest.now) e))
+    (ap (λ (b : Bool). cond b (Some (sum lens)) None)
+    (c.loop-i.invariant.fits
+    ∙ here a.form ids a.lens.now a.count i (omega arith) (omega arith) (omega arith)
+    ∙ ap (λ (b : Bool). b && all_fit a.form (drop (i + 1) ids) (drop (i + 1) lens)) (sym c.fits.ensures ∙ c.if-not-fits.true)))
+
+pub overflow_add-bytes : goal.overflow_add-bytes
+overflow_add-bytes c =
+    let a = c.args in
+    omega (arith, c.loop-i.invariant.small, length-take-le a.count a.ids.now (omega arith), c.from-bytes.ensures, c.fits-lens c.loop-i.i)
+
+pub loop-i-preserved : goal.loop-i-preserved
+loop-i-preserved c =
+    let a = c.args in
+    let h = c.loop-i in
+    let ids = take a.count a.ids.now in
+    let lens = take a.count a.lens.now in
+    let long : length ids ≡ a.count = length-take-le a.count a.ids.now (omega arith) in
+    record {
+      fits =
+          h.invariant.fits
+          ∙ here a.form ids a.lens.now a.count h.i (omega arith) (omega arith) (omega arith)
+          ∙ ap (λ (b : Bool). b && all_fit a.form (drop (h.i + 1) ids) (drop (h.i + 1) lens)) (sym c.fits.ensures ∙ c.if-not-fits.false);
+      left = omega (arith, h.invariant.left, ap sum (front a.count a.lens.now h.i (omega arith) (omega arith)), c.from-bytes.ensures);
+      small = omega (arith, h.invariant.small, c.from-bytes.ensures, c.fits-lens h.i);
+    }
 
 pub returns : goal.returns
 unfolding weight
 returns c =
     let a = c.args in
-    let i = c.loop-id.invariant in
-    let done = ended a.form _ _ i.even (either_empty_from_Zip c.loop-id.id-iterator c.next.new.self c.next.result c.in-None.is c.next.ensures.steps) in
+    let h = c.loop-i in
+    let ids = take a.count a.ids.now in
+    let lens = take a.count a.lens.now in
+    let long : length ids ≡ a.count = length-take-le a.count a.ids.now (omega arith) in
+    let long_lens : length lens ≡ a.count = length-take-le a.count a.lens.now (omega arith) in
+    let none = drop_of_length-le ids {i = h.i} (omega arith) in
+    let zero = ap sum (drop_of_length-le lens {i = h.i} (omega arith)) in
     sym
-    (ap (λ (b : Bool). cond b (Some (sum (take a.count a.lens.now))) None) (i.fits ∙ done.0)
-    ∙ ap (λ (n : ℕ). Some n) (omega (arith, i.left, done.1)))
+    (ap (λ (b : Bool). cond b (Some (sum lens)) None)
+    (h.invariant.fits ∙ ap (λ (l : List ℕ). all_fit a.form l (drop h.i lens)) none)
+    ∙ ap (λ (n : ℕ). Some n) (omega (arith, h.invariant.left, zero)))
