@@ -124,9 +124,8 @@ fn feed_fragment(
         Some(run) if run.time != time => Err(Error::OtherTime),
         Some(run) => {
             let run = Run {
-                gathered: run.gathered,
                 marked: run.marked || marked,
-                time,
+                ..run
             };
             feed_later(run, prefix, last, head, payload, gather, out)
         }
@@ -150,7 +149,7 @@ pub fn feed(
         Kind::Unknown(t) => Err(Error::NaluTypeIsNotHandled(t)),
         Kind::Plain => {
             let bytes = nal::hand_plain(payload, prefix, out)?;
-            Ok(Ran { run: None, bytes })
+            Ok(Ran { run: None, bytes }) // "Plain units and STAP-A drop the run"
         }
         Kind::Aggregate => {
             let bytes = nal_read::hand_stap_a(payload, prefix, out)?;

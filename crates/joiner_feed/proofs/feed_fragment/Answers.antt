@@ -6,6 +6,7 @@ use mathlib.Core.Logic.{◌⊎◌, inl, inr}
 use mathlib.Core.List.{List}
 use Prim.Native.Nat.{ℕ, ◌-◌}
 use lib.ListN.{length, take, drop}
+use borrow.Author.Rules.{rules}
 use Rattle.std.specs.Prelude.{Option, Some, Result, Ok, Err}
 use Rattle.std.proofs.lemmas.Result.{err_from_is_err_and}
 use Rattle.error.specs.declared.Error.{Error}
@@ -32,25 +33,22 @@ laid c run first last =
     lay_does (is_avc a.prefix) a.gather.now a.out.now
     (fed_after (run_of run a.gather.now) a.time (fragmented first last a.head (fragment_in a.payload.now)))
 
--- a start fragment, with what `gather_on` answers
-starts : (c : Start) → c.args.first ≡ true → c.args.last ≡ false → (x : Result ℕ Error) (g' : List ℕ) →
+-- a start fragment opens a run of its own mark and time, with what `gather_on` answers
+starts : (c : Start) → c.args.first ≡ true → c.args.last ≡ false → (x : Result ℕ Error) (g' : List ℕ) (run : Run) →
     let a = c.args in
     let part = take (length a.payload.now - 2) (drop 2 a.payload.now) in
     gather_heard x g' ≡ lay_gather a.gather.now part →
+    run ≡ record { gathered = length part; marked = forbidden a.payload.now; time = a.time } →
     ◌≡◌ {A = Laid (RanOn (Option Run))}
-    (record {
-      answer = with_run (Some (record { gathered = length part; marked = forbidden a.payload.now; time = a.time })) (said x);
-      gather = g';
-      out = a.out.now;
-    })
+    (record { answer = with_run (Some run) (said x); gather = g'; out = a.out.now })
     (laid c a.run a.first a.last)
-starts c e f x g' h =
+starts c e f x g' run h own =
     let a = c.args in
     let g = a.gather.now in
     let p = a.payload.now in
     ongoing_heard recorded (is_avc a.prefix) g a.out.now (gathering (record { marked = forbidden p; time = a.time }) (drop 2 p)) (drop 2 p) _ _ (said x) g' refl
     (h ∙ ap (lay_gather g) (rest_of 2 p))
-    (ap (λ (l : List ℕ). Some (record { gathered = length l; marked = forbidden p; time = a.time })) (rest_of 2 p))
+    (ap (λ (r : Run). Some r) own ∙ ap (λ (l : List ℕ). Some (record { gathered = length l; marked = forbidden p; time = a.time })) (rest_of 2 p))
     ∙ sym (ap₂ (laid c a.run) e f)
 
 -- both bits are not set
@@ -61,10 +59,10 @@ not_last first last e (inr h) = absurd (true≢false (sym e ∙ h))
 pub returns-in_err-bytes : goal.returns-in_err-bytes
 returns-in_err-bytes c =
     let p = err_from_is_err_and c.from_residual.result c.from_residual.ensures.1 in
-    rw (p.1, p.2) (starts (goal.at.returns-in_err-bytes c).Start c.if-first-2.true (not_last _ _ c.if-first-2.true c.else-first.either) (Err _) _ c.in_err-bytes.ensures)
+    rw (p.1, p.2) (starts (goal.at.returns-in_err-bytes c).Start c.if-first-2.true (not_last _ _ c.if-first-2.true c.else-first.either) (Err _) _ _ c.in_err-bytes.ensures refl)
 
 pub returns-then-first-2 : goal.returns-then-first-2
-returns-then-first-2 c = starts (goal.at.returns-then-first-2 c).Start c.if-first-2.true (not_last _ _ c.if-first-2.true c.else-first.either) (Ok _) _ c.in_ok-bytes.ensures
+returns-then-first-2 c = starts (goal.at.returns-then-first-2 c).Start c.if-first-2.true (not_last _ _ c.if-first-2.true c.else-first.either) (Ok _) _ _ c.in_ok-bytes.ensures (search rules)
 
 pub returns-in-None : goal.returns-in-None
 returns-in-None c =
