@@ -110,7 +110,7 @@ impl Joiner {
         let d = sequence::distance(arrival.number, self.awaited);
         if 32768 <= d {
             return Ok(Moved {
-                joiner: self,
+                joiner: self, // "Late, unchanged"
                 joined: Joined::Late,
             });
         }
