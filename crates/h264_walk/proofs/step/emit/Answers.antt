@@ -1,5 +1,6 @@
 -- One law for each fate: what it leaves, and what became of the unit and of the pair.
 use mathlib.Core.Path.{sym, ap, ap₂, ◌∙◌}
+use borrow.Author.Rules.{rules}
 use Rattle.h264_put.specs.declared.fate.Fate.TheVariants.{Empty, Dropped, Sps, Pps, Coded}
 use Rattle.h264_put.specs.declared.outcome.UnitOutcome.{UnitOutcome}
 use Rattle.h264_put.specs.declared.outcome.PairOutcome.{PairOutcome}
@@ -38,7 +39,7 @@ pub returns-in-Sps : goal.returns-in-Sps
 returns-in-Sps c =
     let e = sym c.fate_of.ensures ∙ c.in-Sps.is in
     let left = c.unsent-in-Sps in record {
-      done = done_sps c.requires left.result.waiting _ (ap (sink_at c.args.out.now c.args.ends.now) left.ensures.1) e _ c.unit-sps.ensures left.ensures.0;
+      done = done_sps c.requires left.result.waiting _ (ap (sink_at c.args.out.now c.args.ends.now) left.ensures.1) e _ c.unit-sps.ensures (left.ensures.0 ∙ (search rules));
       outcome_value = told_by c.requires Sps e left.result.outcome left.ensures.2;
     }
 
