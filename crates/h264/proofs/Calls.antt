@@ -178,6 +178,9 @@ module _ (n k mtu : ℕ) (frame : List ℕ) (inside : outside_by n k mtu frame �
   pub inside_pps : k ≤ 1024
   inside_pps = ltb-false 1024 k (or_false_left (ltb 1024 k) _ past_sps)
 
+  pub inside_mtu : mtu ≤ 65535
+  inside_mtu = ltb-false 65535 mtu (or_false_left (ltb 65535 mtu) _ past_pps)
+
   pub inside_frame : length frame ≤ 16777216
   inside_frame = ltb-false 16777216 (length frame) (or_false_right (ltb 65535 mtu) (ltb 16777216 (length frame)) past_pps)
 
