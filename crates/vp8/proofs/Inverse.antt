@@ -1,9 +1,11 @@
 -- No two answers say the same: what each answer says has an inverse, which goes through the refusals' own. Assumes nothing.
 use mathlib.Core.Path.{◌≡◌, ap}
+use mathlib.Core.Bool.{Bool}
 use mathlib.Core.List.{List}
 use Prim.Native.Nat.{ℕ}
 use Rattle.std.specs.Prelude.{Result}
 use Rattle.error.specs.declared.Error.{Error}
+use Rattle.error.specs.Said.{Said}
 use Rattle.error.proofs.Inverse.{unsaid, unsaid_said}
 use Rattle.vp8_read.specs.declared.Vp8Depacketized.{Vp8Depacketized}
 use Rattle.vp8_send.specs.declared.Vp8Sent.{Vp8Sent}
@@ -18,6 +20,9 @@ depacketized_of r = record { packet = r.packet; read = unsaid r.said }
 
 pub depacketized_of_reading : (a : Vp8Depacketized) → depacketized_of (reading a) ≡ a
 depacketized_of_reading a = ap (λ (r : Result ℕ Error). record { packet = a.packet; read = r }) (unsaid_said a.read)
+
+abbrev pub head_of : Said Bool → Result Bool Error
+head_of = unsaid
 
 -- the result beside both buffers as they are left
 abbrev pub Left : Type 0
