@@ -34,14 +34,14 @@ fn add(figure: &mut usize, n: usize) {
 }
 
 impl Account {
-    fn check(&mut self, right: bool) {
+    pub fn check(&mut self, right: bool) {
         add(&mut self.unlike, usize::from(!right));
     }
 
     // What is sent by the paper's sentences, to which the sender's packets and its counts of what was dropped are held.
-    pub fn sent(&mut self, groups: &Groups, sent: &Sent) {
+    pub fn sent(&mut self, groups: &Groups<'_>, sent: &Sent) {
         add(&mut self.sent, groups.packets);
-        add(&mut self.groups, groups.groups.len());
+        add(&mut self.groups, groups.len());
         add(&mut self.pairs, groups.pairs);
         add(&mut self.pairs_dropped, groups.pairs_dropped);
         self.check(groups.packets == sent.packets.len());

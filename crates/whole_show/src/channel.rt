@@ -1,7 +1,7 @@
 // What arrives, by a seed.
 use crate::random::number;
-use crate::send::Packets;
 use crate::show::Show;
+use crate::strings::Strings;
 
 // What arrives at a turn.
 #[derive(Clone, Copy)]
@@ -18,12 +18,9 @@ pub enum Arrival {
 
 impl Arrival {
     // Its bytes: of the sender's packets only those that there are.
-    pub fn packet<'a>(self, packets: &'a Packets) -> Option<&'a [u8]> {
+    pub fn packet<'a>(self, packets: &'a Strings) -> Option<&'a [u8]> {
         match self {
-            Arrival::Own(i) => match packets.get(i) {
-                Some(packet) => Some(packet.as_slice()),
-                None => None,
-            },
+            Arrival::Own(i) => packets.get(i),
             Arrival::Foreign => Some(
                 b"\x80\x60\x00\x00\x00\x00\x00\x00\x24\x68\xAC\xE1\x65\x01\xFF",
             ),
@@ -45,7 +42,7 @@ fn other(n: usize) -> Arrival {
 }
 
 // How many turns there are: four for each packet, and more in which late ones still come.
-pub fn turns(show: &Show, packets: &Packets) -> usize {
+pub fn turns(show: &Show, packets: &Strings) -> usize {
     packets
         .len()
         .wrapping_add(usize::from(show.units()) + 5)

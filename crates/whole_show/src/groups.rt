@@ -1,21 +1,23 @@
 // The groups that are to be sent for units, by the paper's sentences and from the units alone: "A group is one STAP-A, one plain
 // unit, or all fragments of one unit (handed out with its top bit clear)."
 use crate::show::Show;
+use crate::strings::{Full, STRINGS, Strings};
 use crate::units::PREFIX;
-use std::alloc::{AllocError, Global};
 
-#[derive(Drop)]
-pub struct Group {
-    // how many packets are before its first, and up to its last
-    pub first: usize,
-    pub end: usize,
-    // what is handed out for it: its units, each behind its prefix
-    pub bytes: Vec<u8>,
+#[derive(Clone, Copy)]
+struct Group {
+    // how many packets are before its first
+    first: usize,
+    // how many groups are before it
+    number: usize,
 }
 
 #[derive(Drop)]
 pub struct Groups<'a> {
-    pub groups: Vec<Group>,
+    // by its last packet
+    groups: [Option<Group>; STRINGS],
+    // what is handed out for each: its units, each behind its prefix
+    bytes: Strings,
     // how many of them are pairs of parameter sets
     pub pairs: usize,
     // how many packets they are
@@ -42,26 +44,56 @@ fn packets_of(len: usize, mtu: usize) -> Option<usize> {
 }
 
 impl<'a> Groups<'a> {
-    // One group more, of so many packets.
-    fn group(&mut self, packets: usize, bytes: Vec<u8>) -> Result<(), AllocError> {
+    pub fn new() -> Groups<'a> {
+        Groups {
+            groups: [None; STRINGS],
+            bytes: Strings::new(),
+            pairs: 0,
+            packets: 0,
+            sps: None,
+            pps: None,
+            units_dropped: 0,
+            pairs_dropped: 0,
+        }
+    }
+
+    // How many there are.
+    pub fn len(&self) -> usize {
+        self.bytes.len()
+    }
+
+    // What is handed out with a packet where all from another on were accepted: a group of these, if it is the group's last.
+    pub fn handed_out(&self, unbroken: usize, last: usize) -> Option<&[u8]> {
+        match self.groups.get(last) {
+            Some(Some(group)) if unbroken <= group.first => self.bytes.get(group.number),
+            _ => None,
+        }
+    }
+
+    // One group more, of so many packets. What is handed out for it is there already.
+    fn group(&mut self, packets: usize) -> Result<(), Full> {
         let first = self.packets;
+        let number = self.bytes.len();
         let end = first.wrapping_add(packets);
+        if end == 0 || self.groups.len() < end {
+            return Err(Full);
+        }
+        self.groups[end - 1] = Some(Group { first, number });
         self.packets = end;
-        self.groups.push(Group { first, end, bytes })?;
-        Ok(())
+        self.bytes.end()
     }
 
     // "Any other unit, with both saved, is preceded by a STAP-A (0x78) if that fits the mtu; the pair is forgotten either way."
-    fn pair(&mut self, alloc: Global, mtu: usize) -> Result<(), AllocError> {
+    fn pair(&mut self, mtu: usize) -> Result<(), Full> {
         let (Some(sps), Some(pps)) = (self.sps, self.pps) else {
             return Ok(());
         };
         if sps.len().saturating_add(pps.len()).saturating_add(5) <= mtu {
-            let mut bytes = Vec::from_slice(alloc, &PREFIX)?;
-            bytes.extend_from_slice(sps)?;
-            bytes.extend_from_slice(&PREFIX)?;
-            bytes.extend_from_slice(pps)?;
-            self.group(1, bytes)?;
+            self.bytes.extend(&PREFIX)?;
+            self.bytes.extend(sps)?;
+            self.bytes.extend(&PREFIX)?;
+            self.bytes.extend(pps)?;
+            self.group(1)?;
             self.pairs = self.pairs.wrapping_add(1);
         } else {
             self.pairs_dropped = self.pairs_dropped.wrapping_add(1);
@@ -72,25 +104,20 @@ impl<'a> Groups<'a> {
     }
 
     // "A unit that fits goes alone, else as FU-A with at most mtu - 2 bytes each; under mtu 3 it is dropped."
-    fn coded(
-        &mut self,
-        alloc: Global,
-        head: u8,
-        tail: &[u8],
-        mtu: usize,
-    ) -> Result<(), AllocError> {
+    fn coded(&mut self, head: u8, tail: &[u8], mtu: usize) -> Result<(), Full> {
         let Some(packets) = packets_of(tail.len() + 1, mtu) else {
             self.units_dropped = self.units_dropped.wrapping_add(1);
             return Ok(());
         };
-        let mut bytes = Vec::from_slice(alloc, &PREFIX)?;
-        bytes.push(if packets == 1 { head } else { head % 128 })?;
-        bytes.extend_from_slice(tail)?;
-        self.group(packets, bytes)
+        self.bytes.extend(&PREFIX)?;
+        self.bytes
+            .push(if packets == 1 { head } else { head % 128 })?;
+        self.bytes.extend(tail)?;
+        self.group(packets)
     }
 
     // "Empty units and types 9, 12 are dropped; 7, 8 are saved."
-    fn unit(&mut self, alloc: Global, unit: &'a [u8], mtu: usize) -> Result<(), AllocError> {
+    fn unit(&mut self, unit: &'a [u8], mtu: usize) -> Result<(), Full> {
         let Some((&head, tail)) = unit.split_first() else {
             return Ok(());
         };
@@ -106,30 +133,19 @@ impl<'a> Groups<'a> {
                 Ok(())
             }
             _ => {
-                self.pair(alloc, mtu)?;
-                self.coded(alloc, head, tail, mtu)
+                self.pair(mtu)?;
+                self.coded(head, tail, mtu)
             }
         }
     }
 }
 
 // The groups of a show's units.
-pub fn of<'a>(
-    alloc: Global,
-    show: &Show,
-    units: &'a Vec<Vec<u8>>,
-) -> Result<Groups<'a>, AllocError> {
-    let mut groups = Groups {
-        groups: Vec::new(alloc),
-        pairs: 0,
-        packets: 0,
-        sps: None,
-        pps: None,
-        units_dropped: 0,
-        pairs_dropped: 0,
-    };
-    for unit in units {
-        groups.unit(alloc, unit, usize::from(show.mtu))?;
+pub fn of<'a>(show: &Show, units: &'a Strings, groups: &mut Groups<'a>) -> Result<(), Full> {
+    for i in 0..units.len() {
+        if let Some(unit) = units.get(i).and_then(|unit| unit.strip_prefix(&PREFIX)) {
+            groups.unit(unit, usize::from(show.mtu))?;
+        }
     }
-    Ok(groups)
+    Ok(())
 }

@@ -4,35 +4,46 @@
 #![tactic(auto)]
 
 mod account;
+mod buffers;
 mod channel;
 mod groups;
 mod play;
 mod random;
 mod send;
 mod show;
+mod strings;
 mod theorem;
 mod units;
 
 use account::Account;
+use buffers::Buffers;
+use groups::Groups;
+use send::Sent;
 use show::Show;
-use std::alloc::{AllocError, Global};
 use std::io;
+use strings::{Full, Strings};
 
 // One show, added to an account.
-fn run(alloc: Global, seed: usize, account: &mut Account) -> Result<(), AllocError> {
+fn run(seed: usize, buffers: &mut Buffers, account: &mut Account) -> Result<(), Full> {
     let show = Show::of(seed);
-    let units = units::make(alloc, &show)?;
-    let sent = send::send(alloc, &show, &units)?;
-    let groups = groups::of(alloc, &show, &units)?;
+    let mut units = Strings::new();
+    let mut sent = Sent::new();
+    let mut groups = Groups::new();
+    units::make(&show, &mut units)?;
+    send::send(&show, &units, buffers, &mut sent)?;
+    groups::of(&show, &units, &mut groups)?;
     account.sent(&groups, &sent);
-    play::play(alloc, &show, &sent.packets, &groups.groups, account)
+    play::play(&show, &sent.packets, &groups, buffers, account);
+    Ok(())
 }
 
-// Shows from one up to another, as one account.
+// Shows from one up to another, as one account: one for which a list has no room is unlike what is said of it.
 fn shows(rt: &HostRuntime, name: &str, from: usize, to: usize) -> io::Result<()> {
+    let mut buffers = Buffers::new();
     let mut account = Account::default();
     for seed in from..to {
-        run(rt.alloc(), seed, &mut account)?;
+        let played = run(seed, &mut buffers, &mut account);
+        account.check(played.is_ok());
     }
     println!(rt; "{name}{account}")
 }

@@ -1,21 +1,20 @@
 // The packets through the joiner, in the order of arrival, each call held to what the theorem says of it.
 use crate::account::Account;
+use crate::buffers::Buffers;
 use crate::channel;
 use crate::channel::Arrival;
-use crate::groups::Group;
-use crate::send::{Packets, SOURCE};
+use crate::groups::Groups;
+use crate::send::SOURCE;
 use crate::show::Show;
+use crate::strings::Strings;
 use crate::theorem::{Arrived, Taken};
 use error::Error;
 use joiner::{Joined, Joiner};
-use std::alloc::{AllocError, Global};
 
-// The joiner and what it is lent, and what arrived so far.
-#[derive(Drop)]
+// The joiner, and what arrived so far.
+#[derive(Clone, Copy)]
 struct Host {
     joiner: Joiner,
-    gather: Vec<u8>,
-    out: Vec<u8>,
     arrived: Arrived,
 }
 
@@ -40,15 +39,21 @@ impl Host {
         &mut self,
         arrival: Arrival,
         packet: &[u8],
-        groups: &Vec<Group>,
+        groups: &Groups<'_>,
+        buffers: &mut Buffers,
         account: &mut Account,
     ) {
-        let step = joiner::join_by_value(self.joiner, packet, &mut self.gather, &mut self.out);
+        let step = joiner::join_by_value(
+            self.joiner,
+            packet,
+            &mut buffers.gather,
+            &mut buffers.out,
+        );
         self.joiner = step.joiner;
         let (answer, count) = noted(step.answer);
         let said = self.arrived.answer_to(arrival);
         let group = self.arrived.handed_out(arrival, groups);
-        account.call(answer, said, self.out.get(..count), group);
+        account.call(answer, said, buffers.out.get(..count), group);
     }
 
     // "Closing takes the number after the last sent": the missed total, if it closes.
@@ -60,25 +65,22 @@ impl Host {
 
 // A show.
 pub fn play(
-    alloc: Global,
     show: &Show,
-    packets: &Packets,
-    groups: &Vec<Group>,
+    packets: &Strings,
+    groups: &Groups<'_>,
+    buffers: &mut Buffers,
     account: &mut Account,
-) -> Result<(), AllocError> {
+) {
     let mut host = Host {
         joiner: Joiner::open(SOURCE, show.number_of(0)),
-        gather: vec![in alloc; 0; 262144]?,
-        out: vec![in alloc; 0; 262144]?,
         arrived: Arrived::default(),
     };
     for t in 0..channel::turns(show, packets) {
         if let Some(arrival) = channel::at_turn(show, t) {
             if let Some(packet) = arrival.packet(packets) {
-                host.take(arrival, packet, groups, account);
+                host.take(arrival, packet, groups, buffers, account);
             }
         }
     }
     account.closed(host.missed(show.number_of(packets.len())));
-    Ok(())
 }

@@ -1,34 +1,43 @@
 // Units in frames through a fresh sender, and its payloads as packets.
+use crate::buffers::Buffers;
 use crate::show::Show;
+use crate::strings::{Full, Strings};
 use crate::units::PREFIX;
 use h264::H264Payloader;
 use header::Header;
-use std::alloc::{AllocError, Global};
 
 // The sender's source.
 pub const SOURCE: u32 = 0x2468ACE0;
 
-// The sender's packets, in order.
-pub type Packets = Vec<Vec<u8>>;
-
 // What the sender sent.
 #[derive(Drop)]
 pub struct Sent {
-    pub packets: Packets,
+    // in order
+    pub packets: Strings,
     // how many units it said were dropped for the mtu
     pub units_dropped: usize,
     // how many pairs of parameter sets it said were dropped for the mtu
     pub pairs_dropped: usize,
 }
 
+impl Sent {
+    pub fn new() -> Sent {
+        Sent {
+            packets: Strings::new(),
+            units_dropped: 0,
+            pairs_dropped: 0,
+        }
+    }
+}
+
 // A packet: "version 2, no padding, extensions or CSRCs". Where it is refused it has no bytes.
 fn packet(
-    alloc: Global,
     number: u16,
     time: u32,
     marker: bool,
     payload: &[u8],
-) -> Result<Vec<u8>, AllocError> {
+    packets: &mut Strings,
+) -> Result<(), Full> {
     let mut header = Header::default();
     header.version = 2;
     header.marker = marker;
@@ -36,12 +45,12 @@ fn packet(
     header.sequence_number = number;
     header.timestamp = time;
     header.ssrc = SOURCE;
-    let mut bytes = vec![in alloc; 0; payload.len() + 12]?;
-    match packet::marshal_to(header, payload, &mut bytes) {
-        Ok(n) => bytes.truncate(n),
-        Err(_) => bytes.clear(),
+    // No mtu is above 400, and the header takes 12.
+    let mut bytes = [0; 512];
+    if let Ok(n) = packet::marshal_to(header, payload, &mut bytes) {
+        packets.extend(bytes.get(..n).unwrap_or(b""))?;
     }
-    Ok(bytes)
+    packets.end()
 }
 
 // Whether a payload goes on with a unit: it is an FU-A without the start bit.
@@ -50,13 +59,7 @@ fn goes_on(payload: &[u8]) -> bool {
 }
 
 // The payloads of a frame as packets, the marker on the last, the time that of their group's first.
-fn put_all(
-    alloc: Global,
-    show: &Show,
-    out: &[u8],
-    ends: &[usize],
-    packets: &mut Packets,
-) -> Result<(), AllocError> {
+fn put_all(show: &Show, out: &[u8], ends: &[usize], packets: &mut Strings) -> Result<(), Full> {
     let mut first = 0;
     let mut from = 0;
     for (k, end) in ends.iter().enumerate() {
@@ -65,14 +68,13 @@ fn put_all(
         if !goes_on(payload) {
             first = i;
         }
-        let packet = packet(
-            alloc,
+        packet(
             show.number_of(i),
             show.time_of(first),
             k + 1 == ends.len(),
             payload,
+            packets,
         )?;
-        packets.push(packet)?;
         from = *end;
     }
     Ok(())
@@ -80,35 +82,31 @@ fn put_all(
 
 // Frame f: frames have one and three units, in turn. Of its first start code a zero is left out, or all of it now and then where the
 // frame is one unit.
-fn frame(alloc: Global, units: &Vec<Vec<u8>>, f: u16) -> Result<Vec<u8>, AllocError> {
+fn frame(units: &Strings, f: u16) -> &[u8] {
     let f = usize::from(f);
-    let mut frame = Vec::new(alloc);
-    let prefix = PREFIX;
-    let mut start = &prefix[if f % 4 == 0 { 4 } else { f % 2 }..];
-    for unit in units.iter().skip(f / 2 * 4 + f % 2).take(1 + f % 2 * 2) {
-        frame.extend_from_slice(start)?;
-        frame.extend_from_slice(unit)?;
-        start = &prefix;
-    }
-    Ok(frame)
+    let first = f / 2 * 4 + f % 2;
+    let start = if f % 4 == 0 { PREFIX.len() } else { f % 2 };
+    units
+        .span(first, first + 1 + f % 2 * 2)
+        .and_then(|frame| frame.get(start..))
+        .unwrap_or(b"")
 }
 
 // A frame through the sender, and its packets behind those before.
 fn give(
-    alloc: Global,
     sender: H264Payloader,
     show: &Show,
     frame: &[u8],
     out: &mut [u8],
     ends: &mut [usize],
     sent: &mut Sent,
-) -> Result<H264Payloader, AllocError> {
+) -> Result<H264Payloader, Full> {
     let step = sender.payload(usize::from(show.mtu), frame, out, ends);
     let answer = step.answer;
     match answer {
         Ok(written) => {
             let ends = ends.get(..written.packets).unwrap_or(&[]);
-            put_all(alloc, show, out, ends, &mut sent.packets)?;
+            put_all(show, out, ends, &mut sent.packets)?;
             sent.units_dropped = sent.units_dropped.wrapping_add(written.units_dropped);
             sent.pairs_dropped = sent.pairs_dropped.wrapping_add(written.pairs_dropped);
             Ok(step.sender)
@@ -118,18 +116,23 @@ fn give(
 }
 
 // The frames of a show.
-pub fn send(alloc: Global, show: &Show, units: &Vec<Vec<u8>>) -> Result<Sent, AllocError> {
-    let mut out = vec![in alloc; 0; 262144]?;
-    let mut ends = vec![in alloc; 0; 4096]?;
+pub fn send(
+    show: &Show,
+    units: &Strings,
+    buffers: &mut Buffers,
+    sent: &mut Sent,
+) -> Result<(), Full> {
     let mut sender = H264Payloader::new();
-    let mut sent = Sent {
-        packets: Vec::new(alloc),
-        units_dropped: 0,
-        pairs_dropped: 0,
-    };
     for f in 0..show.frames() {
-        let frame = frame(alloc, units, f)?;
-        sender = give(alloc, sender, show, &frame, &mut out, &mut ends, &mut sent)?;
+        let frame = frame(units, f);
+        sender = give(
+            sender,
+            show,
+            frame,
+            &mut buffers.out,
+            &mut buffers.ends,
+            sent,
+        )?;
     }
-    Ok(sent)
+    Ok(())
 }

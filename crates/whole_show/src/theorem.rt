@@ -1,7 +1,7 @@
 // What the theorem says, read off the arrivals alone: "a packet is accepted exactly when its index is above every index that
 // arrived before it".
 use crate::channel::Arrival;
-use crate::groups::Group;
+use crate::groups::Groups;
 use error::Error;
 
 // What became of a packet that is not refused.
@@ -34,26 +34,18 @@ impl Arrived {
     }
 
     // What an arrival has the joiner hand out: a group of which each packet was accepted, when its last is.
-    pub fn handed_out<'a>(&mut self, arrival: Arrival, groups: &'a Vec<Group>) -> &'a [u8] {
+    pub fn handed_out<'a>(&mut self, arrival: Arrival, groups: &'a Groups<'a>) -> &'a [u8] {
         match arrival {
             Arrival::Own(index) if self.above <= index => self.accepted(index, groups),
             _ => b"",
         }
     }
 
-    fn accepted<'a>(&mut self, index: usize, groups: &'a Vec<Group>) -> &'a [u8] {
+    fn accepted<'a>(&mut self, index: usize, groups: &'a Groups<'a>) -> &'a [u8] {
         if self.above < index {
             self.unbroken = index;
         }
-        let above = index.wrapping_add(1);
-        let unbroken = self.unbroken;
-        self.above = above;
-        match groups
-            .iter()
-            .find(|group| group.end == above && unbroken <= group.first)
-        {
-            Some(group) => &group.bytes,
-            None => b"",
-        }
+        self.above = index.wrapping_add(1);
+        groups.handed_out(self.unbroken, index).unwrap_or(b"")
     }
 }

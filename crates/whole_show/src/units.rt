@@ -1,7 +1,7 @@
-// NAL units made by a seed.
+// NAL units made by a seed, each behind its prefix.
 use crate::random::number;
 use crate::show::Show;
-use std::alloc::{AllocError, Global};
+use crate::strings::{Full, Strings};
 
 // "Each unit follows 00 00 00 01": with it what is handed out is compared.
 pub const PREFIX: [u8; 4] = *b"\x00\x00\x00\x01";
@@ -32,39 +32,32 @@ fn len_of(unit_type: usize, mtu: u16, d: usize) -> usize {
 
 // So many bytes from a place on, behind a first one. Never are two zeros in a row, so that there is no start code; the last is no
 // zero, which the start code behind it would take.
-fn filled(
-    alloc: Global,
-    seed: usize,
-    head: u8,
-    place: usize,
-    len: usize,
-) -> Result<Vec<u8>, AllocError> {
-    let mut unit = Vec::new(alloc);
+fn fill(seed: usize, head: u8, place: usize, len: usize, units: &mut Strings) -> Result<(), Full> {
     let mut b = head;
     for i in 0..len {
-        unit.push(b)?;
+        units.push(b)?;
         b = (1 + number(seed, place.wrapping_add(i)) % 255 - (len - i) % 2) as u8;
     }
-    Ok(unit)
+    Ok(())
 }
 
-// A unit by a number drawn. Its first byte has a type of 1 to 23.
-fn unit(alloc: Global, show: &Show, drawn: usize, place: usize) -> Result<Vec<u8>, AllocError> {
+// A unit by a number drawn: where it ends. Its first byte has a type of 1 to 23.
+fn unit(show: &Show, drawn: usize, place: usize, units: &mut Strings) -> Result<usize, Full> {
     let unit_type = 1 + drawn % 23;
     let head = (unit_type + drawn / 23 % 8 * 32) as u8;
     let len = len_of(unit_type, show.mtu, drawn / 184);
-    filled(alloc, show.seed, head, place, len)
+    let body = place.wrapping_add(PREFIX.len());
+    units.extend(&PREFIX)?;
+    fill(show.seed, head, body, len, units)?;
+    units.end()?;
+    Ok(body.wrapping_add(len))
 }
 
 // The units of a show.
-pub fn make(alloc: Global, show: &Show) -> Result<Vec<Vec<u8>>, AllocError> {
-    let mut units = Vec::new(alloc);
+pub fn make(show: &Show, units: &mut Strings) -> Result<(), Full> {
     let mut place = FIRST_PLACE;
     for k in 0..show.units() {
-        place = place.wrapping_add(PREFIX.len());
-        let unit = unit(alloc, show, number(show.seed, usize::from(k)), place)?;
-        place = place.wrapping_add(unit.len());
-        units.push(unit)?;
+        place = unit(show, number(show.seed, usize::from(k)), place, units)?;
     }
-    Ok(units)
+    Ok(())
 }
