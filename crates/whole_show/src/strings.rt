@@ -1,4 +1,6 @@
 // A list of byte strings, one behind another.
+ghost use Rattle.std.specs.Prelude.{◌<◌, ◌≤◌};
+ghost use Rattle.whole_show.specs.declared.strings.TheConstants.{BYTES, STRINGS};
 
 // There is room for every show.
 const BYTES: usize = 131072;
@@ -18,6 +20,8 @@ pub struct Strings {
     ends: [usize; STRINGS],
     // how many strings there are
     len: usize,
+    ghost used_in_room: { used ≤ BYTES },
+    ghost len_in_room: { len < STRINGS },
 }
 
 impl Strings {
@@ -41,13 +45,13 @@ impl Strings {
 
     // All strings from one up to another, if there are such.
     pub fn span(&self, from: usize, to: usize) -> Option<&[u8]> {
-        let ends = self.ends.get(..=self.len)?;
+        let ends = &self.ends[..=self.len];
         self.bytes.get(*ends.get(from)?..*ends.get(to)?)
     }
 
     // A byte more of the string to come.
     pub fn push(&mut self, byte: u8) -> Result<(), Full> {
-        if self.bytes.len() <= self.used {
+        if self.used == self.bytes.len() {
             return Err(Full);
         }
         self.bytes[self.used] = byte;
@@ -58,7 +62,7 @@ impl Strings {
     // Bytes more of the string to come.
     pub fn extend(&mut self, bytes: &[u8]) -> Result<(), Full> {
         let at = self.used;
-        if self.bytes.len() < at || self.bytes.len() - at < bytes.len() {
+        if self.bytes.len() - at < bytes.len() {
             return Err(Full);
         }
         wire::copy_at(bytes, &mut self.bytes, at);
@@ -68,7 +72,7 @@ impl Strings {
 
     // The string to come is whole.
     pub fn end(&mut self) -> Result<(), Full> {
-        if self.ends.len() - 1 <= self.len {
+        if self.len == self.ends.len() - 1 {
             return Err(Full);
         }
         self.len += 1;
