@@ -51,7 +51,7 @@ pub fn find(id: u8, count: usize, ids: &[u8; 32], lens: &[u16; 32]) -> Option<Ru
 
 impl Extensions {
     // The run's elements of `old`, behind those of `self` with their `used` data bytes.
-    fn keep(mut self, used: usize, old: &Extensions, run: Run) -> Self
+    fn keep(self, used: usize, old: &Extensions, run: Run) -> Self
         requires count_bound { self.count + run.count ≤ 32 }
         requires len_bound { used + run.len ≤ 1024 }
         requires count_bound_2 { run.first + run.count ≤ 32 }
@@ -60,11 +60,18 @@ impl Extensions {
     {
         let count = self.count;
         let end = count + run.count;
-        self.ids[count..end].copy_from_slice(&old.ids[run.first..run.first + run.count]);
-        self.lens[count..end].copy_from_slice(&old.lens[run.first..run.first + run.count]);
-        self.bytes[used..used + run.len].copy_from_slice(&old.bytes[run.at..run.at + run.len]);
-        self.count = end;
-        self
+        let mut ids = self.ids;
+        let mut lens = self.lens;
+        let mut bytes = self.bytes;
+        ids[count..end].copy_from_slice(&old.ids[run.first..run.first + run.count]);
+        lens[count..end].copy_from_slice(&old.lens[run.first..run.first + run.count]);
+        bytes[used..used + run.len].copy_from_slice(&old.bytes[run.at..run.at + run.len]);
+        Extensions {
+            count: end,
+            ids,
+            lens,
+            bytes,
+        }
     }
 
     // The elements in front of the run alone.
